@@ -28,7 +28,10 @@ use Rattle.vp_encode.specs.declared.report.EncodeReport.{EncodeReport}
 use Rattle.vp_encode.specs.declared.report.EncodeAllFault.{EncodeAllFault}
 use Rattle.vp_encode.specs.declared.report.EncodeAllFault.TheVariants as encode_fault
 use Rattle.vp_args.specs.declared.check_args.CheckArgs.{CheckArgs}
+use Rattle.vp_args.specs.declared.decode_args.DecodeArgs.{DecodeArgs}
 use Rattle.vp_args.specs.declared.decode_args.DecodeRangeArgs.{DecodeRangeArgs}
+use Rattle.vp_args.specs.declared.file_limits.FileLimits.{FileLimits}
+use Rattle.vp_args.specs.declared.info_args.InfoArgs.{InfoArgs}
 use Rattle.vp_args.specs.declared.encode_args.EncodeArgs.{EncodeArgs}
 use Rattle.vp_args.specs.declared.serve_args.ServeArgs.{ServeArgs}
 use Rattle.vp_app.specs.declared.service.ServiceFault.{ServiceFault}
@@ -44,7 +47,7 @@ use Rattle.vp_app.specs.declared.picture_fault.PictureFault.{PictureFault}
 use Rattle.vp_args.specs.declared.picture_args.PictureArgs.{PictureArgs}
 use Rattle.vp_app.specs.Many.{ServesMany, status_by_many}
 use Rattle.vp_args.specs.Args.{ParsedArgs, checks, decodes, decodes_range, encodes, tells, pictures, serves, serves_many, nothing, parsed_args, faults_of, IsForMemory, IsOfValue, IsTaskFor, IsMistake, IsRefusalFor, HasInvalidValue, AreMistaken, IsFlag}
-use Rattle.vp_app.specs.Commands.{DecodesFile, DecodesInto, DecodesRange, DecodesRangeInto, Does, EncodesFile, EncodesInto, IsFileDecoded, IsFileEncoded, IsFileRangeDecoded, IsUnbegun, IsUnopened, IsUsageFault, SurveysFile, SurveysInput, Over, ServesConnections, Side, PrintsSurvey, Encoding, encoding_of, is_stream, is_y4m, status_by_picture, status_by_range, status_by_report, status_by_service, IsMadeInput, ChecksEach}
+use Rattle.vp_app.specs.Commands.{DecodesFile, DecodesInto, DecodesRange, DecodesRangeInto, Does, EncodesFile, EncodesInto, IsFileDecoded, IsFileEncoded, IsFileRangeDecoded, IsUnbegun, IsUnopened, IsUsageFault, SurveysFile, SurveysInput, Over, ServesConnections, Side, PrintsSurvey, Encoding, encoding_of, is_stream, is_y4m, status_by_picture, status_by_range, status_by_report, status_by_service, IsMadeInput, DoesCheck, DoesDecode, DoesDecodeRange, DoesInfo}
 
 pub over_stream : (name : List ℕ) (Work : Side → Side → Type 0) (old new : Side) → is_stream name ≡ true → Work old new → Over name Work old new
 over_stream name Work old new e h =
@@ -61,66 +64,66 @@ unopened device memory name fault e (inr f) = (e, inr (rw f refl))
 
 -- ---- to decode
 
-pub into_stream : (form : Form) (to : List ℕ) (done : Result Report DecodeFault) (i i' o o' : Side) → is_stream to ≡ true
-    → IsFileDecoded form done i i' o o' → DecodesInto form to done i i' o o'
-into_stream form to done i i' o o' e h = inr (over_stream to (IsFileDecoded form done i i') o o' e h)
+pub into_stream : (most : FileLimits) (form : Form) (to : List ℕ) (done : Result Report DecodeFault) (i i' o o' : Side) → is_stream to ≡ true
+    → IsFileDecoded most form done i i' o o' → DecodesInto most form to done i i' o o'
+into_stream most form to done i i' o o' e h = inr (over_stream to (IsFileDecoded most form done i i') o o' e h)
 
-pub into_file : (form : Form) (to : List ℕ) (done : Result Report DecodeFault) (i i' o a b : Side) → is_stream to ≡ false
-    → IsFileDecoded form done i i' a b → DecodesInto form to done i i' o o
-into_file form to done i i' o a b e h = inr (over_file to (IsFileDecoded form done i i') o a b e h)
+pub into_file : (most : FileLimits) (form : Form) (to : List ℕ) (done : Result Report DecodeFault) (i i' o a b : Side) → is_stream to ≡ false
+    → IsFileDecoded most form done i i' a b → DecodesInto most form to done i i' o o
+into_file most form to done i i' o a b e h = inr (over_file to (IsFileDecoded most form done i i') o a b e h)
 
-pub into_none : (form : Form) (to : List ℕ) (fault : DecodeFault) (i o : Side) → is_stream to ≡ false → (fault ≡ Device) ⊎ (fault ≡ Memory)
-    → DecodesInto form to (Err fault) i i o o
-into_none form to fault i o e f = inl (unopened Device Memory to fault e f, refl, refl)
+pub into_none : (most : FileLimits) (form : Form) (to : List ℕ) (fault : DecodeFault) (i o : Side) → is_stream to ≡ false → (fault ≡ Device) ⊎ (fault ≡ Memory)
+    → DecodesInto most form to (Err fault) i i o o
+into_none most form to fault i o e f = inl (unopened Device Memory to fault e f, refl, refl)
 
-pub from_stream : (form : Form) (from to : List ℕ) (done : Result Report DecodeFault) (i i' o o' : Side) → is_stream from ≡ true
-    → DecodesInto form to done i i' o o' → DecodesFile form from to done i i' o o'
-from_stream form from to done i i' o o' e h = inr (over_stream from (λ a b. DecodesInto form to done a b o o') i i' e h)
+pub from_stream : (most : FileLimits) (form : Form) (from to : List ℕ) (done : Result Report DecodeFault) (i i' o o' : Side) → is_stream from ≡ true
+    → DecodesInto most form to done i i' o o' → DecodesFile most form from to done i i' o o'
+from_stream most form from to done i i' o o' e h = inr (over_stream from (λ a b. DecodesInto most form to done a b o o') i i' e h)
 
-pub from_file : (form : Form) (from to : List ℕ) (done : Result Report DecodeFault) (i a b o o' : Side) → is_stream from ≡ false
-    → DecodesInto form to done a b o o' → DecodesFile form from to done i i o o'
-from_file form from to done i a b o o' e h = inr (over_file from (λ a b. DecodesInto form to done a b o o') i a b e h)
+pub from_file : (most : FileLimits) (form : Form) (from to : List ℕ) (done : Result Report DecodeFault) (i a b o o' : Side) → is_stream from ≡ false
+    → DecodesInto most form to done a b o o' → DecodesFile most form from to done i i o o'
+from_file most form from to done i a b o o' e h = inr (over_file from (λ a b. DecodesInto most form to done a b o o') i a b e h)
 
-pub from_none : (form : Form) (from to : List ℕ) (fault : DecodeFault) (i o : Side) → is_stream from ≡ false → (fault ≡ Device) ⊎ (fault ≡ Memory)
-    → DecodesFile form from to (Err fault) i i o o
-from_none form from to fault i o e f = inl (unopened Device Memory from fault e f, refl, refl)
+pub from_none : (most : FileLimits) (form : Form) (from to : List ℕ) (fault : DecodeFault) (i o : Side) → is_stream from ≡ false → (fault ≡ Device) ⊎ (fault ≡ Memory)
+    → DecodesFile most form from to (Err fault) i i o o
+from_none most form from to fault i o e f = inl (unopened Device Memory from fault e f, refl, refl)
 
 -- ---- to decode a range
 
-pub range_into_stream : (form : Form) (first last : ℕ) (to : List ℕ) (done : Result RangeReport DecodeFault) (i i' o o' : Side) → is_stream to ≡ true
-    → IsFileRangeDecoded form first last done i i' o o' → DecodesRangeInto form first last to done i i' o o'
-range_into_stream form first last to done i i' o o' e h = inr (over_stream to (IsFileRangeDecoded form first last done i i') o o' e h)
+pub range_into_stream : (most : FileLimits) (form : Form) (first last : ℕ) (to : List ℕ) (done : Result RangeReport DecodeFault) (i i' o o' : Side) → is_stream to ≡ true
+    → IsFileRangeDecoded most form first last done i i' o o' → DecodesRangeInto most form first last to done i i' o o'
+range_into_stream most form first last to done i i' o o' e h = inr (over_stream to (IsFileRangeDecoded most form first last done i i') o o' e h)
 
-pub range_into_file : (form : Form) (first last : ℕ) (to : List ℕ) (done : Result RangeReport DecodeFault) (i i' o a b : Side) → is_stream to ≡ false
-    → IsFileRangeDecoded form first last done i i' a b → DecodesRangeInto form first last to done i i' o o
-range_into_file form first last to done i i' o a b e h = inr (over_file to (IsFileRangeDecoded form first last done i i') o a b e h)
+pub range_into_file : (most : FileLimits) (form : Form) (first last : ℕ) (to : List ℕ) (done : Result RangeReport DecodeFault) (i i' o a b : Side) → is_stream to ≡ false
+    → IsFileRangeDecoded most form first last done i i' a b → DecodesRangeInto most form first last to done i i' o o
+range_into_file most form first last to done i i' o a b e h = inr (over_file to (IsFileRangeDecoded most form first last done i i') o a b e h)
 
-pub range_into_none : (form : Form) (first last : ℕ) (to : List ℕ) (fault : DecodeFault) (i o : Side) → is_stream to ≡ false → (fault ≡ Device) ⊎ (fault ≡ Memory)
-    → DecodesRangeInto form first last to (Err fault) i i o o
-range_into_none form first last to fault i o e f = inl (unopened Device Memory to fault e f, refl, refl)
+pub range_into_none : (most : FileLimits) (form : Form) (first last : ℕ) (to : List ℕ) (fault : DecodeFault) (i o : Side) → is_stream to ≡ false → (fault ≡ Device) ⊎ (fault ≡ Memory)
+    → DecodesRangeInto most form first last to (Err fault) i i o o
+range_into_none most form first last to fault i o e f = inl (unopened Device Memory to fault e f, refl, refl)
 
-pub range_stream : (form : Form) (first last : ℕ) (from to : List ℕ) (done : Result RangeReport DecodeFault) (i i' o o' : Side) → is_stream from ≡ true
-    → DecodesRangeInto form first last to done i i' o o' → DecodesRange form first last from to done i i' o o'
-range_stream form first last from to done i i' o o' e h = inr (over_stream from (λ a b. DecodesRangeInto form first last to done a b o o') i i' e h)
+pub range_stream : (most : FileLimits) (form : Form) (first last : ℕ) (from to : List ℕ) (done : Result RangeReport DecodeFault) (i i' o o' : Side) → is_stream from ≡ true
+    → DecodesRangeInto most form first last to done i i' o o' → DecodesRange most form first last from to done i i' o o'
+range_stream most form first last from to done i i' o o' e h = inr (over_stream from (λ a b. DecodesRangeInto most form first last to done a b o o') i i' e h)
 
-pub range_file : (form : Form) (first last : ℕ) (from to : List ℕ) (done : Result RangeReport DecodeFault) (i a b o o' : Side) → is_stream from ≡ false
-    → DecodesRangeInto form first last to done a b o o' → DecodesRange form first last from to done i i o o'
-range_file form first last from to done i a b o o' e h = inr (over_file from (λ a b. DecodesRangeInto form first last to done a b o o') i a b e h)
+pub range_file : (most : FileLimits) (form : Form) (first last : ℕ) (from to : List ℕ) (done : Result RangeReport DecodeFault) (i a b o o' : Side) → is_stream from ≡ false
+    → DecodesRangeInto most form first last to done a b o o' → DecodesRange most form first last from to done i i o o'
+range_file most form first last from to done i a b o o' e h = inr (over_file from (λ a b. DecodesRangeInto most form first last to done a b o o') i a b e h)
 
-pub range_none : (form : Form) (first last : ℕ) (from to : List ℕ) (fault : DecodeFault) (i o : Side) → is_stream from ≡ false → (fault ≡ Device) ⊎ (fault ≡ Memory)
-    → DecodesRange form first last from to (Err fault) i i o o
-range_none form first last from to fault i o e f = inl (unopened Device Memory from fault e f, refl, refl)
+pub range_none : (most : FileLimits) (form : Form) (first last : ℕ) (from to : List ℕ) (fault : DecodeFault) (i o : Side) → is_stream from ≡ false → (fault ≡ Device) ⊎ (fault ≡ Memory)
+    → DecodesRange most form first last from to (Err fault) i i o o
+range_none most form first last from to fault i o e f = inl (unopened Device Memory from fault e f, refl, refl)
 
 -- ---- to look
 
-pub look_stream : (from : List ℕ) (done : Result Survey DecodeFault) (i i' : Side) → is_stream from ≡ true → SurveysInput done i i' → SurveysFile from done i i'
-look_stream from done i i' e h = inr (over_stream from (SurveysInput done) i i' e h)
+pub look_stream : (most : FileLimits) (from : List ℕ) (done : Result Survey DecodeFault) (i i' : Side) → is_stream from ≡ true → SurveysInput most done i i' → SurveysFile most from done i i'
+look_stream most from done i i' e h = inr (over_stream from (SurveysInput most done) i i' e h)
 
-pub look_file : (from : List ℕ) (done : Result Survey DecodeFault) (i a b : Side) → is_stream from ≡ false → SurveysInput done a b → SurveysFile from done i i
-look_file from done i a b e h = inr (over_file from (SurveysInput done) i a b e h)
+pub look_file : (most : FileLimits) (from : List ℕ) (done : Result Survey DecodeFault) (i a b : Side) → is_stream from ≡ false → SurveysInput most done a b → SurveysFile most from done i i
+look_file most from done i a b e h = inr (over_file from (SurveysInput most done) i a b e h)
 
-pub look_none : (from : List ℕ) (fault : DecodeFault) (i : Side) → is_stream from ≡ false → (fault ≡ Device) ⊎ (fault ≡ Memory) → SurveysFile from (Err fault) i i
-look_none from fault i e f = inl (unopened Device Memory from fault e f, refl)
+pub look_none : (most : FileLimits) (from : List ℕ) (fault : DecodeFault) (i : Side) → is_stream from ≡ false → (fault ≡ Device) ⊎ (fault ≡ Memory) → SurveysFile most from (Err fault) i i
+look_none most from fault i e f = inl (unopened Device Memory from fault e f, refl)
 
 -- ---- to encode
 
@@ -150,32 +153,30 @@ pictures_none s from to fault i o e f = inl (unopened encode_fault.Device encode
 
 -- ---- what is planned is done
 
-pub does_decode : (asked : ParsedArgs) (plan : Task) (y4m : Bool) (form : Form) (from to : Bor (List ℕ)) (done : Result Report DecodeFault) (status : ℕ) (i i' o o' : Side)
-    → plan ≡ Decode y4m from to → is_y4m form ≡ y4m → IsTaskFor asked plan → status ≡ status_of done → DecodesFile form from.now to.now done i i' o o'
-    → Does asked status i i' o o'
-does_decode asked plan y4m form from to done status i i' o o' e y h s d = go asked (subst (IsTaskFor asked) e h)
+pub does_decode : (asked : ParsedArgs) (plan : Task) (d : DecodeArgs) (status : ℕ) (i i' o o' : Side)
+    → plan ≡ Decode d → IsTaskFor asked plan → DoesDecode d status i i' o o' → Does asked status i i' o o'
+does_decode asked plan d status i i' o o' e h w = go asked (subst (IsTaskFor asked) e h)
   where
-    go : (x : ParsedArgs) → IsTaskFor x (Decode y4m from to) → Does x status i i' o o'
-    go (decodes flag f t) p = rw (← p.1, ← p.2) (inl (form, done, subst (IsFlag flag) (sym y) p.0, s, d))
+    go : (x : ParsedArgs) → IsTaskFor x (Decode d) → Does x status i i' o o'
+    go (decodes rows f t) p = inl (d, p, w)
     go (decodes_range rows f t) p = absurd p
     go (encodes rows f t) p = absurd p
-    go (tells f) p = absurd p
+    go (tells r f) p = absurd p
     go (checks r f) p = absurd p
     go (serves r a c t) p = absurd p
     go (pictures r f g) p = absurd p
     go (serves_many r a t) p = absurd p
     go nothing p = absurd p
 
-pub does_decode_range : (asked : ParsedArgs) (plan : Task) (wanted : DecodeRangeArgs) (form : Form) (done : Result RangeReport DecodeFault) (status : ℕ) (i i' o o' : Side)
-    → plan ≡ DecodeRange wanted → is_y4m form ≡ wanted.y4m → IsTaskFor asked plan → status ≡ status_by_range wanted.last done
-    → DecodesRange form wanted.first wanted.last wanted.input.now wanted.output.now done i i' o o' → Does asked status i i' o o'
-does_decode_range asked plan wanted form done status i i' o o' e y h s d = go asked (subst (IsTaskFor asked) e h)
+pub does_decode_range : (asked : ParsedArgs) (plan : Task) (wanted : DecodeRangeArgs) (status : ℕ) (i i' o o' : Side)
+    → plan ≡ DecodeRange wanted → IsTaskFor asked plan → DoesDecodeRange wanted status i i' o o' → Does asked status i i' o o'
+does_decode_range asked plan wanted status i i' o o' e h w = go asked (subst (IsTaskFor asked) e h)
   where
     go : (x : ParsedArgs) → IsTaskFor x (DecodeRange wanted) → Does x status i i' o o'
-    go (decodes flag f t) p = absurd p
-    go (decodes_range rows f t) p = rw (← p.2, ← p.3) (inl (form, wanted.first, wanted.last, done, subst (IsFlag (one_of (codes "y4m") rows)) (sym y) p.0, p.1, s, d))
+    go (decodes rows f t) p = absurd p
+    go (decodes_range rows f t) p = inl (wanted, p, w)
     go (encodes rows f t) p = absurd p
-    go (tells f) p = absurd p
+    go (tells r f) p = absurd p
     go (checks r f) p = absurd p
     go (serves r a c t) p = absurd p
     go (pictures r f g) p = absurd p
@@ -191,22 +192,22 @@ does_encode asked plan encoding done status i i' o o' e h s d = go asked (subst 
     go (decodes flag f t) p = absurd p
     go (decodes_range rows f t) p = absurd p
     go (encodes rows f t) p = rw (← p.3, ← p.4) (inl (encoding.options, encoding.live, done, p.0, p.2, s, d))
-    go (tells f) p = absurd p
+    go (tells r f) p = absurd p
     go (checks r f) p = absurd p
     go (serves r a c t) p = absurd p
     go (pictures r f g) p = absurd p
     go (serves_many r a t) p = absurd p
     go nothing p = absurd p
 
-pub does_tell : (asked : ParsedArgs) (plan : Task) (from : Bor (List ℕ)) (done : Result Survey DecodeFault) (status : ℕ) (i i' o o' : Side)
-    → plan ≡ Info from → IsTaskFor asked plan → SurveysFile from.now done i i' → PrintsSurvey done status o.bytes o'.bytes → Does asked status i i' o o'
-does_tell asked plan from done status i i' o o' e h d t = go asked (subst (IsTaskFor asked) e h)
+pub does_tell : (asked : ParsedArgs) (plan : Task) (wanted : InfoArgs) (status : ℕ) (i i' o o' : Side)
+    → plan ≡ Info wanted → IsTaskFor asked plan → DoesInfo wanted status i i' o o' → Does asked status i i' o o'
+does_tell asked plan wanted status i i' o o' e h w = go asked (subst (IsTaskFor asked) e h)
   where
-    go : (x : ParsedArgs) → IsTaskFor x (Info from) → Does x status i i' o o'
-    go (decodes flag f g) p = absurd p
+    go : (x : ParsedArgs) → IsTaskFor x (Info wanted) → Does x status i i' o o'
+    go (decodes r f g) p = absurd p
     go (decodes_range rows f g) p = absurd p
     go (encodes rows f g) p = absurd p
-    go (tells f) p = rw (← p) (inl (done, d, t))
+    go (tells rows files) p = inl (wanted, p, w)
     go (checks r f) p = absurd p
     go (serves r a c t) p = absurd p
     go (pictures r f g) p = absurd p
@@ -214,15 +215,15 @@ does_tell asked plan from done status i i' o o' e h d t = go asked (subst (IsTas
     go nothing p = absurd p
 
 pub does_check : (asked : ParsedArgs) (plan : Task) (wanted : CheckArgs) (status : ℕ) (i i' o o' : Side)
-    → plan ≡ Check wanted → IsTaskFor asked plan → ChecksEach wanted.verbose (texts wanted.files.items) status i i' o o' → Does asked status i i' o o'
-does_check asked plan wanted status i i' o o' e h d = go asked (subst (IsTaskFor asked) e h)
+    → plan ≡ Check wanted → IsTaskFor asked plan → DoesCheck wanted status i i' o o' → Does asked status i i' o o'
+does_check asked plan wanted status i i' o o' e h w = go asked (subst (IsTaskFor asked) e h)
   where
     go : (x : ParsedArgs) → IsTaskFor x (Check wanted) → Does x status i i' o o'
-    go (decodes flag f g) p = absurd p
+    go (decodes r f g) p = absurd p
     go (decodes_range rows f g) p = absurd p
     go (encodes rows f g) p = absurd p
-    go (tells f) p = absurd p
-    go (checks rows files) p = inl (wanted, p, subst (λ names. ChecksEach wanted.verbose names status i i' o o') p.files_are d)
+    go (tells r f) p = absurd p
+    go (checks rows files) p = inl (wanted, p, w)
     go (pictures r f g) p = absurd p
     go (serves r a c t) p = absurd p
     go (serves_many r a t) p = absurd p
@@ -237,7 +238,7 @@ does_picture asked plan wanted done status i i' o e h s d = go asked (subst (IsT
     go (decodes flag f g) p = absurd p
     go (decodes_range rows f g) p = absurd p
     go (encodes rows f g) p = absurd p
-    go (tells f) p = absurd p
+    go (tells r f) p = absurd p
     go (checks r f) p = absurd p
     go (pictures rows f g) p = inl (wanted, done, p, s, subst (λ name. Over name (IsMadeInput wanted done) i i') p.input_is d, refl)
     go (serves r a c t) p = absurd p
@@ -253,7 +254,7 @@ does_serve asked plan service done status i i' o o' e h s d q = go asked (subst 
     go (decodes flag f g) p = absurd p
     go (decodes_range rows f g) p = absurd p
     go (encodes rows f g) p = absurd p
-    go (tells f) p = absurd p
+    go (tells r f) p = absurd p
     go (checks r f) p = absurd p
     go (serves rows address connections operands) p = inl (service, done, p, s, d, q)
     go (pictures r f g) p = absurd p
@@ -269,7 +270,7 @@ does_serve_many asked plan many done status i i' o o' e h s d q = go asked (subs
     go (decodes flag f g) p = absurd p
     go (decodes_range rows f g) p = absurd p
     go (encodes rows f g) p = absurd p
-    go (tells f) p = absurd p
+    go (tells r f) p = absurd p
     go (checks r f) p = absurd p
     go (serves r a c t) p = absurd p
     go (pictures r f g) p = absurd p
@@ -283,7 +284,7 @@ does_nothing asked plan i o e h = go asked (subst (IsTaskFor asked) e h)
     go (decodes flag f g) p = absurd p
     go (decodes_range rows f g) p = absurd p
     go (encodes rows f g) p = absurd p
-    go (tells f) p = absurd p
+    go (tells r f) p = absurd p
     go (checks r f) p = absurd p
     go (serves r a c t) p = absurd p
     go (pictures r f g) p = absurd p
@@ -291,22 +292,22 @@ does_nothing asked plan i o e h = go asked (subst (IsTaskFor asked) e h)
     go nothing p = inr (refl, refl, refl)
 
 unbegun : (asked : ParsedArgs) (status : ℕ) (i i' o o' : Side) → IsUnbegun status i i' o o' → Does asked status i i' o o'
-unbegun (decodes flag f g) status i i' o o' h = inr h
+unbegun (decodes r f g) status i i' o o' h = inr (inl h)
 unbegun (decodes_range rows f g) status i i' o o' h = inr (inl h)
 unbegun (encodes rows f g) status i i' o o' h = inr (inl h)
-unbegun (tells f) status i i' o o' h = inr h
-unbegun (checks r f) status i i' o o' h = inr h
+unbegun (tells r f) status i i' o o' h = inr (inl h)
+unbegun (checks r f) status i i' o o' h = inr (inl h)
 unbegun (serves r a c t) status i i' o o' h = inr (inl h)
 unbegun (pictures r f g) status i i' o o' h = inr (inl h)
 unbegun (serves_many r a t) status i i' o o' h = inr (inl h)
 unbegun nothing status i i' o o' h = inl h
 
 misused : (asked : ParsedArgs) (status : ℕ) (i i' o o' : Side) → HasInvalidValue asked → IsUsageFault status i i' o o' → Does asked status i i' o o'
-misused (decodes flag f g) status i i' o o' m h = absurd m
+misused (decodes r f g) status i i' o o' m h = inr (inr (m, h))
 misused (decodes_range rows f g) status i i' o o' m h = inr (inr (m, h))
 misused (encodes rows f g) status i i' o o' m h = inr (inr (m, h))
-misused (tells f) status i i' o o' m h = absurd m
-misused (checks r f) status i i' o o' m h = absurd m
+misused (tells r f) status i i' o o' m h = inr (inr (m, h))
+misused (checks r f) status i i' o o' m h = inr (inr (m, h))
 misused (serves r a c t) status i i' o o' m h = inr (inr (m, h))
 misused (pictures r f g) status i i' o o' m h = inr (inr (m, h))
 misused (serves_many r a t) status i i' o o' m h = inr (inr (m, h))
@@ -344,25 +345,25 @@ pub over_work : (b : Bool) (Work : Side → Side → Type 0) (old new : Side) �
 over_work true Work old new h = (old, new, h)
 over_work false Work old new h = h.1
 
-pub reads_by_decoding : (form : Form) (to : List ℕ) (done : Result Report DecodeFault) (i j o p : Side) → DecodesInto form to done i j o p
-    → (j ≡ i) ⊎ ((a : Side) × (b : Side) × IsFileDecoded form done i j a b)
-reads_by_decoding form to done i j o p (inl u) = inl u.1
-reads_by_decoding form to done i j o p (inr w) = inr (over_work (is_stream to) (IsFileDecoded form done i j) o p w)
+pub reads_by_decoding : (most : FileLimits) (form : Form) (to : List ℕ) (done : Result Report DecodeFault) (i j o p : Side) → DecodesInto most form to done i j o p
+    → (j ≡ i) ⊎ ((a : Side) × (b : Side) × IsFileDecoded most form done i j a b)
+reads_by_decoding most form to done i j o p (inl u) = inl u.1
+reads_by_decoding most form to done i j o p (inr w) = inr (over_work (is_stream to) (IsFileDecoded most form done i j) o p w)
 
-pub reads_by_range : (form : Form) (first last : ℕ) (to : List ℕ) (done : Result RangeReport DecodeFault) (i j o p : Side) → DecodesRangeInto form first last to done i j o p
-    → (j ≡ i) ⊎ ((a : Side) × (b : Side) × IsFileRangeDecoded form first last done i j a b)
-reads_by_range form first last to done i j o p (inl u) = inl u.1
-reads_by_range form first last to done i j o p (inr w) = inr (over_work (is_stream to) (IsFileRangeDecoded form first last done i j) o p w)
+pub reads_by_range : (most : FileLimits) (form : Form) (first last : ℕ) (to : List ℕ) (done : Result RangeReport DecodeFault) (i j o p : Side) → DecodesRangeInto most form first last to done i j o p
+    → (j ≡ i) ⊎ ((a : Side) × (b : Side) × IsFileRangeDecoded most form first last done i j a b)
+reads_by_range most form first last to done i j o p (inl u) = inl u.1
+reads_by_range most form first last to done i j o p (inr w) = inr (over_work (is_stream to) (IsFileRangeDecoded most form first last done i j) o p w)
 
 pub reads_by_encoding : (settings : Encoding) (to : List ℕ) (done : Result EncodeReport EncodeAllFault) (i j o p : Side) → EncodesInto settings to done i j o p
     → (j ≡ i) ⊎ ((a : Side) × (b : Side) × IsFileEncoded settings done i j a b)
 reads_by_encoding settings to done i j o p (inl u) = inl u.1
 reads_by_encoding settings to done i j o p (inr w) = inr (over_work (is_stream to) (IsFileEncoded settings done i j) o p w)
 
-pub reads_by_surveying : (from : List ℕ) (done : Result Survey DecodeFault) (i j : Side) → SurveysFile from done i j
-    → (j ≡ i) ⊎ ((a : Side) × (b : Side) × SurveysInput done a b)
-reads_by_surveying from done i j (inl u) = inl u.1
-reads_by_surveying from done i j (inr w) = inr (over_work (is_stream from) (SurveysInput done) i j w)
+pub reads_by_surveying : (most : FileLimits) (from : List ℕ) (done : Result Survey DecodeFault) (i j : Side) → SurveysFile most from done i j
+    → (j ≡ i) ⊎ ((a : Side) × (b : Side) × SurveysInput most done a b)
+reads_by_surveying most from done i j (inl u) = inl u.1
+reads_by_surveying most from done i j (inr w) = inr (over_work (is_stream from) (SurveysInput most done) i j w)
 
 pub is_session : (number : ℕ) (s : HubState) → IsServed number s (Ok tt) → IsTurnedAway number s s (Ok tt)
     ⊎ ((old new : Hub) × (old.state ≡ s) × (new.state ≡ s) × ((read : List ℕ) × (failures : ℕ) × IsSession number old new (Ok tt) read None None None (HasFailed 0 failures)))
@@ -385,9 +386,9 @@ abbrev pub failed_side : Side
 failed_side = record { bytes = None; failures = 2 ^ 64 - 1 }
 
 -- what was decoded to a file that can't be finished: its device failed
-pub unfinished : (form : Form) (done : Result Report DecodeFault) (i i' a b : Side) → is_ok done ≡ true → IsFileDecoded form done i i' a b
-    → (c : Side) × (d : Side) × IsFileDecoded form (Err Device) i i' c d
-unfinished form (Ok report) i i' a b ok h = (
+pub unfinished : (most : FileLimits) (form : Form) (done : Result Report DecodeFault) (i i' a b : Side) → is_ok done ≡ true → IsFileDecoded most form done i i' a b
+    → (c : Side) × (d : Side) × IsFileDecoded most form (Err Device) i i' c d
+unfinished most form (Ok report) i i' a b ok h = (
   failed_side,
   failed_side,
   record {
@@ -402,13 +403,13 @@ unfinished form (Ok report) i i' a b ok h = (
     quiet = λ ne. absurd (ne refl);
   },
 )
-unfinished form (Err fault) i i' a b ok h = absurd cc
+unfinished most form (Err fault) i i' a b ok h = absurd cc
 
 -- the same for a range
-pub unfinished_range : (form : Form) (first last : ℕ) (done : Result RangeReport DecodeFault) (i i' a b : Side) → is_ok done ≡ true
-    → IsFileRangeDecoded form first last done i i' a b
-    → (c : Side) × (d : Side) × IsFileRangeDecoded form first last (Err Device) i i' c d
-unfinished_range form first last (Ok report) i i' a b ok h = (
+pub unfinished_range : (most : FileLimits) (form : Form) (first last : ℕ) (done : Result RangeReport DecodeFault) (i i' a b : Side) → is_ok done ≡ true
+    → IsFileRangeDecoded most form first last done i i' a b
+    → (c : Side) × (d : Side) × IsFileRangeDecoded most form first last (Err Device) i i' c d
+unfinished_range most form first last (Ok report) i i' a b ok h = (
   failed_side,
   failed_side,
   record {
@@ -426,4 +427,4 @@ unfinished_range form first last (Ok report) i i' a b ok h = (
     quiet = λ ne. absurd (ne refl);
   },
 )
-unfinished_range form first last (Err fault) i i' a b ok h = absurd cc
+unfinished_range most form first last (Err fault) i i' a b ok h = absurd cc

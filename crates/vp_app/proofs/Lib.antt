@@ -5,3 +5,4 @@ pub mod ListingLemmas
 pub mod ServingLemmas
 pub mod RunLemmas
 pub mod PictureLemmas
+pub mod TaskLemmas

@@ -14,13 +14,13 @@ use Rattle.vp_app.specs.declared.picture_fault.PictureFault.{PictureFault}
 use Rattle.vp_app.specs.declared.picture_fault.PictureFault.TheVariants.{Find, TooLong, Device, ReadTurns, Memory}
 use Rattle.vp_app.specs.Usual.{AreLimits}
 use Rattle.vp_app.specs.Commands.{IsFileRead, IsMadeInput, Over, Side, is_stream}
-use Rattle.vp_app.specs.Picturing.{is_find, is_foreign, IsPictureFile}
+use Rattle.vp_app.specs.Picturing.{is_told, is_foreign, IsPictureFile, IsUnmade}
 use Rattle.vp_app.proofs.CommandLemmas.{over_file}
 
--- of other faults than the input's nothing is said
-pub unmade : (p : PictureArgs) (fault : PictureFault) (i j : Side) → is_find fault ≡ false → IsMadeInput p (Err fault) i j
+-- of faults that tell nothing of the input's bytes nothing is said
+pub unmade : (p : PictureArgs) (fault : PictureFault) (i j : Side) → is_told fault ≡ false → IsMadeInput p (Err fault) i j
 unmade p (Find e) i j h = cc
-unmade p TooLong i j h = tt
+unmade p TooLong i j h = cc
 unmade p Device i j h = tt
 unmade p ReadTurns i j h = tt
 unmade p Memory i j h = tt
@@ -34,7 +34,7 @@ pub made : (p : PictureArgs) (done : Result MadePicture PictureFault) (found : F
     → AreLimits 16 limits → IsFileRead file i j → IsFoundIn limits file p.packet found → IfOk done (λ m. m.number ≡ found.number)
     → IfOk done (λ m. m.dim.w ≡ scaled_side (factor_of p.scale) found.dim.w)
     → IfOk done (λ m. m.dim.h ≡ scaled_side (factor_of p.scale) found.dim.h) → IfOk done (λ m. m.has_alpha ≡ found.has_alpha)
-    → IfErr done (λ fault. is_find fault ≡ false) → IfOk done (λ m. IsPictureFile p.form p.scale p.qi found m.bytes m.coding)
+    → IfErr done (IsUnmade p found) → IfOk done (λ m. IsPictureFile p.form p.scale p.qi found m.bytes m.coding)
     → IsMadeInput p done i j
 made p (Ok m) found limits file i j usual read is number width height alpha none form = (
   file,
@@ -51,7 +51,12 @@ made p (Ok m) found limits file i j usual read is number width height alpha none
     made = form;
   },
 )
-made p (Err fault) found limits file i j usual read is number width height alpha none form = unmade p fault i j none
+made p (Err TooLong) found limits file i j usual read is number width height alpha none form =
+    (file, read, record { limits = limits; usual = usual; found = found; found_is = is; long = none })
+made p (Err (Find e)) found limits file i j usual read is number width height alpha none form = cc
+made p (Err Device) found limits file i j usual read is number width height alpha none form = tt
+made p (Err ReadTurns) found limits file i j usual read is number width height alpha none form = tt
+made p (Err Memory) found limits file i j usual read is number width height alpha none form = tt
 
 -- what is done over a file or a stream, by what implies it
 over_by : (name : List ℕ) (P Q : Side → Side → Type 0) (old new : Side) → ((a b : Side) → P a b → Q a b) → Over name P old new → Over name Q old new
@@ -63,7 +68,7 @@ over_by name P Q old new h o = go (is_stream name) o
     go false w = (w.0, (w.1.0, w.1.1, h w.1.0 w.1.1 w.1.2))
 
 pub over_written : (name : List ℕ) (p : PictureArgs) (done : Result MadePicture PictureFault) (m : MadePicture) (old new : Side)
-    → IfOk done (λ n. n ≡ m) → IfErr done (λ fault. is_find fault ≡ false) → Over name (IsMadeInput p (Ok m)) old new
+    → IfOk done (λ n. n ≡ m) → IfErr done (λ fault. is_told fault ≡ false) → Over name (IsMadeInput p (Ok m)) old new
     → Over name (IsMadeInput p done) old new
 over_written name p (Ok n) m old new same none o = over_by name (IsMadeInput p (Ok m)) (IsMadeInput p (Ok n)) old new (λ a b w. rw same w) o
 over_written name p (Err fault) m old new same none o =

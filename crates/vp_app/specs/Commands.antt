@@ -1,12 +1,12 @@
 -- The effect of each command on its standard streams and files, and its exit status. Pinned by the tests
 -- `pictures_of_over_16777216_pixels_are_too_large` and `info_that_is_not_printed_has_status_1`.
 use Rattle.std.specs.Prelude.{◌≡◌, ◌≢◌, ◌⊎◌, ℕ, Bool, true, false, List, [], ◌∷◌, length, codes, Option, Some, None}
-use Rattle.std.specs.Prelude.{Result, Ok, Err, OnOk, IfOk, MatchBool, nat_lt, if◌then◌else◌}
+use Rattle.std.specs.Prelude.{Result, Ok, Err, OnOk, IfOk, MatchBool, nat_eq, nat_lt, not, ◌++◌, ◌&&◌, ◌||◌, if◌then◌else◌}
 use Rattle.std.specs.List.{list_all}
 use Rattle.std.specs.Str.{bytes_eq}
 use Rattle.std.specs.Io.KnownBytes.{Appends, Consumes, IsAtEnd}
 use Rattle.vp_base.specs.declared.limits.Limits.{Limits}
-use Rattle.vp_base.specs.declared.counted.Counted.{Counted}
+use Rattle.vp_base.specs.declared.counted.Counted.{Counted as CountedStream}
 use Rattle.vp_base.specs.Counted.{counted_contents, counted_failures, counted_remaining, HasFailed}
 use Rattle.vp_ivf.specs.declared.fault.FileFault.{FileFault}
 use Rattle.vp_ivf.specs.declared.fault.FileFault.TheVariants as file_fault
@@ -28,14 +28,20 @@ use Rattle.vp_stream.specs.Written.{IsDecodeAnswerFor, IsSurveyFor}
 use Rattle.vp_frames.specs.declared.report.RangeReport.{RangeReport}
 use Rattle.vp_frames.specs.declared.range.PacketRange.{PacketRange}
 use Rattle.vp_frames.specs.Written.{IsRangeAnswerFor}
-use Rattle.clap.specs.Walk.{Row, first_of, one_of}
+use Rattle.clap.specs.Walk.{Row, first_of, one_of, texts}
 use Rattle.vp_check.specs.declared.checked.Checked.{Checked}
 use Rattle.vp_check.specs.Checks.{IsCheckFor as IsCheckAnswerFor}
 use Rattle.vp_app.specs.CheckLines.{checks_text, is_well}
 use Rattle.vp_app.specs.Listing.{survey_text}
 use Rattle.vp_app.specs.Status.{status_by, status_of}
-use Rattle.vp_app.specs.Usual.{AreLimits}
+use Rattle.vp_app.specs.Usual.{AreLimits, AreLimitsOf}
+use Rattle.vp_app.specs.declared.styles.LineStyle.{LineStyle}
+use Rattle.vp_app.specs.declared.styles.LineStyle.TheVariants.{Counted, Packets, Json}
 use Rattle.vp_args.specs.declared.check_args.CheckArgs.{CheckArgs}
+use Rattle.vp_args.specs.declared.decode_args.DecodeArgs.{DecodeArgs}
+use Rattle.vp_args.specs.declared.decode_args.DecodeRangeArgs.{DecodeRangeArgs}
+use Rattle.vp_args.specs.declared.file_limits.FileLimits.{FileLimits}
+use Rattle.vp_args.specs.declared.info_args.InfoArgs.{InfoArgs}
 use Rattle.vp_args.specs.declared.encode_args.EncodeOptions.{EncodeOptions}
 use Rattle.vp_args.specs.declared.serve_args.ServeArgs.{ServeArgs}
 use Rattle.vp_app.specs.declared.service.ServiceFault.{ServiceFault}
@@ -43,8 +49,8 @@ use Rattle.vp_app.specs.Serving.{IsService}
 use Rattle.vp_app.specs.declared.many.ManyFault.{ManyFault}
 use Rattle.vp_app.specs.declared.picture.MadePicture.{MadePicture}
 use Rattle.vp_app.specs.declared.picture_fault.PictureFault.{PictureFault}
-use Rattle.vp_app.specs.declared.picture_fault.PictureFault.TheVariants.{Find}
-use Rattle.vp_app.specs.Picturing.{IsPictureOf, is_foreign}
+use Rattle.vp_app.specs.declared.picture_fault.PictureFault.TheVariants.{Find, TooLong}
+use Rattle.vp_app.specs.Picturing.{IsPictureOf, IsTooLongOf, is_foreign}
 use Rattle.vp_still.specs.Faults.{IsFaultIn}
 use Rattle.vp_still.specs.declared.fault.FindFault.{FindFault}
 use Rattle.vp_still.specs.declared.fault.FindFault.TheVariants as find_fault
@@ -52,8 +58,8 @@ use Rattle.vp_args.specs.declared.picture_args.PictureArgs.{PictureArgs}
 use Rattle.vp_app.specs.Many.{ServesMany, status_by_many}
 use Rattle.vp_args.specs.declared.serve_args.ServeManyArgs.{ServeManyArgs}
 use Rattle.vp_args.specs.Args.{ParsedArgs, checks, decodes, decodes_range, encodes, tells, pictures, serves}
-use Rattle.vp_args.specs.Args.{serves_many, nothing, AreMiswanted, AreNoSettings, AreWanted, IsCheckFor, IsNoPicture}
-use Rattle.vp_args.specs.Args.{IsPictureFor}
+use Rattle.vp_args.specs.Args.{serves_many, nothing, AreMiswanted, AreNoFileLimits, AreNoSettings, IsCheckFor, IsDecodeFor}
+use Rattle.vp_args.specs.Args.{IsInfoFor, IsNoPicture, IsPictureFor, IsRangeFor}
 use Rattle.vp_args.specs.Args.{AreSettings, IsFlag, IsNoService, IsNoServiceOfMany, IsServiceFor, IsServiceOfMany}
 
 -- ---- standard streams
@@ -64,11 +70,11 @@ pub record Side : Type 0 where
   pub failures : ℕ
 
 -- the side of a reader
-abbrev pub read_side : {R : Type 0} → (R → Option (List ℕ)) → Counted R → Side
+abbrev pub read_side : {R : Type 0} → (R → Option (List ℕ)) → CountedStream R → Side
 read_side remaining r = record { bytes = counted_remaining remaining r; failures = counted_failures r }
 
 -- the side of a writer
-abbrev pub written_side : {W : Type 0} → (W → Option (List ℕ)) → Counted W → Side
+abbrev pub written_side : {W : Type 0} → (W → Option (List ℕ)) → CountedStream W → Side
 written_side contents w = record { bytes = counted_contents contents w; failures = counted_failures w }
 
 -- the name is that of a standard stream
@@ -88,10 +94,10 @@ is_y4m I420 = false
 is_y4m Y4m = true
 
 -- the result of `decode_all`
-pub record IsFileDecoded (form : Form) (done : Result Report DecodeFault) (input input' output output' : Side)
+pub record IsFileDecoded (most : FileLimits) (form : Form) (done : Result Report DecodeFault) (input input' output output' : Side)
     : Type 0 where
   pub limits : Limits
-  pub usual : AreLimits 16 limits
+  pub usual : AreLimitsOf most limits
   pub file : List ℕ
   pub consumed : Consumes input.bytes input'.bytes file
   pub answer : IsDecodeAnswerFor limits form done
@@ -106,24 +112,25 @@ abbrev pub IsUnopened : {T F : Type 0} → F → F → List ℕ → Result T F �
 IsUnopened device memory name done = (is_stream name ≡ false) × ((done ≡ Err device) ⊎ (done ≡ Err memory))
 
 -- decodes to the output file, once the input is open
-abbrev pub DecodesInto : Form → List ℕ → Result Report DecodeFault → Side → Side → Side → Side → Type 0
-DecodesInto form to done input input' output output' =
+abbrev pub DecodesInto : FileLimits → Form → List ℕ → Result Report DecodeFault → Side → Side → Side → Side → Type 0
+DecodesInto most form to done input input' output output' =
     (IsUnopened Device Memory to done × (input' ≡ input) × (output' ≡ output))
-    ⊎ Over to (IsFileDecoded form done input input') output output'
+    ⊎ Over to (IsFileDecoded most form done input input') output output'
 
 -- decodes from the input file to the output file
-abbrev pub DecodesFile : Form → List ℕ → List ℕ → Result Report DecodeFault → Side → Side → Side → Side → Type 0
-DecodesFile form from to done input input' output output' =
+abbrev pub DecodesFile : FileLimits → Form → List ℕ → List ℕ → Result Report DecodeFault → Side → Side → Side → Side
+    → Type 0
+DecodesFile most form from to done input input' output output' =
     (IsUnopened Device Memory from done × (input' ≡ input) × (output' ≡ output))
-    ⊎ Over from (λ a b. DecodesInto form to done a b output output') input input'
+    ⊎ Over from (λ a b. DecodesInto most form to done a b output output') input input'
 
 -- ---- vp8 decode, for a range of packets
 
 -- the result of `decode_range` for the packets from the first to the last
-pub record IsFileRangeDecoded (form : Form) (first last : ℕ) (done : Result RangeReport DecodeFault)
+pub record IsFileRangeDecoded (most : FileLimits) (form : Form) (first last : ℕ) (done : Result RangeReport DecodeFault)
     (input input' output output' : Side) : Type 0 where
   pub limits : Limits
-  pub usual : AreLimits 16 limits
+  pub usual : AreLimitsOf most limits
   pub range : PacketRange
   pub first_is : range.first ≡ first
   pub last_is : range.last ≡ last
@@ -137,18 +144,18 @@ pub record IsFileRangeDecoded (form : Form) (first last : ℕ) (done : Result Ra
   pub quiet : done ≢ Err Device → (input'.failures ≡ input.failures) × (output'.failures ≡ output.failures)
 
 -- decodes a range to the output file, once the input is open
-abbrev pub DecodesRangeInto : Form → ℕ → ℕ → List ℕ → Result RangeReport DecodeFault → Side → Side → Side → Side
-    → Type 0
-DecodesRangeInto form first last to done input input' output output' =
+abbrev pub DecodesRangeInto : FileLimits → Form → ℕ → ℕ → List ℕ → Result RangeReport DecodeFault → Side → Side
+    → Side → Side → Type 0
+DecodesRangeInto most form first last to done input input' output output' =
     (IsUnopened Device Memory to done × (input' ≡ input) × (output' ≡ output))
-    ⊎ Over to (IsFileRangeDecoded form first last done input input') output output'
+    ⊎ Over to (IsFileRangeDecoded most form first last done input input') output output'
 
 -- decodes a range from the input file to the output file
-abbrev pub DecodesRange : Form → ℕ → ℕ → List ℕ → List ℕ → Result RangeReport DecodeFault → Side → Side → Side → Side
-    → Type 0
-DecodesRange form first last from to done input input' output output' =
+abbrev pub DecodesRange : FileLimits → Form → ℕ → ℕ → List ℕ → List ℕ → Result RangeReport DecodeFault → Side → Side
+    → Side → Side → Type 0
+DecodesRange most form first last from to done input input' output output' =
     (IsUnopened Device Memory from done × (input' ≡ input) × (output' ≡ output))
-    ⊎ Over from (λ a b. DecodesRangeInto form first last to done a b output output') input input'
+    ⊎ Over from (λ a b. DecodesRangeInto most form first last to done a b output output') input input'
 
 -- the exit status: 0 only if the last packet of the range exists and no packet of the range has a fault
 abbrev pub status_by_range : ℕ → Result RangeReport DecodeFault → ℕ
@@ -158,9 +165,9 @@ status_by_range last (Err fault) = 1
 -- ---- vp8 info
 
 -- the result of `survey`
-pub record IsFileSurveyed (told : Result Survey SurveyFault) (input input' : Side) : Type 0 where
+pub record IsFileSurveyed (most : FileLimits) (told : Result Survey SurveyFault) (input input' : Side) : Type 0 where
   pub limits : Limits
-  pub usual : AreLimits 16 limits
+  pub usual : AreLimitsOf most limits
   pub file : List ℕ
   pub consumed : Consumes input.bytes input'.bytes file
   pub answer : IsSurveyFor limits told file
@@ -175,14 +182,14 @@ told_as (Ok survey) = Ok survey
 told_as (Err fault) = Err (read_fault_by fault)
 
 -- surveys an open input
-abbrev pub SurveysInput : Result Survey DecodeFault → Side → Side → Type 0
-SurveysInput done input input' = (told : Result Survey SurveyFault) × (done ≡ told_as told)
-    × IsFileSurveyed told input input'
+abbrev pub SurveysInput : FileLimits → Result Survey DecodeFault → Side → Side → Type 0
+SurveysInput most done input input' = (told : Result Survey SurveyFault) × (done ≡ told_as told)
+    × IsFileSurveyed most told input input'
 
 -- surveys the input file
-abbrev pub SurveysFile : List ℕ → Result Survey DecodeFault → Side → Side → Type 0
-SurveysFile from done input input' = (IsUnopened Device Memory from done × (input' ≡ input))
-    ⊎ Over from (SurveysInput done) input input'
+abbrev pub SurveysFile : FileLimits → List ℕ → Result Survey DecodeFault → Side → Side → Type 0
+SurveysFile most from done input input' = (IsUnopened Device Memory from done × (input' ≡ input))
+    ⊎ Over from (SurveysInput most done) input input'
 
 -- the exit status for the file's fault
 abbrev pub status_by_fault : Option FileFault → ℕ
@@ -198,9 +205,9 @@ PrintsSurvey (Err fault) status before after = (status ≡ 1) × (after ≡ befo
 -- ---- vp8 check
 
 -- the result of `check`
-pub record IsFileChecked (told : Result Checked SurveyFault) (input input' : Side) : Type 0 where
+pub record IsFileChecked (most : FileLimits) (told : Result Checked SurveyFault) (input input' : Side) : Type 0 where
   pub limits : Limits
-  pub usual : AreLimits 16 limits
+  pub usual : AreLimitsOf most limits
   pub file : List ℕ
   pub consumed : Consumes input.bytes input'.bytes file
   pub answer : IsCheckAnswerFor limits told file
@@ -215,36 +222,36 @@ checked_as (Ok checked) = Ok checked
 checked_as (Err fault) = Err (read_fault_by fault)
 
 -- checks an open input
-abbrev pub ChecksInput : Result Checked DecodeFault → Side → Side → Type 0
-ChecksInput done input input' = (told : Result Checked SurveyFault) × (done ≡ checked_as told)
-    × IsFileChecked told input input'
+abbrev pub ChecksInput : FileLimits → Result Checked DecodeFault → Side → Side → Type 0
+ChecksInput most done input input' = (told : Result Checked SurveyFault) × (done ≡ checked_as told)
+    × IsFileChecked most told input input'
 
 -- checks a file
-abbrev pub ChecksFile : List ℕ → Result Checked DecodeFault → Side → Side → Type 0
-ChecksFile from done input input' = (IsUnopened Device Memory from done × (input' ≡ input))
-    ⊎ Over from (ChecksInput done) input input'
+abbrev pub ChecksFile : FileLimits → List ℕ → Result Checked DecodeFault → Side → Side → Type 0
+ChecksFile most from done input input' = (IsUnopened Device Memory from done × (input' ≡ input))
+    ⊎ Over from (ChecksInput most done) input input'
 
 -- checks the first of these files, one after another, as many as there are results
-abbrev pub AreFilesChecked : List (List ℕ) → List (Result Checked DecodeFault) → Side → Side → Type 0
-AreFilesChecked names [] input input' = input' ≡ input
-AreFilesChecked [] (done ∷ dones) input input' = ⊥
-AreFilesChecked (name ∷ names) (done ∷ dones) input input' = (next : Side)
-    × ChecksFile name done input next × AreFilesChecked names dones next input'
+abbrev pub AreFilesChecked : FileLimits → List (List ℕ) → List (Result Checked DecodeFault) → Side → Side → Type 0
+AreFilesChecked most names [] input input' = input' ≡ input
+AreFilesChecked most [] (done ∷ dones) input input' = ⊥
+AreFilesChecked most (name ∷ names) (done ∷ dones) input input' = (next : Side)
+    × ChecksFile most name done input next × AreFilesChecked most names dones next input'
 
--- the exit status: 0 only if nothing is wrong with any file
-abbrev pub status_by_checks : List (Result Checked DecodeFault) → ℕ
-status_by_checks dones = if list_all is_well dones then 0 else 1
+-- the exit status: 0 only if nothing is wrong with any file, as far as this form of the lines tells
+abbrev pub status_by_checks : LineStyle → List (Result Checked DecodeFault) → ℕ
+status_by_checks style dones = if list_all (is_well style) dones then 0 else 1
 
 -- all files are checked, and all lines are printed; or the status is 1
-abbrev pub PrintsChecks : Bool → List (List ℕ) → List (Result Checked DecodeFault) → ℕ → Option (List ℕ)
+abbrev pub PrintsChecks : LineStyle → List (List ℕ) → List (Result Checked DecodeFault) → ℕ → Option (List ℕ)
     → Option (List ℕ) → Type 0
-PrintsChecks verbose names dones status before after = ((length dones ≡ length names)
-    × (status ≡ status_by_checks dones) × Appends before after (checks_text verbose names dones)) ⊎ (status ≡ 1)
+PrintsChecks style names dones status before after = ((length dones ≡ length names)
+    × (status ≡ status_by_checks style dones) × Appends before after (checks_text style names dones)) ⊎ (status ≡ 1)
 
 -- checks files, and prints what is found
-abbrev pub ChecksEach : Bool → List (List ℕ) → ℕ → Side → Side → Side → Side → Type 0
-ChecksEach verbose names status input input' output output' = (dones : List (Result Checked DecodeFault))
-    × AreFilesChecked names dones input input' × PrintsChecks verbose names dones status output.bytes output'.bytes
+abbrev pub ChecksEach : FileLimits → LineStyle → List (List ℕ) → ℕ → Side → Side → Side → Side → Type 0
+ChecksEach most style names status input input' output output' = (dones : List (Result Checked DecodeFault))
+    × AreFilesChecked most names dones input input' × PrintsChecks style names dones status output.bytes output'.bytes
 
 -- ---- vp8 encode
 
@@ -320,19 +327,64 @@ IsUnbegun status input input' output output' = (status ≡ 1) × (input' ≡ inp
 abbrev pub IsUsageFault : ℕ → Side → Side → Side → Side → Type 0
 IsUsageFault status input input' output output' = (status ≡ 2) × (input' ≡ input) × (output' ≡ output)
 
+-- the line of an MD5 sum, as md5sum prints it
+abbrev pub sum_line : List ℕ → List ℕ → List ℕ
+sum_line digits name = digits ++ (codes "  " ++ (name ++ codes "\n"))
+
+-- work whose pictures are only summed up: done over a writer of which nothing is known here
+abbrev pub Summed : (Side → Side → Side → Side → Type 0) → Side → Side → Type 0
+Summed Work input input' = (a : Side) × (b : Side) × Work input input' a b
+
+-- sums up the pictures of the input file
+abbrev pub SumsFile : {T : Type 0} → (Result T DecodeFault → Side → Side → Side → Side → Type 0) → List ℕ
+    → Result T DecodeFault → Side → Side → Type 0
+SumsFile Work from done input input' = (IsUnopened Device Memory from done × (input' ≡ input))
+    ⊎ Over from (Summed (Work done)) input input'
+
+-- the sum's line is printed, with this status, or the status is 1; after a fault nothing is printed
+abbrev pub PrintsSum : {T : Type 0} → Result T DecodeFault → List ℕ → ℕ → ℕ → Option (List ℕ) → Option (List ℕ) → Type 0
+PrintsSum (Ok report) name good status before after =
+    ((status ≡ good) × ((digits : List ℕ) × Appends before after (sum_line digits name))) ⊎ (status ≡ 1)
+PrintsSum (Err fault) name good status before after = (status ≡ 1) × (after ≡ before)
+
+-- writes the pictures
+abbrev pub WritesPictures : DecodeArgs → ℕ → Side → Side → Side → Side → Type 0
+WritesPictures d status input input' output output' =
+    (form : Form) × (done : Result Report DecodeFault) × (is_y4m form ≡ d.y4m) × (status ≡ status_of done)
+    × DecodesFile d.limits form d.input.now d.output.now done input input' output output'
+
+-- prints the sum of the pictures
+abbrev pub SumsPictures : DecodeArgs → ℕ → Side → Side → Side → Side → Type 0
+SumsPictures d status input input' output output' =
+    (form : Form) × (done : Result Report DecodeFault) × (is_y4m form ≡ d.y4m)
+    × SumsFile (IsFileDecoded d.limits form) d.input.now done input input'
+    × PrintsSum done d.output.now (status_of done) status output.bytes output'.bytes
+
 -- the effect of `vp8 decode`
-abbrev pub DoesDecode : Option (List ℕ) → List ℕ → List ℕ → ℕ → Side → Side → Side → Side → Type 0
-DoesDecode flag from to status input input' output output' =
-    (form : Form) × (done : Result Report DecodeFault) × IsFlag flag (is_y4m form) × (status ≡ status_of done)
-    × DecodesFile form from to done input input' output output'
+abbrev pub DoesDecode : DecodeArgs → ℕ → Side → Side → Side → Side → Type 0
+DoesDecode d status input input' output output' = MatchBool d.md5 (SumsPictures d status input input' output output')
+    (WritesPictures d status input input' output output')
+
+-- writes the pictures of a range of packets
+abbrev pub WritesRange : DecodeRangeArgs → ℕ → Side → Side → Side → Side → Type 0
+WritesRange r status input input' output output' =
+    (form : Form) × (done : Result RangeReport DecodeFault) × (is_y4m form ≡ r.decoding.y4m)
+    × (status ≡ status_by_range r.last done)
+    × DecodesRange r.decoding.limits form r.first r.last r.decoding.input.now r.decoding.output.now done input input'
+    output output'
+
+-- prints the sum of the pictures of a range of packets
+abbrev pub SumsRange : DecodeRangeArgs → ℕ → Side → Side → Side → Side → Type 0
+SumsRange r status input input' output output' =
+    (form : Form) × (done : Result RangeReport DecodeFault) × (is_y4m form ≡ r.decoding.y4m)
+    × SumsFile (IsFileRangeDecoded r.decoding.limits form r.first r.last) r.decoding.input.now done input input'
+    × PrintsSum done r.decoding.output.now (status_by_range r.last done) status output.bytes output'.bytes
 
 -- the effect of `vp8 decode` for a range of packets
-abbrev pub DoesDecodeRange : List Row → List ℕ → List ℕ → ℕ → Side → Side → Side → Side → Type 0
-DoesDecodeRange rows from to status input input' output output' =
-    (form : Form) × (first : ℕ) × (last : ℕ) × (done : Result RangeReport DecodeFault)
-    × IsFlag (one_of (codes "y4m") rows) (is_y4m form)
-    × AreWanted (first_of (codes "frame") rows) (first_of (codes "frames") rows) first last
-    × (status ≡ status_by_range last done) × DecodesRange form first last from to done input input' output output'
+abbrev pub DoesDecodeRange : DecodeRangeArgs → ℕ → Side → Side → Side → Side → Type 0
+DoesDecodeRange r status input input' output output' =
+    MatchBool r.decoding.md5 (SumsRange r status input input' output output')
+    (WritesRange r status input input' output output')
 
 -- the effect of `vp8 encode`
 abbrev pub DoesEncode : List Row → List ℕ → List ℕ → ℕ → Side → Side → Side → Side → Type 0
@@ -341,16 +393,35 @@ DoesEncode rows from to status input input' output output' =
     × IsFlag (one_of (codes "live") rows) live × (status ≡ status_by_report done)
     × EncodesFile (encoding_of options live) from to done input input' output output'
 
--- the effect of `vp8 info`
-abbrev pub DoesInfo : List ℕ → ℕ → Side → Side → Side → Side → Type 0
-DoesInfo from status input input' output output' =
-    (done : Result Survey DecodeFault) × SurveysFile from done input input'
+-- the lines of one file are asked for, without marks
+abbrev pub is_plain : InfoArgs → Bool
+is_plain i = nat_eq (length i.files.items) 1 && not (i.long || i.json)
+
+-- the form of the lines that `info` prints otherwise
+abbrev pub info_style : InfoArgs → LineStyle
+info_style i = if i.json then Json else Packets i.long (nat_lt 1 (length i.files.items))
+
+-- the first name
+abbrev pub first_name : List (List ℕ) → List ℕ
+first_name [] = []
+first_name (name ∷ names) = name
+
+-- surveys a file, and prints what is found
+abbrev pub ListsFile : FileLimits → List ℕ → ℕ → Side → Side → Side → Side → Type 0
+ListsFile most from status input input' output output' =
+    (done : Result Survey DecodeFault) × SurveysFile most from done input input'
     × PrintsSurvey done status output.bytes output'.bytes
 
+-- the effect of `vp8 info`
+abbrev pub DoesInfo : InfoArgs → ℕ → Side → Side → Side → Side → Type 0
+DoesInfo i status input input' output output' =
+    MatchBool (is_plain i) (ListsFile i.limits (first_name (texts i.files.items)) status input input' output output')
+    (ChecksEach i.limits (info_style i) (texts i.files.items) status input input' output output')
+
 -- the effect of `vp8 check`
-abbrev pub DoesCheck : List Row → List (List ℕ) → ℕ → Side → Side → Side → Side → Type 0
-DoesCheck rows files status input input' output output' =
-    (c : CheckArgs) × IsCheckFor rows files c × ChecksEach c.verbose files status input input' output output'
+abbrev pub DoesCheck : CheckArgs → ℕ → Side → Side → Side → Side → Type 0
+DoesCheck c status input input' output output' =
+    ChecksEach c.limits (Counted c.verbose) (texts c.files.items) status input input' output output'
 
 -- the file is read to its end, unless it begins as neither an IVF nor a WebP file
 pub record IsFileRead (file : List ℕ) (input input' : Side) : Type 0 where
@@ -366,6 +437,7 @@ IsFoundFault p e file =
 abbrev pub IsMadeInput : PictureArgs → Result MadePicture PictureFault → Side → Side → Type 0
 IsMadeInput p (Ok made) input input' = (file : List ℕ) × IsFileRead file input input' × IsPictureOf p file made
 IsMadeInput p (Err (Find e)) input input' = (file : List ℕ) × IsFileRead file input input' × IsFoundFault p e file
+IsMadeInput p (Err TooLong) input input' = (file : List ℕ) × IsFileRead file input input' × IsTooLongOf p file
 IsMadeInput p (Err _) input input' = Unit {0}
 
 -- the exit status of `vp8 picture`
@@ -406,21 +478,27 @@ DoesServeMany rows address operands status input input' output output' =
 
 -- the effect of a task; memory may run out before it begins, and values may be refused
 abbrev pub Does : ParsedArgs → ℕ → Side → Side → Side → Side → Type 0
-Does (decodes flag from to) status input input' output output' =
-    DoesDecode flag from to status input input' output output' ⊎ IsUnbegun status input input' output output'
+Does (decodes rows from to) status input input' output output' =
+    ((d : DecodeArgs) × IsDecodeFor rows from to d × DoesDecode d status input input' output output')
+    ⊎ (IsUnbegun status input input' output output' ⊎ (AreNoFileLimits rows
+    × IsUsageFault status input input' output output'))
 Does (decodes_range rows from to) status input input' output output' =
-    DoesDecodeRange rows from to status input input' output output'
+    ((r : DecodeRangeArgs) × IsRangeFor rows from to r × DoesDecodeRange r status input input' output output')
     ⊎ (IsUnbegun status input input' output output'
-    ⊎ (AreMiswanted (first_of (codes "frame") rows) (first_of (codes "frames") rows)
+    ⊎ ((AreMiswanted (first_of (codes "frame") rows) (first_of (codes "frames") rows) ⊎ AreNoFileLimits rows)
     × IsUsageFault status input input' output output'))
 Does (encodes rows from to) status input input' output output' =
     DoesEncode rows from to status input input' output output'
     ⊎ (IsUnbegun status input input' output output' ⊎ (AreNoSettings rows
     × IsUsageFault status input input' output output'))
-Does (tells from) status input input' output output' =
-    DoesInfo from status input input' output output' ⊎ IsUnbegun status input input' output output'
+Does (tells rows files) status input input' output output' =
+    ((i : InfoArgs) × IsInfoFor rows files i × DoesInfo i status input input' output output')
+    ⊎ (IsUnbegun status input input' output output' ⊎ (AreNoFileLimits rows
+    × IsUsageFault status input input' output output'))
 Does (checks rows files) status input input' output output' =
-    DoesCheck rows files status input input' output output' ⊎ IsUnbegun status input input' output output'
+    ((c : CheckArgs) × IsCheckFor rows files c × DoesCheck c status input input' output output')
+    ⊎ (IsUnbegun status input input' output output' ⊎ (AreNoFileLimits rows
+    × IsUsageFault status input input' output output'))
 Does (pictures rows from to) status input input' output output' =
     DoesPicture rows from to status input input' output output'
     ⊎ (IsUnbegun status input input' output output' ⊎ (IsNoPicture rows to

@@ -9,9 +9,11 @@ use crate::outside::Outside;
 use std::alloc::Global;
 use std::io::{Read, Write};
 use std::rt::Files;
+use std::time::Clock;
 use vp_args::{EncodeArgs, EncodeOptions};
 use vp_base::{Counted, Limits};
 use vp_encode::{EncodeAllFault, EncodeReport, Settings, Watcher, encode_all_watched};
+use vp_hints::{Meter, Tally};
 use vp_live::encode_live;
 
 /// Returns the encoder's settings, as the options say.
@@ -31,31 +33,27 @@ pub fn settings_of(options: &EncodeOptions) -> Settings
     }
 }
 
-/// A progress callback that prints the number of encoded frames after every tenth one, if progress is reported.
+/// A progress callback that tells a meter the number of encoded frames.
 #[derive(Drop)]
-struct Progress<'a, E: Write> {
-    errors: &'a mut Counted<E>,
-    asked: bool,
+struct Frames<'a, H> {
+    meter: &'a Meter<'a, H>,
 }
 
-impl<E: Write> Watcher for Progress<'_, E> {
+impl<H: Clock + Eprint> Watcher for Frames<'_, H> {
     ghost told = { λ _ _. ⊤ };
 
     fn encoded(&mut self, frames: u32) {
-        if self.asked && frames % 10 == 0 {
-            let _ = writeln!(self.errors, "frame {frames}");
-        }
+        self.meter.has_made(frames);
     }
 }
 
 /// Opens the input file, creates the output file, and encodes. The output must not be the input file, because creating
 /// it would empty it.
-pub(crate) fn encode<H: Files + AllocGlobal, R: Read, W: Write, E: Write>(
+pub(crate) fn encode<H: Files + AllocGlobal + Clock + Eprint, R: Read, W: Write>(
     outside: &mut Outside<'_, H>,
     encoding: &EncodeArgs<'_>,
     input: &mut Counted<R>,
     output: &mut Counted<W>,
-    errors: &mut Counted<E>,
 ) -> Result<EncodeReport, EncodeAllFault>
     ensures encoded { EncodesFile (encoding_of encoding.now.options encoding.now.live)
         encoding.now.input.now encoding.now.output.now result
@@ -64,9 +62,8 @@ pub(crate) fn encode<H: Files + AllocGlobal, R: Read, W: Write, E: Write>(
     ensures unread { is_stream encoding.now.input.now ≡ false → input.new ≡ input.old }
     ensures unwritten { is_stream encoding.now.output.now ≡ false → output.new ≡ output.old }
 {
-    let mut watcher = Progress {
-        errors,
-        asked: encoding.progress,
+    let mut watcher = Frames {
+        meter: outside.meter(),
     };
     if encoding.input == "-" {
         return encode_into(outside, encoding, input, output, &mut watcher);
@@ -75,11 +72,11 @@ pub(crate) fn encode<H: Files + AllocGlobal, R: Read, W: Write, E: Write>(
         outside.is_one_file = true;
         return Err(EncodeAllFault::Device);
     }
-    match outside.open(encoding.input) {
+    match outside.open_metered(encoding.input) {
         Ok(mut file) => {
             let reader = &mut Counted::new(&mut file);
             let done = encode_into(outside, encoding, reader, output, &mut watcher);
-            outside.has_read(file);
+            outside.has_read(file.into_witness());
             done
         }
         Err(error) => Err(file_fault(&error, EncodeAllFault::Device, EncodeAllFault::Memory)),
@@ -104,8 +101,10 @@ fn encode_into<H: Files + AllocGlobal, R: Read, W: Write, T: Watcher>(
     }
     match outside.make(encoding.output) {
         Ok(mut file) => {
-            let writer = &mut Counted::new(&mut file);
+            let mut tally = Tally::new(&mut file);
+            let writer = &mut Counted::new(&mut tally);
             let done = encode_over(outside.alloc(), encoding, input, writer, watcher);
+            outside.has_encoded(tally);
             outside.has_written(&file);
             done
         }

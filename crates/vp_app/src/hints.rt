@@ -5,11 +5,12 @@ use crate::picture_fault::PictureFault;
 use crate::service::ServiceFault;
 use std::io;
 use std::io::Write;
-use vp_args::{EncodeArgs, EncodeOptions, NamedFile, PictureArgs, ServeArgs};
+use vp_args::{DecodeRangeArgs, EncodeArgs, EncodeOptions, NamedFile, PictureArgs, ServeArgs};
 use vp_encode::EncodeAllFault;
 use vp_hints::{
     Cause, FileKind, Printable, hint_file, hint_not_y4m, hint_stream_file, hint_y4m_colour,
 };
+use vp_hub::{HubFault, ServeFault};
 use vp_ivf::FileFault;
 use vp_still::FindFault;
 use vp_stream::DecodeFault;
@@ -22,13 +23,41 @@ const STANDARD_INPUT: &str = "standard input";
 pub(crate) fn hint_decode<H, W: Write>(
     outside: &Outside<'_, H>,
     fault: DecodeFault,
+    files: (&str, &str),
+    output: &mut W,
+) -> io::Result<()> {
+    hint_work(outside, fault, files, "were decoded", output)
+}
+
+/// Prints why the packets of a range were not decoded, and what to do.
+pub(crate) fn hint_range<H, W: Write>(
+    outside: &Outside<'_, H>,
+    fault: DecodeFault,
+    wanted: &DecodeRangeArgs<'_>,
+    output: &mut W,
+) -> io::Result<()> {
+    let files = (wanted.decoding.input, wanted.decoding.output);
+    hint_work(outside, fault, files, "were read", output)
+}
+
+/// Prints how packets are counted, under a packet that is missing.
+pub(crate) fn hint_missing<W: Write>(from: &str, output: &mut W) -> io::Result<()> {
+    let file = input_name(from);
+    writeln!(output, "  {file}: packets are counted from 0")
+}
+
+// Prints why a file was not decoded. `done` says what happened to its whole packets.
+fn hint_work<H, W: Write>(
+    outside: &Outside<'_, H>,
+    fault: DecodeFault,
     (from, to): (&str, &str),
+    done: &str,
     output: &mut W,
 ) -> io::Result<()> {
     let file = input_name(from);
     match fault {
         DecodeFault::File(fault) if from == "-" => hint_stream_file(fault, file, output),
-        DecodeFault::File(fault) => hint_file(fault, from, &outside.input, output),
+        DecodeFault::File(fault) => hint_file(fault, from, &outside.input, done, output),
         DecodeFault::SizeChange => writeln!(
             output,
             "  {file}: its pictures change in size, which YUV4MPEG2 can't hold. Try: without --y4m"
@@ -135,7 +164,8 @@ fn hint_find<H, W: Write>(
     let file = input_name(from);
     match fault {
         FindFault::File(fault) if from == "-" => hint_stream_file(fault, file, output),
-        FindFault::File(fault) => hint_file(fault, from, &outside.input, output),
+        FindFault::File(FileFault::TooMany) => writeln!(output, "  {file}: over 1,048,576 packets"),
+        FindFault::File(fault) => hint_file(fault, from, &outside.input, "were read", output),
         FindFault::WebP(fault) => {
             let words = webp_words(fault);
             writeln!(output, "  {file}: {words}")
@@ -148,7 +178,7 @@ fn hint_find<H, W: Write>(
             output,
             "  {file}: the packet shows no picture. Try: another --packet, which vp8 info lists"
         ),
-        FindFault::NoPacket(_) => writeln!(output, "  {file}: packets are counted from 0"),
+        FindFault::NoPacket(_) => hint_missing(from, output),
         FindFault::NoPicture(_) => writeln!(output, "  {file}: no packet shows a picture"),
         FindFault::Memory => writeln!(output, "  out of memory"),
     }
@@ -234,16 +264,43 @@ pub(crate) fn hint_serve<H, W: Write>(
     output: &mut W,
 ) -> io::Result<()> {
     match fault {
-        ServiceFault::Names => writeln!(
-            output,
-            "  give 1 to 16 streams, each with a name of its own of 1 to 32 of the characters a-z, 0-9, - and _"
-        ),
+        ServiceFault::Names => hint_names(output),
         ServiceFault::Device => hint_service_device(outside, service, output),
         ServiceFault::ReadTurns => writeln!(
             output,
             "  a file did not end within 4,294,967,295 reads"
         ),
         ServiceFault::Memory => writeln!(output, "  out of memory"),
+    }
+}
+
+/// Prints what names of streams are.
+pub(crate) fn hint_names<W: Write>(output: &mut W) -> io::Result<()> {
+    writeln!(
+        output,
+        "  give 1 to 16 streams, each with a name of its own of 1 to 32 of the characters a-z, 0-9, - and _"
+    )
+}
+
+/// Prints why a connection was not served to its end.
+pub(crate) fn hint_connection<W: Write>(
+    number: u32,
+    fault: ServeFault,
+    output: &mut W,
+) -> io::Result<()> {
+    match fault {
+        ServeFault::Hub(HubFault::Memory) => {
+            writeln!(output, "  connection {number}: out of memory")
+        }
+        ServeFault::Hub(_) => writeln!(output, "  connection {number}: its requests are refused"),
+        ServeFault::Device => writeln!(
+            output,
+            "  connection {number}: the client broke it off, or it failed"
+        ),
+        ServeFault::ReadTurns => writeln!(
+            output,
+            "  connection {number} did not end within 1,048,576 reads"
+        ),
     }
 }
 
@@ -262,8 +319,8 @@ fn hint_service_device<H, W: Write>(
     }
 }
 
-// Prints why the file of a stream is refused.
-fn hint_stream<W: Write>(
+/// Prints why the file of a stream is refused.
+pub(crate) fn hint_stream<W: Write>(
     stream: &NamedFile<'_>,
     error: io::Error,
     output: &mut W,
@@ -272,8 +329,12 @@ fn hint_stream<W: Write>(
     writeln!(output, "  {name}: {file}: {cause}")
 }
 
-// Prints why an address is refused.
-fn hint_address<W: Write>(address: &str, error: io::Error, output: &mut W) -> io::Result<()> {
+/// Prints why an address is refused.
+pub(crate) fn hint_address<W: Write>(
+    address: &str,
+    error: io::Error,
+    output: &mut W,
+) -> io::Result<()> {
     let (address, cause) = (Printable(address), Cause(error));
     writeln!(output, "  {address}: {cause}")
 }
@@ -285,11 +346,20 @@ pub(crate) fn hint_odd_files<H, W: Write>(
     output: &mut W,
 ) {
     for (place, stream) in service.streams.iter().enumerate() {
-        let (name, file) = (Printable(stream.name), input_name(stream.file));
-        let _ = match outside.oddity(place) {
-            Some(FileFault::Codec) => writeln!(output, "  {name}: {file}: not VP8"),
-            Some(_) => writeln!(output, "  {name}: {file}: not an IVF file"),
-            None => Ok(()),
-        };
+        let _ = hint_odd_file(outside.oddity(place), stream, output);
+    }
+}
+
+/// Prints that a stream's file is not an IVF file of VP8, if that was odd about it.
+pub(crate) fn hint_odd_file<W: Write>(
+    oddity: Option<FileFault>,
+    stream: &NamedFile<'_>,
+    output: &mut W,
+) -> io::Result<()> {
+    let (name, file) = (Printable(stream.name), input_name(stream.file));
+    match oddity {
+        Some(FileFault::Codec) => writeln!(output, "  {name}: {file}: not VP8"),
+        Some(_) => writeln!(output, "  {name}: {file}: not an IVF file"),
+        None => Ok(()),
     }
 }

@@ -17,6 +17,8 @@ ghost use Rattle.vp_stream.specs.declared.fault.DecodeFault.{DecodeFault};
 ghost use Rattle.vp_stream.specs.declared.fault.DecodeFault.TheVariants.{Device, Memory};
 ghost use Rattle.vp_app.specs.Commands.{DecodesInto, EncodesInto, Encoding, IsFileDecoded, IsFileEncoded, IsUnbegun};
 ghost use Rattle.vp_app.specs.Commands.{IsUnopened};
+ghost use Rattle.vp_args.specs.declared.file_limits.FileLimits.{FileLimits};
+ghost use Rattle.vp_app.specs.declared.styles.LineStyle.{LineStyle};
 ghost use Rattle.vp_check.specs.declared.checked.Checked.{Checked};
 ghost use Rattle.vp_app.specs.CheckLines.{checks_text, is_well};
 ghost use Rattle.vp_app.specs.Commands.{ChecksFile, ChecksInput, PrintsChecks};
@@ -39,10 +41,10 @@ pub fn status_0_of_info_says_that_all_is_printed()
 /// `vp8 check` has status 0 only if nothing is wrong with any file, and all its lines are printed.
 #[tactic(auto, using(crate::proofs::CheckLemmas::nothing_wrong))]
 pub fn status_0_of_check_says_that_nothing_is_wrong()
-    ensures { (verbose : Bool) (names : List (List ℕ)) (dones : List (Result Checked DecodeFault))
-        (before after : Option (List ℕ)) → PrintsChecks verbose names dones 0 before after
-        → (length dones ≡ length names) × (list_all is_well dones ≡ true)
-        × Appends before after (checks_text verbose names dones) }
+    ensures { (style : LineStyle) (names : List (List ℕ)) (dones : List (Result Checked DecodeFault))
+        (before after : Option (List ℕ)) → PrintsChecks style names dones 0 before after
+        → (length dones ≡ length names) × (list_all (is_well style) dones ≡ true)
+        × Appends before after (checks_text style names dones) }
 {}
 
 /// Work over what cannot be opened ends by a fault, and work that is not begun leaves the streams.
@@ -55,18 +57,18 @@ pub fn what_is_not_begun_changes_nothing()
 /// Standard input stays, or else a file was decoded, encoded, surveyed or checked, as it stands in the file's answer.
 #[tactic(auto, using(crate::proofs::CommandLemmas::reads_by_decoding, crate::proofs::CommandLemmas::reads_by_range, crate::proofs::CommandLemmas::reads_by_encoding, crate::proofs::CommandLemmas::reads_by_surveying, crate::proofs::CheckLemmas::reads_by_checking))]
 pub fn standard_input_is_left_or_answered()
-    ensures decoded { (form : Form) (to : List ℕ) (done : Result Report DecodeFault) (i j o p : Side)
-        → DecodesInto form to done i j o p → (j ≡ i) ⊎ ((a : Side) × (b : Side) × IsFileDecoded form done i j a b) }
-    ensures range { (form : Form) (first last : ℕ) (to : List ℕ) (done : Result RangeReport DecodeFault)
-        (i j o p : Side) → DecodesRangeInto form first last to done i j o p
-        → (j ≡ i) ⊎ ((a : Side) × (b : Side) × IsFileRangeDecoded form first last done i j a b) }
+    ensures decoded { (most : FileLimits) (form : Form) (to : List ℕ) (done : Result Report DecodeFault) (i j o p : Side)
+        → DecodesInto most form to done i j o p → (j ≡ i) ⊎ ((a : Side) × (b : Side) × IsFileDecoded most form done i j a b) }
+    ensures range { (most : FileLimits) (form : Form) (first last : ℕ) (to : List ℕ) (done : Result RangeReport DecodeFault)
+        (i j o p : Side) → DecodesRangeInto most form first last to done i j o p
+        → (j ≡ i) ⊎ ((a : Side) × (b : Side) × IsFileRangeDecoded most form first last done i j a b) }
     ensures encoded { (settings : Encoding) (to : List ℕ) (done : Result EncodeReport EncodeAllFault) (i j o p : Side)
         → EncodesInto settings to done i j o p
         → (j ≡ i) ⊎ ((a : Side) × (b : Side) × IsFileEncoded settings done i j a b) }
-    ensures surveyed { (from : List ℕ) (done : Result Survey DecodeFault) (i j : Side) → SurveysFile from done i j
-        → (j ≡ i) ⊎ ((a : Side) × (b : Side) × SurveysInput done a b) }
-    ensures checked { (from : List ℕ) (done : Result Checked DecodeFault) (i j : Side) → ChecksFile from done i j
-        → (j ≡ i) ⊎ ((a : Side) × (b : Side) × ChecksInput done a b) }
+    ensures surveyed { (most : FileLimits) (from : List ℕ) (done : Result Survey DecodeFault) (i j : Side) → SurveysFile most from done i j
+        → (j ≡ i) ⊎ ((a : Side) × (b : Side) × SurveysInput most done a b) }
+    ensures checked { (most : FileLimits) (from : List ℕ) (done : Result Checked DecodeFault) (i j : Side) → ChecksFile most from done i j
+        → (j ≡ i) ⊎ ((a : Side) × (b : Side) × ChecksInput most done a b) }
 {}
 
 /// A connection that is served to its end was turned away or had a session.

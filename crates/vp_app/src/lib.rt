@@ -3,9 +3,11 @@
 
 mod check;
 mod encode;
+mod encoded;
 mod files;
 mod hints;
 mod laws;
+mod lines;
 mod listing;
 mod many;
 mod outside;
@@ -14,9 +16,12 @@ mod picture_fault;
 mod program;
 mod range;
 mod service;
+mod styles;
+mod sums;
 
 pub use check::Counts;
 pub use encode::settings_of;
+pub use files::limits_of;
 pub use laws::{
     served_connections_have_sessions, standard_input_is_left_or_answered,
     status_0_of_check_says_that_nothing_is_wrong, status_0_of_info_says_that_all_is_printed,
@@ -27,3 +32,4 @@ pub use picture::MadePicture;
 pub use picture_fault::PictureFault;
 pub use program::{command, command_line};
 pub use service::{ServiceFault, feed_all, listen, new_hub, serve_each};
+pub use styles::LineStyle;

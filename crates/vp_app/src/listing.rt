@@ -113,7 +113,7 @@ fn print_head<W: Write>(survey: &Survey, output: &mut W) -> io::Result<()>
 }
 
 // Prints the lines of the size and the rate, if the head is valid.
-fn print_rate<W: Write>(head: Option<IvfHead>, output: &mut W) -> io::Result<()>
+pub(crate) fn print_rate<W: Write>(head: Option<IvfHead>, output: &mut W) -> io::Result<()>
     ensures { OnOk result (Appends (W.contents output.old) (W.contents output.new) (head_lines head)) }
 {
     let Some(head) = head else {

@@ -8,6 +8,7 @@ ghost use Rattle.vp_app.specs.declared.service.ServiceFault.{ServiceFault};
 ghost use Rattle.vp_app.specs.Many.{IsFedBefore, ServesMany, WorksLoop, followed_names, options_of};
 ghost use Rattle.vp_app.specs.Serving.{AreFilesFed, IsFileFed};
 
+use crate::hints::{hint_address, hint_names, hint_odd_file, hint_stream};
 use crate::outside::Outside;
 use crate::service::{ServiceFault, feed_stream, hub_with_cursors, print_address, stream_names};
 use std::alloc::{AllocError, Global};
@@ -18,6 +19,7 @@ use std::time::Clock;
 use std::{fs, io};
 use vp_args::{NamedFile, ServeArgs, ServeManyArgs};
 use vp_base::{ByteList, Counted};
+use vp_hints::{Cause, Meter, Printable, head_fault};
 use vp_hub::Hub;
 use vp_mio::{FollowedFile, MioTransport};
 use vp_serve::{ServeOptions, ServerLoop, catch_up, serve};
@@ -32,9 +34,9 @@ pub enum ManyFault {
     Names,
     /// Out of memory.
     Memory,
-    /// The file of the stream at an index can't be opened.
+    /// The file of the stream at an index can't be opened or read.
     Open(usize, io::Error),
-    /// The file of the stream at an index can't be opened, read or fed.
+    /// The file of the stream at an index can't be fed.
     Feed(usize, ServiceFault),
     /// The program can't listen on the address.
     Listen(io::Error),
@@ -85,16 +87,17 @@ pub(crate) fn serve_many<
     ensures quiet { many.now.service.show_address ≡ false → output.new ≡ output.old }
 {
     let mut hub = hub_with_cursors(rt.alloc(), &many.service, many.cursors)?;
-    let files = feed_or_follow(rt, &mut hub, many, input)?;
+    let files = feed_or_follow(rt, &mut hub, many, input, errors)?;
     run(rt, hub, files, many, output, errors)
 }
 
 // Feeds each stream its file to its end, or opens the files that are followed.
-fn feed_or_follow<'a, H: Files + AllocGlobal, R: Read>(
+fn feed_or_follow<'a, H: Files + AllocGlobal, R: Read, E: Write>(
     rt: &H,
     hub: &mut Hub,
     many: &'a ServeManyArgs<'_>,
     input: &mut Counted<R>,
+    errors: &mut Counted<E>,
 ) -> Result<Vec<FollowedFile<'a, H::File>>, ManyFault>
     ensures { IfOk result (λ _. IsFedBefore many.now hub.old.state hub.new.state
         (counted_remaining R.remaining input.old) (counted_remaining R.remaining input.new)) }
@@ -102,7 +105,7 @@ fn feed_or_follow<'a, H: Files + AllocGlobal, R: Read>(
     if many.follow {
         return follow_all(rt, &many.service.streams);
     }
-    feed_each(rt, hub, &many.service.streams, input)?;
+    feed_each(rt, hub, &many.service.streams, input, errors)?;
     Ok(Vec::new(rt.alloc()))
 }
 
@@ -134,37 +137,52 @@ fn follow<'a, H: Files>(
 }
 
 // Feeds each stream its file, one after another, and marks its end.
-fn feed_each<H: Files + AllocGlobal, R: Read>(
+fn feed_each<H: Files + AllocGlobal, R: Read, E: Write>(
     rt: &H,
     hub: &mut Hub,
     streams: &[NamedFile<'_>],
     input: &mut Counted<R>,
+    errors: &mut Counted<E>,
 ) -> Result<(), ManyFault>
     ensures { IfOk result (λ _. AreFilesFed streams.now hub.old.state hub.new.state
         (counted_remaining R.remaining input.old) (counted_remaining R.remaining input.new)) }
 {
     let mut place: usize = 0;
     for stream in streams {
-        feed_next(rt, hub, stream, place, input)?;
+        feed_next(rt, hub, stream, place, input, errors)?;
         place = place.saturating_add(1);
     }
     Ok(())
 }
 
 // Feeds the stream at an index its file, and marks its end.
-fn feed_next<H: Files + AllocGlobal, R: Read>(
+fn feed_next<H: Files + AllocGlobal, R: Read, E: Write>(
     rt: &H,
     hub: &mut Hub,
     stream: &NamedFile<'_>,
     place: usize,
     input: &mut Counted<R>,
+    errors: &mut Counted<E>,
 ) -> Result<(), ManyFault>
     ensures { IfOk result (λ _. IsFileFed stream.now hub.old.state hub.new.state
         (counted_remaining R.remaining input.old) (counted_remaining R.remaining input.new)) }
 {
-    match feed_stream(&mut Outside::new(rt), hub, stream, input) {
-        Ok(()) => Ok(()),
-        Err(fault) => Err(ManyFault::Feed(place, fault)),
+    let meter = Meter::new(rt);
+    let mut outside = Outside::new(rt, &meter);
+    match feed_stream(&mut outside, hub, stream, input) {
+        Ok(()) => {
+            let _ = hint_odd_file(head_fault(outside.input.head()), stream, errors);
+            Ok(())
+        }
+        Err(fault) => Err(unfed(outside.refused, place, fault)),
+    }
+}
+
+// The fault of the stream at an index whose file is not fed.
+fn unfed(refused: Option<io::Error>, place: usize, fault: ServiceFault) -> ManyFault {
+    match (refused, fault) {
+        (Some(error), ServiceFault::Device) => ManyFault::Open(place, error),
+        _ => ManyFault::Feed(place, fault),
     }
 }
 
@@ -318,57 +336,58 @@ fn listen<H: Net<Stream = TcpStream, Listener = TcpListener>, W: Write>(
     Ok(listener)
 }
 
-/// Prints what was wrong, where, and what to do.
+/// Prints the fault, and under it what was wrong, where, and what to do.
 pub(crate) fn print_fault<E: Write>(
     fault: &ManyFault,
     many: &ServeManyArgs<'_>,
     errors: &mut Counted<E>,
 ) {
-    let address = many.service.listen;
-    let _ = match fault {
-        ManyFault::Names => writeln!(
-            errors,
-            "vp8: Names: give 1 to 16 streams, each with a name of its own of 1 to 32 of the characters a-z, 0-9, - and _"
-        ),
-        ManyFault::Memory => writeln!(errors, "vp8: Memory"),
-        ManyFault::Open(place, error) => print_unopened(stream_at(many, *place), error, errors),
-        ManyFault::Feed(place, fault) => print_unfed(stream_at(many, *place), *fault, errors),
-        ManyFault::Listen(error) => writeln!(
-            errors,
-            "vp8: can't listen on {address}: {error}; give another ADDRESS:PORT by --listen"
-        ),
-        ManyFault::Print(error) => writeln!(
-            errors,
-            "vp8: the address can't be printed on standard output: {error}"
-        ),
-        ManyFault::System(error) => writeln!(errors, "vp8: sockets can't be waited for: {error}"),
+    let name = match fault {
+        ManyFault::Names => "Names",
+        ManyFault::Memory => "Memory",
+        ManyFault::Feed(_, ServiceFault::Memory) => "Memory",
+        ManyFault::Feed(_, ServiceFault::ReadTurns) => "ReadTurns",
+        _ => "Device",
     };
+    let _ = writeln!(errors, "vp8: {name}");
+    let _ = hint_fault(fault, many, errors);
 }
 
-// Prints why the file of a stream can't be opened.
-fn print_unopened<E: Write>(
-    stream: NamedFile<'_>,
-    error: &io::Error,
+// Prints what was wrong, where, and what to do. What standard output met is told elsewhere.
+fn hint_fault<E: Write>(
+    fault: &ManyFault,
+    many: &ServeManyArgs<'_>,
     errors: &mut Counted<E>,
 ) -> io::Result<()> {
-    let (name, file) = (stream.name, stream.file);
-    writeln!(
-        errors,
-        "vp8: {name}={file}: the file can't be opened: {error}"
-    )
+    match fault {
+        ManyFault::Names => hint_names(errors),
+        ManyFault::Memory => writeln!(errors, "  out of memory"),
+        ManyFault::Open(place, error) => hint_stream(&stream_at(many, *place), *error, errors),
+        ManyFault::Feed(place, fault) => hint_unfed(&stream_at(many, *place), *fault, errors),
+        ManyFault::Listen(error) => hint_address(many.service.listen, *error, errors),
+        ManyFault::Print(_) => Ok(()),
+        ManyFault::System(error) => {
+            let cause = Cause(*error);
+            writeln!(errors, "  sockets can't be waited for: {cause}")
+        }
+    }
 }
 
 // Prints why the file of a stream isn't fed.
-fn print_unfed<E: Write>(
-    stream: NamedFile<'_>,
+fn hint_unfed<E: Write>(
+    stream: &NamedFile<'_>,
     fault: ServiceFault,
     errors: &mut Counted<E>,
 ) -> io::Result<()> {
-    let (name, file) = (stream.name, stream.file);
-    writeln!(
-        errors,
-        "vp8: {name}={file}: {fault}: the file can't be opened, or read to its end"
-    )
+    let (name, file) = (Printable(stream.name), Printable(stream.file));
+    match fault {
+        ServiceFault::Memory => writeln!(errors, "  {name}: {file}: out of memory"),
+        ServiceFault::ReadTurns => writeln!(
+            errors,
+            "  {name}: {file} did not end within 4,294,967,295 reads"
+        ),
+        _ => writeln!(errors, "  {name}: {file}: it can't be read to its end"),
+    }
 }
 
 // The stream at an index.

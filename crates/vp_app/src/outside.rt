@@ -6,7 +6,7 @@ use std::net::{Net, TcpListener, TcpStream};
 use std::os::unix::fs::MetadataExt;
 use std::rt::Files;
 use std::{fs, io};
-use vp_hints::{Overwrite, Seen, Witness, head_fault, open_to_overwrite};
+use vp_hints::{Meter, Metered, Overwrite, Seen, Tally, Witness, head_fault, open_to_overwrite};
 use vp_ivf::FileFault;
 
 // The greatest number of streams that are served.
@@ -16,12 +16,15 @@ const MOST_STREAMS: usize = 16;
 #[derive(Drop)]
 pub(crate) struct Outside<'a, H> {
     system: &'a H,
+    meter: &'a Meter<'a, H>,
     /// What was seen of the input file.
     pub(crate) input: Seen,
     /// Why the input file can't be opened or read, or the address not be listened on.
     pub(crate) refused: Option<io::Error>,
     /// Why the output file can't be made or written.
     pub(crate) unwritten: Option<io::Error>,
+    /// What was seen of the output file, if it is one that was encoded.
+    pub(crate) encoded: Option<Seen>,
     /// Whether the input and the output are one file.
     pub(crate) is_one_file: bool,
     identity: Option<(u64, u64)>,
@@ -31,12 +34,14 @@ pub(crate) struct Outside<'a, H> {
 
 impl<'a, H> Outside<'a, H> {
     /// Nothing was met yet.
-    pub(crate) fn new(system: &'a H) -> Outside<'a, H> {
+    pub(crate) fn new(system: &'a H, meter: &'a Meter<'a, H>) -> Outside<'a, H> {
         Outside {
             system,
+            meter,
             input: Seen::new(),
             refused: None,
             unwritten: None,
+            encoded: None,
             is_one_file: false,
             identity: None,
             fed: 0,
@@ -47,6 +52,24 @@ impl<'a, H> Outside<'a, H> {
     /// The system.
     pub(crate) fn system(&self) -> &'a H {
         self.system
+    }
+
+    /// What tells how far the work is.
+    pub(crate) fn meter(&self) -> &'a Meter<'a, H> {
+        self.meter
+    }
+
+    /// Forgets the input file before, and what it met.
+    pub(crate) fn forget(&mut self) {
+        self.input = Seen::new();
+        self.refused = None;
+        self.identity = None;
+        self.meter.begin(None);
+    }
+
+    /// Remembers what was encoded into a file.
+    pub(crate) fn has_encoded<W: Drop>(&mut self, file: Tally<W>) {
+        self.encoded = Some(file.into_seen());
     }
 
     /// Remembers what was read, and closes the file.
@@ -104,13 +127,29 @@ impl<H: AllocGlobal> Outside<'_, H> {
     }
 }
 
-impl<H: Files> Outside<'_, H> {
+impl<'a, H: Files> Outside<'a, H> {
     /// Opens an input file.
     pub(crate) fn open(&mut self, name: &str) -> io::Result<Witness<H::File>> {
         match fs::open(self.system, name) {
             Ok(file) => {
                 self.identity = identity_of(file.metadata());
                 Ok(Witness::new(file))
+            }
+            Err(error) => {
+                self.refused = Some(error);
+                Err(error)
+            }
+        }
+    }
+
+    /// Opens an input file, and lets it tell how far it is read.
+    pub(crate) fn open_metered(&mut self, name: &str) -> io::Result<Metered<'a, H::File, H>> {
+        match fs::open(self.system, name) {
+            Ok(file) => {
+                let metadata = file.metadata();
+                self.meter.begin(size_of(&metadata));
+                self.identity = identity_of(metadata);
+                Ok(Metered::new(file, self.meter))
             }
             Err(error) => {
                 self.refused = Some(error);
@@ -146,6 +185,14 @@ impl<H: Files> Outside<'_, H> {
 fn identity_of(metadata: io::Result<Metadata>) -> Option<(u64, u64)> {
     match metadata {
         Ok(metadata) if metadata.is_file() => Some((metadata.dev(), metadata.ino())),
+        _ => None,
+    }
+}
+
+// The size of a regular file.
+fn size_of(metadata: &io::Result<Metadata>) -> Option<u64> {
+    match metadata {
+        Ok(metadata) if metadata.is_file() => Some(metadata.len()),
         _ => None,
     }
 }

@@ -5,15 +5,15 @@ ghost use Rattle.std.specs.Io.KnownBytes.{Consumes, IsAtEnd};
 ghost use Rattle.vp_base.specs.Counted.{counted_remaining};
 ghost use Rattle.vp_app.specs.Commands.{is_stream, read_side, status_by_picture, IsFileRead, IsMadeInput};
 ghost use Rattle.vp_app.specs.Commands.{Over};
-ghost use Rattle.vp_app.specs.Picturing.{is_find, is_foreign, IsPictureFile};
+ghost use Rattle.vp_app.specs.Picturing.{is_told, IsUnmade, is_foreign, IsPictureFile};
 ghost use Rattle.vp_scale.specs.Scale.{factor_of, scaled_side};
 
+use crate::encoded::{decibels, samples};
 use crate::hints::hint_picture;
 use crate::outside::Outside;
 use crate::picture_fault::{PictureFault, report_picture_fault};
 use std::alloc::Global;
 use std::io::{Read, Write};
-use std::num::nearest_u64_to_f64;
 use std::rt::Files;
 use vp_args::{PictureArgs, StillForm};
 use vp_base::{ByteList, Counted, Dim, Limits, put_all};
@@ -98,7 +98,7 @@ fn make(alloc: Global, found: &Found, wanted: &PictureArgs<'_>) -> Result<MadePi
     ensures width { IfOk result (λ m. m.dim.w ≡ scaled_side (factor_of wanted.now.scale) found.now.dim.w) }
     ensures height { IfOk result (λ m. m.dim.h ≡ scaled_side (factor_of wanted.now.scale) found.now.dim.h) }
     ensures alpha { IfOk result (λ m. m.has_alpha ≡ found.now.has_alpha) }
-    ensures unfound { IfErr result (λ fault. is_find fault ≡ false) }
+    ensures unmade { IfErr result (IsUnmade wanted.now found.now) }
     ensures file { IfOk result (λ m. IsPictureFile wanted.now.form wanted.now.scale wanted.now.qi found.now
         m.bytes m.coding) }
 {
@@ -124,7 +124,7 @@ fn make(alloc: Global, found: &Found, wanted: &PictureArgs<'_>) -> Result<MadePi
 fn read_file<R: Read>(alloc: Global, input: &mut Counted<R>) -> Result<Vec<u8>, PictureFault>
     ensures file { IfOk result (λ file. IsFileRead file.items (read_side R.remaining input.old)
         (read_side R.remaining input.new)) }
-    ensures unfound { IfErr result (λ fault. is_find fault ≡ false) }
+    ensures untold { IfErr result (λ fault. is_told fault ≡ false) }
 {
     let mut file = Vec::new(alloc);
     for _turn in 0..u32::MAX {
@@ -141,7 +141,7 @@ fn read_piece<R: Read>(input: &mut Counted<R>, file: &mut Vec<u8>) -> Result<boo
     ensures piece { IfOk result (λ _. (piece : List ℕ) × (file.new.items ≡ file.old.items ++ piece)
         × Consumes (counted_remaining R.remaining input.old) (counted_remaining R.remaining input.new) piece) }
     ensures end { IfOk result (λ more. more ≡ false → IsAtEnd (counted_remaining R.remaining input.new)) }
-    ensures unfound { IfErr result (λ fault. is_find fault ≡ false) }
+    ensures untold { IfErr result (λ fault. is_told fault ≡ false) }
 {
     let mut buffer = [0; 16_384];
     let count = input.read(&mut buffer)?;
@@ -164,7 +164,7 @@ fn written<H: Files + AllocGlobal>(
     made: MadePicture,
 ) -> Result<MadePicture, PictureFault>
     ensures made { IfOk result (λ m. m ≡ made) }
-    ensures unfound { IfErr result (λ fault. is_find fault ≡ false) }
+    ensures untold { IfErr result (λ fault. is_told fault ≡ false) }
 {
     let mut file = outside.make(name)?;
     let put = put_all(&mut Counted::new(&mut file), made.bytes.as_slice());
@@ -208,7 +208,7 @@ fn print_made<E: Write>(made: &MadePicture, errors: &mut Counted<E>) {
             "packet {number}: {w}x{h}, encoded without a difference"
         ),
         Some(Coding::Encoded(error)) => {
-            let ratio = decibels(made.dim, error);
+            let ratio = decibels(samples(made.dim), error);
             writeln!(
                 errors,
                 "packet {number}: {w}x{h}, encoded with PSNR {ratio:.2} dB"
@@ -218,11 +218,4 @@ fn print_made<E: Write>(made: &MadePicture, errors: &mut Counted<E>) {
     if made.has_alpha {
         let _ = writeln!(errors, "  alpha is left out");
     }
-}
-
-// The peak signal-to-noise ratio of a picture in decibels, by the sum of its squared differences, over Y, U and V.
-fn decibels(dim: Dim, error: u64) -> f64 {
-    let (w, h) = (u64::from(dim.w), u64::from(dim.h));
-    let samples = w * h + 2 * (w.div_ceil(2) * h.div_ceil(2));
-    10.0 * (nearest_u64_to_f64(65_025 * samples) / nearest_u64_to_f64(error)).log10()
 }

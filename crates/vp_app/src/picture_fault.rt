@@ -47,10 +47,10 @@ impl From<io::Error> for PictureFault {
 }
 
 impl From<StillFault> for PictureFault {
-    ghost use Rattle.std.specs.Prelude.{◌≡◌, false};
-    ghost use Rattle.vp_app.specs.Picturing.{is_find};
+    ghost use Rattle.std.specs.Prelude.{◌≡◌};
+    ghost use Rattle.vp_app.specs.Picturing.{fault_of_still};
 
-    ghost from_gives = { λ _ r. is_find r ≡ false };
+    ghost from_gives = { λ fault r. r ≡ fault_of_still fault };
 
     fn from(fault: StillFault) -> PictureFault {
         match fault {

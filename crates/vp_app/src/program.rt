@@ -6,18 +6,21 @@ ghost use Rattle.clap.specs.Walk.{texts};
 ghost use Rattle.clap.specs.declared.error.kind.ErrorKind.{ErrorKind};
 ghost use Rattle.vp_stream.specs.declared.fault.DecodeFault.{DecodeFault};
 ghost use Rattle.vp_base.specs.Counted.{counted_contents};
-ghost use Rattle.vp_app.specs.Commands.{Side, is_stream, is_y4m, read_side, written_side, status_by_report, status_by_service};
-ghost use Rattle.vp_app.specs.Commands.{DecodesFile, DecodesInto, Does, IsFileDecoded, IsFileSurveyed, SurveysFile};
-ghost use Rattle.vp_app.specs.Commands.{SurveysInput};
-ghost use Rattle.vp_app.specs.Commands.{PrintsSurvey};
+ghost use Rattle.vp_app.specs.Commands.{Side, first_name, info_style, is_plain, is_stream, is_y4m, read_side};
+ghost use Rattle.vp_app.specs.Commands.{status_by_report, status_by_service, written_side, DecodesFile, DecodesInto};
+ghost use Rattle.vp_app.specs.Commands.{Does, DoesCheck};
+ghost use Rattle.vp_app.specs.Commands.{DoesDecode, DoesDecodeRange, DoesInfo, IsFileDecoded, IsFileSurveyed};
+ghost use Rattle.vp_app.specs.Commands.{ListsFile, PrintsSurvey, SurveysFile, SurveysInput, WritesPictures};
+ghost use Rattle.vp_app.specs.Commands.{WritesRange};
 ghost use Rattle.vp_app.specs.Many.{status_by_many};
 ghost use Rattle.vp_app.specs.Status.{status_of};
 ghost use Rattle.vp_args.specs.Args.{parsed_args, faults_of, AreMistaken, ParsedArgs, IsForMemory, IsMistake, IsOfValue};
 ghost use Rattle.vp_args.specs.Args.{IsTaskFor};
 
-use crate::check::check_files;
+use crate::check::{CheckWork, check_files};
 use crate::encode::encode;
-use crate::files::file_fault;
+use crate::encoded::tell_encoded;
+use crate::files::{file_fault, limits_of};
 use crate::hints::{hint_decode, hint_encode, hint_serve};
 use crate::listing::{print_faults, print_survey, report_fault};
 use crate::many::{ManyFault, print_fault, serve_many};
@@ -25,6 +28,8 @@ use crate::outside::Outside;
 use crate::picture::{report_picture, write_picture};
 use crate::range::{decode_packets, report_packets};
 use crate::service::{ServiceFault, serve};
+use crate::styles::LineStyle;
+use crate::sums::{sum_packets, sum_pictures};
 use clap::Error;
 use clap::error::ErrorKind;
 use std::alloc::Global;
@@ -34,10 +39,13 @@ use std::net::{Net, TcpListener, TcpStream};
 use std::rt::{Env, Files};
 use std::time::Clock;
 use std::{env, io};
-use vp_args::{EncodeArgs, Refusal, ServeArgs, ServeManyArgs, Task, read_args};
-use vp_base::{Counted, Limits};
+use vp_args::{
+    CheckArgs, DecodeArgs, DecodeRangeArgs, EncodeArgs, FileLimits, InfoArgs, Refusal, ServeArgs,
+    ServeManyArgs, Task, read_args,
+};
+use vp_base::Counted;
 use vp_encode::{EncodeAllFault, EncodeReport};
-use vp_hints::{Overwrite, Witness, hint_packets};
+use vp_hints::{Meter, Overwrite, Unit, Witness, hint_packets};
 use vp_stream::{DecodeFault, Form, Report, Survey, SurveyFault, decode_all, survey};
 
 /// Runs the command that the arguments ask for; the first argument is the program's name. Returns the exit status: 0, 1
@@ -48,12 +56,16 @@ use vp_stream::{DecodeFault, Form, Report, Survey, SurveyFault, decode_all, surv
 /// printed there too; nothing is read or written then.
 ///
 /// With `--frame N` or `--frames A-B` only the pictures of packet N, or of packets A to B, are written. If one is
-/// missing, `vp8: no packet N: IN has COUNT packets` is printed for the first such packet, and the status is 1.
+/// missing, `vp8: no packet N: IN has COUNT packets` is printed for the first such packet, and the status is 1. With
+/// `--md5` OUT is not written, and the MD5 sum of what it would hold is printed, as md5sum does.
 ///
 /// `vp8 encode IN OUT` writes the pictures of a YUV4MPEG2 file as VP8 in an IVF file, once all are encoded. It prints
 /// `frames N error E` on `errors`: the number of frames, and the sum of their squared errors.
 ///
-/// `vp8 info IN` prints the contents of an IVF file, including the packets' faults.
+/// `vp8 info IN...` prints the contents of IVF files, including the packets' faults; with `--long` also which packets
+/// are read past their end, with `--json` as a JSON document for each file.
+///
+/// With `--progress` these and `encode` print on standard error how far they are, at most twice a second.
 ///
 /// `vp8 check IN...` decodes IVF files, one after another, and prints what is found in each: the numbers of its
 /// packets, and its fault. With `--verbose` a line stands before these for each packet that has a fault or is read past
@@ -69,7 +81,7 @@ use vp_stream::{DecodeFault, Form, Report, Survey, SurveyFault, decode_all, surv
 ///
 /// The file name `-` is `input` or `output`.
 pub fn command<
-    H: Files + AllocGlobal + Clock + Net<Stream = TcpStream, Listener = TcpListener>,
+    H: Files + AllocGlobal + Clock + Eprint + Net<Stream = TcpStream, Listener = TcpListener>,
     R: Read,
     W: Write,
     E: Write,
@@ -93,15 +105,42 @@ pub fn command<
     ensures mistaken { AreMistaken (texts words.now) → (result ≡ 2)
         ⊎ ((result ≡ 1) × (input.new ≡ input.old) × (output.new ≡ output.old)) }
 {
+    let meter = Meter::new(rt);
+    command_metered(rt, &meter, words, input, output, errors)
+}
+
+// Runs a command, as `command` does. A meter tells how far it is.
+fn command_metered<
+    'a,
+    H: Files + AllocGlobal + Clock + Eprint + Net<Stream = TcpStream, Listener = TcpListener>,
+    R: Read,
+    W: Write,
+    E: Write,
+>(
+    rt: &'a H,
+    meter: &'a Meter<'a, H>,
+    words: &[&str],
+    input: &mut Counted<R>,
+    output: &mut Counted<W>,
+    errors: &mut Counted<E>,
+) -> u8
+    ensures status { result ≤ 2 }
+    ensures usage { result ≡ 2 → (input.new ≡ input.old) × (output.new ≡ output.old) }
+    ensures does { faults_of (texts words.now) ≡ [] → Does (parsed_args (texts words.now)) result
+        (read_side R.remaining input.old) (read_side R.remaining input.new)
+        (written_side W.contents output.old) (written_side W.contents output.new) }
+    ensures mistaken { AreMistaken (texts words.now) → (result ≡ 2)
+        ⊎ ((result ≡ 1) × (input.new ≡ input.old) × (output.new ≡ output.old)) }
+{
     match read_args(rt.alloc(), words) {
-        Ok(task) => run_task(&mut Outside::new(rt), &task, input, output, errors),
+        Ok(task) => run_task(&mut Outside::new(rt, meter), &task, input, output, errors),
         Err(refusal) => reject(&refusal, output, errors),
     }
 }
 
 // Runs a task, and returns the exit status.
 fn run_task<
-    H: Files + AllocGlobal + Clock + Net<Stream = TcpStream, Listener = TcpListener>,
+    H: Files + AllocGlobal + Clock + Eprint + Net<Stream = TcpStream, Listener = TcpListener>,
     R: Read,
     W: Write,
     E: Write,
@@ -120,26 +159,14 @@ fn run_task<
         (written_side W.contents output.old) (written_side W.contents output.new) }
 {
     match task {
-        Task::Decode {
-            y4m,
-            input: from,
-            output: to,
-        } => {
-            let done = decode(outside, form_of(*y4m), from, to, input, output);
-            report_decode(outside, done, (from, to), errors)
-        }
-        Task::DecodeRange(wanted) => {
-            let done = decode_packets(outside, form_of(wanted.y4m), wanted, input, output);
-            report_packets(outside, done, wanted, errors)
-        }
+        Task::Decode(decoding) => run_decode(outside, decoding, input, output, errors),
+        Task::DecodeRange(wanted) => run_range(outside, wanted, input, output, errors),
         Task::Encode(encoding) => {
-            let done = encode(outside, encoding, input, output, errors);
+            switch_on(outside, encoding.progress, Unit::Frames);
+            let done = encode(outside, encoding, input, output);
             report_encode(outside, done, encoding, errors)
         }
-        Task::Info { input: from } => {
-            let done = survey_file(outside, from, input);
-            report_survey(outside, done, from, output, errors)
-        }
+        Task::Info(wanted) => run_info(outside, wanted, input, output, errors),
         Task::Serve(service) => {
             let done = serve(outside, service, input, output, errors);
             report_serve(outside, done, service, errors)
@@ -148,7 +175,7 @@ fn run_task<
             let done = serve_many(outside.system(), many, input, output, errors);
             report_serve_many(done, many, errors)
         }
-        Task::Check(wanted) => check_files(outside.system(), wanted, input, output, errors),
+        Task::Check(wanted) => run_check(outside, wanted, input, output, errors),
         Task::Picture(wanted) => {
             let done = write_picture(outside, wanted, input);
             report_picture(outside, &done, wanted, errors)
@@ -157,8 +184,195 @@ fn run_task<
     }
 }
 
+// Lets progress be told, if that is asked for.
+fn switch_on<H>(outside: &Outside<'_, H>, asked: bool, unit: Unit) {
+    if asked {
+        outside.meter().count(unit);
+    }
+}
+
+// Decodes a file, and reports it.
+#[tactic(auto, using(crate::proofs::TaskLemmas::written_pictures, crate::proofs::TaskLemmas::summed_pictures))]
+fn run_decode<H: Files + AllocGlobal + Clock + Eprint, R: Read, W: Write, E: Write>(
+    outside: &mut Outside<'_, H>,
+    decoding: &DecodeArgs<'_>,
+    input: &mut Counted<R>,
+    output: &mut Counted<W>,
+    errors: &mut Counted<E>,
+) -> u8
+    ensures status { result ≤ 1 }
+    ensures does { DoesDecode decoding.now result
+        (read_side R.remaining input.old) (read_side R.remaining input.new)
+        (written_side W.contents output.old) (written_side W.contents output.new) }
+{
+    switch_on(outside, decoding.progress, Unit::Packets);
+    if decoding.md5 {
+        sum_pictures(outside, decoding, input, output, errors)
+    } else {
+        write_pictures(outside, decoding, input, output, errors)
+    }
+}
+
+// Decodes a file, writes its pictures, and reports it.
+fn write_pictures<H: Files + AllocGlobal + Clock + Eprint, R: Read, W: Write, E: Write>(
+    outside: &mut Outside<'_, H>,
+    decoding: &DecodeArgs<'_>,
+    input: &mut Counted<R>,
+    output: &mut Counted<W>,
+    errors: &mut Counted<E>,
+) -> u8
+    ensures status { result ≤ 1 }
+    ensures does { WritesPictures decoding.now result
+        (read_side R.remaining input.old) (read_side R.remaining input.new)
+        (written_side W.contents output.old) (written_side W.contents output.new) }
+{
+    let done = decode(outside, form_of(decoding.y4m), decoding, input, output);
+    report_decode(outside, done, decoding, errors)
+}
+
+// Decodes a range of packets, and reports it.
+#[tactic(auto, using(crate::proofs::TaskLemmas::written_range, crate::proofs::TaskLemmas::summed_range))]
+fn run_range<H: Files + AllocGlobal + Clock + Eprint, R: Read, W: Write, E: Write>(
+    outside: &mut Outside<'_, H>,
+    wanted: &DecodeRangeArgs<'_>,
+    input: &mut Counted<R>,
+    output: &mut Counted<W>,
+    errors: &mut Counted<E>,
+) -> u8
+    ensures status { result ≤ 1 }
+    ensures does { DoesDecodeRange wanted.now result
+        (read_side R.remaining input.old) (read_side R.remaining input.new)
+        (written_side W.contents output.old) (written_side W.contents output.new) }
+{
+    switch_on(outside, wanted.decoding.progress, Unit::Packets);
+    if wanted.decoding.md5 {
+        sum_packets(outside, wanted, input, output, errors)
+    } else {
+        write_range(outside, wanted, input, output, errors)
+    }
+}
+
+// Decodes a range of packets, writes their pictures, and reports it.
+fn write_range<H: Files + AllocGlobal + Clock + Eprint, R: Read, W: Write, E: Write>(
+    outside: &mut Outside<'_, H>,
+    wanted: &DecodeRangeArgs<'_>,
+    input: &mut Counted<R>,
+    output: &mut Counted<W>,
+    errors: &mut Counted<E>,
+) -> u8
+    ensures status { result ≤ 1 }
+    ensures does { WritesRange wanted.now result
+        (read_side R.remaining input.old) (read_side R.remaining input.new)
+        (written_side W.contents output.old) (written_side W.contents output.new) }
+{
+    let done = decode_packets(outside, form_of(wanted.decoding.y4m), wanted, input, output);
+    report_packets(outside, done, wanted, errors)
+}
+
+// Lists files.
+#[tactic(auto, using(crate::proofs::TaskLemmas::listed_file, crate::proofs::TaskLemmas::listed_files))]
+fn run_info<H: Files + AllocGlobal + Clock + Eprint, R: Read, W: Write, E: Write>(
+    outside: &mut Outside<'_, H>,
+    wanted: &InfoArgs<'_>,
+    input: &mut Counted<R>,
+    output: &mut Counted<W>,
+    errors: &mut Counted<E>,
+) -> u8
+    ensures status { result ≤ 1 }
+    ensures does { DoesInfo wanted.now result
+        (read_side R.remaining input.old) (read_side R.remaining input.new)
+        (written_side W.contents output.old) (written_side W.contents output.new) }
+{
+    switch_on(outside, wanted.progress, Unit::Packets);
+    if is_plain(wanted) {
+        let from = first_name(&wanted.files);
+        return list_file(outside, wanted.limits, from, input, output, errors);
+    }
+    let work = CheckWork {
+        limits: wanted.limits,
+        style: info_style(wanted),
+        names: &wanted.files,
+    };
+    check_files(outside, &work, input, output, errors)
+}
+
+// Checks files.
+fn run_check<H: Files + AllocGlobal + Clock + Eprint, R: Read, W: Write, E: Write>(
+    outside: &mut Outside<'_, H>,
+    wanted: &CheckArgs<'_>,
+    input: &mut Counted<R>,
+    output: &mut Counted<W>,
+    errors: &mut Counted<E>,
+) -> u8
+    ensures status { result ≤ 1 }
+    ensures does { DoesCheck wanted.now result
+        (read_side R.remaining input.old) (read_side R.remaining input.new)
+        (written_side W.contents output.old) (written_side W.contents output.new) }
+{
+    switch_on(outside, wanted.progress, Unit::Packets);
+    let work = CheckWork {
+        limits: wanted.limits,
+        style: LineStyle::Counted {
+            verbose: wanted.verbose,
+        },
+        names: &wanted.files,
+    };
+    check_files(outside, &work, input, output, errors)
+}
+
+// The first name, if there is one.
+#[tactic(auto, using(crate::proofs::TaskLemmas::first_of_some, crate::proofs::TaskLemmas::first_of_none))]
+fn first_name<'a>(names: &[&'a str]) -> &'a str
+    ensures { result.now ≡ first_name (texts names.now) }
+{
+    match names {
+        [name, ..] => name,
+        [] => "",
+    }
+}
+
+// Whether the lines of one file are asked for, without marks.
+fn is_plain(wanted: &InfoArgs<'_>) -> bool
+    ensures { result ≡ is_plain wanted.now }
+{
+    let marked = wanted.long || wanted.json;
+    wanted.files.len() == 1 && !marked
+}
+
+// Returns the form of the lines otherwise.
+fn info_style(wanted: &InfoArgs<'_>) -> LineStyle
+    ensures { result ≡ info_style wanted.now }
+{
+    if wanted.json {
+        LineStyle::Json
+    } else {
+        LineStyle::Packets {
+            long: wanted.long,
+            named: 1 < wanted.files.len(),
+        }
+    }
+}
+
+// Surveys a file, and prints what is found.
+fn list_file<H: Files + AllocGlobal + Clock + Eprint, R: Read, W: Write, E: Write>(
+    outside: &mut Outside<'_, H>,
+    limits: FileLimits,
+    from: &str,
+    input: &mut Counted<R>,
+    output: &mut Counted<W>,
+    errors: &mut Counted<E>,
+) -> u8
+    ensures status { result ≤ 1 }
+    ensures lists { ListsFile limits from.now result
+        (read_side R.remaining input.old) (read_side R.remaining input.new)
+        (written_side W.contents output.old) (written_side W.contents output.new) }
+{
+    let done = survey_file(outside, limits, from, input);
+    report_survey(outside, done, from, output, errors)
+}
+
 // Returns the form of the pictures: YUV4MPEG2, or I420.
-fn form_of(y4m: bool) -> Form
+pub(crate) fn form_of(y4m: bool) -> Form
     ensures { is_y4m result ≡ y4m }
 {
     if y4m { Form::Y4m } else { Form::I420 }
@@ -183,31 +397,36 @@ fn reject<W: Write, E: Write>(
 }
 
 // Opens the files, and decodes. The output must not be the input file, because creating it would empty it.
-fn decode<H: Files + AllocGlobal, R: Read, W: Write>(
+fn decode<H: Files + AllocGlobal + Clock + Eprint, R: Read, W: Write>(
     outside: &mut Outside<'_, H>,
     form: Form,
-    from: &str,
-    to: &str,
+    decoding: &DecodeArgs<'_>,
     input: &mut Counted<R>,
     output: &mut Counted<W>,
 ) -> Result<Report, DecodeFault>
-    ensures decoded { DecodesFile form from.now to.now result
+    ensures decoded { DecodesFile decoding.now.limits form decoding.now.input.now decoding.now.output.now result
         (read_side R.remaining input.old) (read_side R.remaining input.new)
         (written_side W.contents output.old) (written_side W.contents output.new) }
-    ensures unread { is_stream from.now ≡ false → input.new ≡ input.old }
-    ensures unwritten { is_stream to.now ≡ false → output.new ≡ output.old }
+    ensures unread { is_stream decoding.now.input.now ≡ false → input.new ≡ input.old }
+    ensures unwritten { is_stream decoding.now.output.now ≡ false → output.new ≡ output.old }
 {
-    if from == "-" {
-        return decode_into(outside, form, to, input, output);
+    if decoding.input == "-" {
+        return decode_into(outside, form, decoding, input, output);
     }
-    if from == to {
+    if decoding.input == decoding.output {
         outside.is_one_file = true;
         return Err(DecodeFault::Device);
     }
-    match outside.open(from) {
+    match outside.open_metered(decoding.input) {
         Ok(mut file) => {
-            let done = decode_into(outside, form, to, &mut Counted::new(&mut file), output);
-            outside.has_read(file);
+            let done = decode_into(
+                outside,
+                form,
+                decoding,
+                &mut Counted::new(&mut file),
+                output,
+            );
+            outside.has_read(file.into_witness());
             done
         }
         Err(error) => Err(file_fault(&error, DecodeFault::Device, DecodeFault::Memory)),
@@ -218,21 +437,21 @@ fn decode<H: Files + AllocGlobal, R: Read, W: Write>(
 fn decode_into<H: Files + AllocGlobal, R: Read, W: Write>(
     outside: &mut Outside<'_, H>,
     form: Form,
-    to: &str,
+    decoding: &DecodeArgs<'_>,
     input: &mut Counted<R>,
     output: &mut Counted<W>,
 ) -> Result<Report, DecodeFault>
-    ensures decoded { DecodesInto form to.now result
+    ensures decoded { DecodesInto decoding.now.limits form decoding.now.output.now result
         (read_side R.remaining input.old) (read_side R.remaining input.new)
         (written_side W.contents output.old) (written_side W.contents output.new) }
-    ensures unwritten { is_stream to.now ≡ false → output.new ≡ output.old }
+    ensures unwritten { is_stream decoding.now.output.now ≡ false → output.new ≡ output.old }
 {
-    if to == "-" {
-        return decode_over(outside.alloc(), form, input, output);
+    if decoding.output == "-" {
+        return decode_over(outside.alloc(), form, decoding.limits, input, output);
     }
-    match outside.make(to) {
+    match outside.make(decoding.output) {
         Ok(mut file) => {
-            let done = decode_into_file(outside.alloc(), form, input, &mut file);
+            let done = decode_into_file(outside.alloc(), form, decoding.limits, input, &mut file);
             outside.has_written(&file);
             done
         }
@@ -244,75 +463,86 @@ fn decode_into<H: Files + AllocGlobal, R: Read, W: Write>(
 fn decode_into_file<R: Read, F: OpenFile + Write>(
     alloc: Global,
     form: Form,
+    limits: FileLimits,
     input: &mut Counted<R>,
     file: &mut Witness<Overwrite<F>>,
 ) -> Result<Report, DecodeFault>
-    ensures { (a : Side) × (b : Side) × IsFileDecoded form result
+    ensures { (a : Side) × (b : Side) × IsFileDecoded limits form result
         (read_side R.remaining input.old) (read_side R.remaining input.new) a b }
 {
-    let done = decode_over(alloc, form, input, &mut Counted::new(&mut *file));
+    let done = decode_over(alloc, form, limits, input, &mut Counted::new(&mut *file));
     if done.is_ok() && file.finish().is_err() {
         return Err(DecodeFault::Device);
     }
     done
 }
 
-fn decode_over<R: Read, W: Write>(
+pub(crate) fn decode_over<R: Read, W: Write>(
     alloc: Global,
     form: Form,
+    limits: FileLimits,
     input: &mut Counted<R>,
     output: &mut Counted<W>,
 ) -> Result<Report, DecodeFault>
-    ensures { IsFileDecoded form result
+    ensures { IsFileDecoded limits form result
         (read_side R.remaining input.old) (read_side R.remaining input.new)
         (written_side W.contents output.old) (written_side W.contents output.new) }
 {
-    decode_all(alloc, input, output, form, Limits::usual())
+    decode_all(alloc, input, output, form, limits_of(limits))
 }
 
 // Opens the file, and surveys it.
 #[tactic(auto, using(crate::proofs::CommandLemmas::look_stream, crate::proofs::CommandLemmas::look_file, crate::proofs::CommandLemmas::look_none))]
-fn survey_file<H: Files + AllocGlobal, R: Read>(
+fn survey_file<H: Files + AllocGlobal + Clock + Eprint, R: Read>(
     outside: &mut Outside<'_, H>,
+    limits: FileLimits,
     from: &str,
     input: &mut Counted<R>,
 ) -> Result<Survey, DecodeFault>
-    ensures looked { SurveysFile from.now result (read_side R.remaining input.old) (read_side R.remaining input.new) }
+    ensures looked { SurveysFile limits from.now result (read_side R.remaining input.old) (read_side R.remaining input.new) }
     ensures unread { is_stream from.now ≡ false → input.new ≡ input.old }
 {
     if from == "-" {
-        return survey_input(outside.alloc(), input);
+        return survey_input(outside.alloc(), limits, input);
     }
-    match outside.open(from) {
+    match outside.open_metered(from) {
         Ok(mut file) => {
-            let done = survey_input(outside.alloc(), &mut Counted::new(&mut file));
-            outside.has_read(file);
+            let done = survey_input(outside.alloc(), limits, &mut Counted::new(&mut file));
+            outside.has_read(file.into_witness());
             done
         }
         Err(error) => Err(file_fault(&error, DecodeFault::Device, DecodeFault::Memory)),
     }
 }
 
-fn survey_input<R: Read>(alloc: Global, input: &mut Counted<R>) -> Result<Survey, DecodeFault>
-    ensures { SurveysInput result (read_side R.remaining input.old) (read_side R.remaining input.new) }
+fn survey_input<R: Read>(
+    alloc: Global,
+    limits: FileLimits,
+    input: &mut Counted<R>,
+) -> Result<Survey, DecodeFault>
+    ensures { SurveysInput limits result (read_side R.remaining input.old) (read_side R.remaining input.new) }
 {
-    match survey_over(alloc, input) {
+    match survey_over(alloc, limits, input) {
         Ok(survey) => Ok(survey),
         Err(fault) => Err(DecodeFault::from(fault)),
     }
 }
 
-fn survey_over<R: Read>(alloc: Global, input: &mut Counted<R>) -> Result<Survey, SurveyFault>
-    ensures { IsFileSurveyed result (read_side R.remaining input.old) (read_side R.remaining input.new) }
+fn survey_over<R: Read>(
+    alloc: Global,
+    limits: FileLimits,
+    input: &mut Counted<R>,
+) -> Result<Survey, SurveyFault>
+    ensures { IsFileSurveyed limits result (read_side R.remaining input.old) (read_side R.remaining input.new) }
 {
-    survey(alloc, input, Limits::usual())
+    survey(alloc, input, limits_of(limits))
 }
 
 // Prints the faults, and returns the exit status.
-fn report_decode<H: AllocGlobal, E: Write>(
+pub(crate) fn report_decode<H: AllocGlobal, E: Write>(
     outside: &Outside<'_, H>,
     done: Result<Report, DecodeFault>,
-    files: (&str, &str),
+    decoding: &DecodeArgs<'_>,
     errors: &mut Counted<E>,
 ) -> u8
     ensures status { result ≡ status_of done }
@@ -322,6 +552,7 @@ fn report_decode<H: AllocGlobal, E: Write>(
         Ok(report) => report,
         Err(fault) => {
             let status = report_fault(fault, errors);
+            let files = (decoding.input, decoding.output);
             let _ = hint_decode(outside, fault, files, errors);
             return status;
         }
@@ -344,6 +575,7 @@ fn report_encode<H, E: Write>(
     match done {
         Ok(report) => {
             let _ = writeln!(errors, "frames {} error {}", report.frames, report.error);
+            let _ = tell_encoded(outside, &report, errors);
             0
         }
         Err(fault) => {
@@ -469,18 +701,26 @@ fn report_serve_many<E: Write>(
     }
 }
 
-/// Runs the program with its own command line, as `command` does. An argument that isn't UTF-8 is a usage error.
+/// Runs the program with its own command line, as `command` does. An argument that isn't UTF-8 is a usage error. If
+/// progress is asked for, the meter tells it; what it knows of standard input its reader has to tell it.
 pub fn command_line<
-    H: Files + AllocGlobal + Clock + Env + Net<Stream = TcpStream, Listener = TcpListener>,
+    'a,
+    H: Files + AllocGlobal + Clock + Env + Eprint + Net<Stream = TcpStream, Listener = TcpListener>,
     R: Read,
     W: Write,
     E: Write,
->(rt: &H, input: &mut Counted<R>, output: &mut Counted<W>, errors: &mut Counted<E>) -> u8
+>(
+    rt: &'a H,
+    meter: &'a Meter<'a, H>,
+    input: &mut Counted<R>,
+    output: &mut Counted<W>,
+    errors: &mut Counted<E>,
+) -> u8
     ensures status { result ≤ 2 }
     ensures usage { result ≡ 2 → (input.new ≡ input.old) × (output.new ≡ output.old) }
 {
     match owned_words(rt) {
-        Ok(words) => owned_command(rt, &words, input, output, errors),
+        Ok(words) => owned_command(rt, meter, &words, input, output, errors),
         Err(WordsFault::Memory) => report_fault(DecodeFault::Memory, errors),
         Err(WordsFault::Text) => report_usage_error("a word isn't UTF-8", errors),
     }
@@ -510,12 +750,14 @@ fn owned_words<H: AllocGlobal + Env>(rt: &H) -> Result<Vec<String>, WordsFault> 
 
 // Runs the command that these arguments ask for.
 fn owned_command<
-    H: Files + AllocGlobal + Clock + Net<Stream = TcpStream, Listener = TcpListener>,
+    'a,
+    H: Files + AllocGlobal + Clock + Eprint + Net<Stream = TcpStream, Listener = TcpListener>,
     R: Read,
     W: Write,
     E: Write,
 >(
-    rt: &H,
+    rt: &'a H,
+    meter: &'a Meter<'a, H>,
     words: &[String],
     input: &mut Counted<R>,
     output: &mut Counted<W>,
@@ -529,7 +771,7 @@ fn owned_command<
         .map(|word| word.as_str())
         .collect::<Vec<&str>>(rt.alloc())
     {
-        Ok(words) => command(rt, &words, input, output, errors),
+        Ok(words) => command_metered(rt, meter, &words, input, output, errors),
         Err(_) => report_fault(DecodeFault::Memory, errors),
     }
 }

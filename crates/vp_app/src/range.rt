@@ -4,47 +4,48 @@ ghost use Rattle.std.specs.Prelude.{◌≡◌, ◌≤◌, false};
 ghost use Rattle.vp_app.specs.Commands.{Side, is_stream, read_side, status_by_range, written_side, DecodesRange};
 ghost use Rattle.vp_app.specs.Commands.{DecodesRangeInto, IsFileRangeDecoded};
 
-use crate::files::file_fault;
-use crate::hints::hint_decode;
+use crate::files::{file_fault, limits_of};
+use crate::hints::{hint_missing, hint_range};
 use crate::listing::{print_faults, report_fault};
 use crate::outside::Outside;
 use std::alloc::Global;
 use std::fs::OpenFile;
 use std::io::{Read, Write};
 use std::rt::Files;
+use std::time::Clock;
 use vp_args::DecodeRangeArgs;
-use vp_base::{Counted, Limits};
+use vp_base::Counted;
 use vp_frames::{PacketRange, RangeReport, decode_range};
 use vp_hints::{Overwrite, Witness, hint_packets};
 use vp_stream::{DecodeFault, Form};
 
 /// Opens the files, and decodes the pictures of the range. The output must not be the input file, because creating it
 /// would empty it.
-pub(crate) fn decode_packets<H: Files + AllocGlobal, R: Read, W: Write>(
+pub(crate) fn decode_packets<H: Files + AllocGlobal + Clock + Eprint, R: Read, W: Write>(
     outside: &mut Outside<'_, H>,
     form: Form,
     wanted: &DecodeRangeArgs<'_>,
     input: &mut Counted<R>,
     output: &mut Counted<W>,
 ) -> Result<RangeReport, DecodeFault>
-    ensures decoded { DecodesRange form wanted.now.first wanted.now.last
-        wanted.now.input.now wanted.now.output.now result
+    ensures decoded { DecodesRange wanted.now.decoding.limits form wanted.now.first wanted.now.last
+        wanted.now.decoding.input.now wanted.now.decoding.output.now result
         (read_side R.remaining input.old) (read_side R.remaining input.new)
         (written_side W.contents output.old) (written_side W.contents output.new) }
-    ensures unread { is_stream wanted.now.input.now ≡ false → input.new ≡ input.old }
-    ensures unwritten { is_stream wanted.now.output.now ≡ false → output.new ≡ output.old }
+    ensures unread { is_stream wanted.now.decoding.input.now ≡ false → input.new ≡ input.old }
+    ensures unwritten { is_stream wanted.now.decoding.output.now ≡ false → output.new ≡ output.old }
 {
-    if wanted.input == "-" {
+    if wanted.decoding.input == "-" {
         return decode_into(outside, form, wanted, input, output);
     }
-    if wanted.input == wanted.output {
+    if wanted.decoding.input == wanted.decoding.output {
         outside.is_one_file = true;
         return Err(DecodeFault::Device);
     }
-    match outside.open(wanted.input) {
+    match outside.open_metered(wanted.decoding.input) {
         Ok(mut file) => {
             let done = decode_into(outside, form, wanted, &mut Counted::new(&mut file), output);
-            outside.has_read(file);
+            outside.has_read(file.into_witness());
             done
         }
         Err(error) => Err(file_fault(&error, DecodeFault::Device, DecodeFault::Memory)),
@@ -59,15 +60,16 @@ fn decode_into<H: Files + AllocGlobal, R: Read, W: Write>(
     input: &mut Counted<R>,
     output: &mut Counted<W>,
 ) -> Result<RangeReport, DecodeFault>
-    ensures decoded { DecodesRangeInto form wanted.now.first wanted.now.last wanted.now.output.now result
+    ensures decoded { DecodesRangeInto wanted.now.decoding.limits form wanted.now.first wanted.now.last
+        wanted.now.decoding.output.now result
         (read_side R.remaining input.old) (read_side R.remaining input.new)
         (written_side W.contents output.old) (written_side W.contents output.new) }
-    ensures unwritten { is_stream wanted.now.output.now ≡ false → output.new ≡ output.old }
+    ensures unwritten { is_stream wanted.now.decoding.output.now ≡ false → output.new ≡ output.old }
 {
-    if wanted.output == "-" {
+    if wanted.decoding.output == "-" {
         return decode_over(outside.alloc(), form, wanted, input, output);
     }
-    match outside.make(wanted.output) {
+    match outside.make(wanted.decoding.output) {
         Ok(mut file) => {
             let done = decode_into_file(outside.alloc(), form, wanted, input, &mut file);
             outside.has_written(&file);
@@ -85,7 +87,7 @@ fn decode_into_file<R: Read, F: OpenFile + Write>(
     input: &mut Counted<R>,
     file: &mut Witness<Overwrite<F>>,
 ) -> Result<RangeReport, DecodeFault>
-    ensures { (a : Side) × (b : Side) × IsFileRangeDecoded form wanted.now.first wanted.now.last result
+    ensures { (a : Side) × (b : Side) × IsFileRangeDecoded wanted.now.decoding.limits form wanted.now.first wanted.now.last result
         (read_side R.remaining input.old) (read_side R.remaining input.new) a b }
 {
     let done = decode_over(alloc, form, wanted, input, &mut Counted::new(&mut *file));
@@ -95,14 +97,14 @@ fn decode_into_file<R: Read, F: OpenFile + Write>(
     done
 }
 
-fn decode_over<R: Read, W: Write>(
+pub(crate) fn decode_over<R: Read, W: Write>(
     alloc: Global,
     form: Form,
     wanted: &DecodeRangeArgs<'_>,
     input: &mut Counted<R>,
     output: &mut Counted<W>,
 ) -> Result<RangeReport, DecodeFault>
-    ensures { IsFileRangeDecoded form wanted.now.first wanted.now.last result
+    ensures { IsFileRangeDecoded wanted.now.decoding.limits form wanted.now.first wanted.now.last result
         (read_side R.remaining input.old) (read_side R.remaining input.new)
         (written_side W.contents output.old) (written_side W.contents output.new) }
 {
@@ -112,7 +114,7 @@ fn decode_over<R: Read, W: Write>(
         output,
         form,
         range_of(wanted),
-        Limits::usual(),
+        limits_of(wanted.decoding.limits),
     )
 }
 
@@ -141,7 +143,7 @@ pub(crate) fn report_packets<H: AllocGlobal, E: Write>(
         Ok(report) => report,
         Err(fault) => {
             let status = report_fault(fault, errors);
-            let _ = hint_decode(outside, fault, (wanted.input, wanted.output), errors);
+            let _ = hint_range(outside, fault, wanted, errors);
             return status;
         }
     };
@@ -156,9 +158,10 @@ pub(crate) fn report_packets<H: AllocGlobal, E: Write>(
 
 // Prints the first packet of the range that is missing.
 fn print_missing<E: Write>(count: u32, wanted: &DecodeRangeArgs<'_>, errors: &mut Counted<E>) {
-    let (number, name) = (count.max(wanted.first), wanted.input);
+    let (number, name) = (count.max(wanted.first), wanted.decoding.input);
     let _ = writeln!(
         errors,
         "vp8: no packet {number}: {name} has {count} packets"
     );
+    let _ = hint_missing(name, errors);
 }

@@ -19,7 +19,7 @@ ghost use Rattle.vp_app.specs.Feeding.{FeedsPiece, IsFed};
 ghost use Rattle.vp_app.specs.Serving.{AreFilesFed, IsFileFed, IsNewHub, IsServed, IsServing, names_of};
 
 use crate::files::file_fault;
-use crate::hints::hint_odd_files;
+use crate::hints::{hint_connection, hint_odd_files};
 use crate::outside::Outside;
 use std::alloc::{AllocError, Global};
 use std::io::{Read, Write};
@@ -29,6 +29,7 @@ use std::time::Duration;
 use std::{fmt, io};
 use vp_args::{NamedFile, ServeArgs};
 use vp_base::{ByteList, Counted, Limits};
+use vp_hints::Meter;
 use vp_hub::{Event, Hub, HubFault, NewFault, ServeFault, serve_one};
 
 /// The reasons for which nothing is served.
@@ -137,7 +138,8 @@ pub fn listen<H: AllocGlobal + Net<Stream = TcpStream, Listener = TcpListener>, 
     ensures quiet { service.now.show_address ≡ false → output.new ≡ output.old }
     ensures names { result ≢ Err ServiceFault.Names }
 {
-    listen_on(&mut Outside::new(rt), service, output)
+    let meter = Meter::new(rt);
+    listen_on(&mut Outside::new(rt, &meter), service, output)
 }
 
 // Listens on the address, and prints it if that is asked for. Remembers why the address is refused.
@@ -258,7 +260,8 @@ pub fn feed_all<H: Files + AllocGlobal, R: Read>(
         (counted_remaining R.remaining input.old) (counted_remaining R.remaining input.new)) }
     ensures names { result ≢ Err ServiceFault.Names }
 {
-    feed_each(&mut Outside::new(rt), hub, streams, input)
+    let meter = Meter::new(rt);
+    feed_each(&mut Outside::new(rt, &meter), hub, streams, input)
 }
 
 // Feeds each stream its file, and marks its end. Remembers which stream's file is refused.
@@ -414,6 +417,7 @@ pub fn serve_each<E: Write>(
     for number in 0..connections {
         if let Err(fault) = serve_next(hub, listener, number) {
             let _ = writeln!(errors, "vp8: {fault}");
+            let _ = hint_connection(number, fault, errors);
             well = false;
         }
     }

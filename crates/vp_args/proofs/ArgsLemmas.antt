@@ -19,10 +19,10 @@ use Rattle.clap.specs.declared.parser.matches.ArgMatches.{ArgMatches}
 use Rattle.vp_args.specs.Tables.{part_app, with_parts, word_rule}
 use Rattle.vp_args.specs.declared.words.Part.{Part}
 use Rattle.vp_args.specs.declared.words.Word.{Word}
-use Rattle.vp_args.specs.declared.args.Task.TheVariants.{Info, Nothing}
+use Rattle.vp_args.specs.declared.args.Task.TheVariants.{Nothing}
 use Rattle.vp_args.specs.declared.args.Refusal.{Refusal}
 use Rattle.vp_args.specs.declared.args.Refusal.TheVariants.{Words, Value}
-use Rattle.vp_args.specs.Args.{ParsedArgs, serves, tells, check_app, decode_app, encode_app, faults_of, info_app, picture_app, serve_app, vp8_app, Gains, IsFlag, IsForMemory, IsNoNaming, IsTaskFor, is_equals, is_parted, program, with_operand, with_rules, with_service, asks_many}
+use Rattle.vp_args.specs.Args.{ParsedArgs, serves, check_app, decode_app, encode_app, faults_of, info_app, picture_app, serve_app, vp8_app, Gains, IsFlag, IsForMemory, IsNoNaming, IsTaskFor, is_equals, is_parted, program, with_rules, with_service, asks_many}
 
 -- ---- the commands
 
@@ -101,12 +101,6 @@ pub flag_is : (text : Option Text) (flag : Bool) → (text ≡ None → flag ≡
     → (text ≡ Some (codes "false") → flag ≡ false) → IsFlag text flag
 flag_is None flag absent set unset = absent refl
 flag_is (Some t) flag absent set unset = (λ e. set (rw e refl), λ e. unset (rw e refl))
-
-pub to_tell : (from : Option Text) (input : Bor Text) → Some input.now ≡ from → IsTaskFor (with_operand tells from) (Info input)
-to_tell from input e = rw (← e) refl
-
-pub no_operand : (from : Option Text) → from ≡ None → IsTaskFor (with_operand tells from) Nothing
-no_operand from e = rw e tt
 
 pub to_serve : (rows : List Row) (address connections : Option Text) (operands : Option (List Text)) (a c : Text) (o : List Text)
     → Some a ≡ address → Some c ≡ connections → Some o ≡ operands → (P : ParsedArgs → Type 0) → P (serves rows a c o)

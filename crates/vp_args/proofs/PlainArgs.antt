@@ -7,64 +7,106 @@ use Rattle.clap.specs.Simple.{subcommand_of}
 use Rattle.clap.proofs.OnLiterals.{clap_on_literals}
 use Rattle.vp_args.specs.Args.{parsed_args, parsed_command, asks_many, checks, decodes, decodes_range, faults_of, pictures, program, tells, IsOperand}
 
-info_taken_by : (many : Bool) (name input : Text) → IsOperand input → fault_of (program many) (name ∷ codes "info" ∷ input ∷ []) ≡ []
-unfolding program clap_on_literals
-info_taken_by many name input h = rw (h.separator, h.long, h.short) refl
-
-pub info_taken : (name input : Text) → IsOperand input → faults_of (name ∷ codes "info" ∷ input ∷ []) ≡ []
-info_taken name input h = info_taken_by (asks_many (name ∷ codes "info" ∷ input ∷ [])) name input h
-
-info_asked_by : (many : Bool) (name input : Text) → IsOperand input
-    → parsed_command (subcommand_of (program many) (name ∷ codes "info" ∷ input ∷ [])) ≡ tells input
-unfolding program clap_on_literals
-info_asked_by many name input h = rw (h.separator, h.long, h.short) refl
-
-pub info_asked : (name input : Text) → IsOperand input → parsed_args (name ∷ codes "info" ∷ input ∷ []) ≡ tells input
-info_asked name input h = info_asked_by (asks_many (name ∷ codes "info" ∷ input ∷ [])) name input h
-
-decode_taken_by : (many : Bool) (name input output : Text) → IsOperand input → IsOperand output
-    → fault_of (program many) (name ∷ codes "decode" ∷ input ∷ output ∷ []) ≡ []
-unfolding program clap_on_literals
-decode_taken_by many name input output h k = rw (h.separator, h.long, h.short, k.separator, k.long, k.short) refl
-
-pub decode_taken : (name input output : Text) → IsOperand input → IsOperand output
-    → faults_of (name ∷ codes "decode" ∷ input ∷ output ∷ []) ≡ []
-decode_taken name input output h k = decode_taken_by (asks_many (name ∷ codes "decode" ∷ input ∷ output ∷ [])) name input output h k
-
-decode_asked_by : (many : Bool) (name input output : Text) → IsOperand input → IsOperand output
-    → parsed_command (subcommand_of (program many) (name ∷ codes "decode" ∷ input ∷ output ∷ [])) ≡ decodes (Some (codes "false")) input output
-unfolding program clap_on_literals
-decode_asked_by many name input output h k = rw (h.separator, h.long, h.short, k.separator, k.long, k.short) refl
-
-pub decode_asked : (name input output : Text) → IsOperand input → IsOperand output
-    → parsed_args (name ∷ codes "decode" ∷ input ∷ output ∷ []) ≡ decodes (Some (codes "false")) input output
-decode_asked name input output h k = decode_asked_by (asks_many (name ∷ codes "decode" ∷ input ∷ output ∷ [])) name input output h k
-
-y4m_taken_by : (many : Bool) (name input output : Text) → IsOperand input → IsOperand output
-    → fault_of (program many) (name ∷ codes "decode" ∷ codes "--y4m" ∷ input ∷ output ∷ []) ≡ []
-unfolding program clap_on_literals
-y4m_taken_by many name input output h k = rw (h.separator, h.long, h.short, k.separator, k.long, k.short) refl
-
-pub y4m_taken : (name input output : Text) → IsOperand input → IsOperand output
-    → faults_of (name ∷ codes "decode" ∷ codes "--y4m" ∷ input ∷ output ∷ []) ≡ []
-y4m_taken name input output h k = y4m_taken_by (asks_many (name ∷ codes "decode" ∷ codes "--y4m" ∷ input ∷ output ∷ [])) name input output h k
-
-y4m_asked_by : (many : Bool) (name input output : Text) → IsOperand input → IsOperand output
-    → parsed_command (subcommand_of (program many) (name ∷ codes "decode" ∷ codes "--y4m" ∷ input ∷ output ∷ []))
-    ≡ decodes (Some (codes "true")) input output
-unfolding program clap_on_literals
-y4m_asked_by many name input output h k = rw (h.separator, h.long, h.short, k.separator, k.long, k.short) refl
-
-pub y4m_asked : (name input output : Text) → IsOperand input → IsOperand output
-    → parsed_args (name ∷ codes "decode" ∷ codes "--y4m" ∷ input ∷ output ∷ []) ≡ decodes (Some (codes "true")) input output
-y4m_asked name input output h k = y4m_asked_by (asks_many (name ∷ codes "decode" ∷ codes "--y4m" ∷ input ∷ output ∷ [])) name input output h k
-
--- ---- a picture as a file
-
 -- the options and operands of a subcommand
 rows_in : Option (Text × List Row) → List Row
 rows_in None = []
 rows_in (Some p) = p.1
+
+abbrev info_words : Text → Text → List Text
+info_words name input = name ∷ codes "info" ∷ input ∷ []
+
+info_taken_by : (many : Bool) (name input : Text) → IsOperand input → fault_of (program many) (info_words name input) ≡ []
+unfolding program clap_on_literals
+info_taken_by many name input h = rw (h.separator, h.long, h.short) refl
+
+pub info_taken : (name input : Text) → IsOperand input → faults_of (info_words name input) ≡ []
+info_taken name input h = info_taken_by (asks_many (info_words name input)) name input h
+
+abbrev info_rows : Bool → Text → Text → List Row
+info_rows many name input = rows_in (subcommand_of (program many) (info_words name input))
+
+info_asked_by : (many : Bool) (name input : Text) → IsOperand input
+    → (parsed_command (subcommand_of (program many) (info_words name input)) ≡ tells (info_rows many name input) (input ∷ []))
+    × (one_of (codes "long") (info_rows many name input) ≡ Some (codes "false"))
+    × (one_of (codes "json") (info_rows many name input) ≡ Some (codes "false"))
+    × (first_of (codes "max-packets") (info_rows many name input) ≡ None)
+    × (first_of (codes "max-pixels") (info_rows many name input) ≡ None)
+unfolding program clap_on_literals rows_in
+info_asked_by many name input h = rw (h.separator, h.long, h.short) (refl, refl, refl, refl, refl)
+
+pub info_asked : (name input : Text) → IsOperand input
+    → (rows : List Row) × (parsed_args (info_words name input) ≡ tells rows (input ∷ [])) × (one_of (codes "long") rows ≡ Some (codes "false"))
+    × (one_of (codes "json") rows ≡ Some (codes "false")) × (first_of (codes "max-packets") rows ≡ None) × (first_of (codes "max-pixels") rows ≡ None)
+info_asked name input h =
+    let many = asks_many (info_words name input) in
+    let asked = info_asked_by many name input h in
+    (info_rows many name input, asked.0, asked.1, asked.2, asked.3, asked.4)
+
+abbrev decode_words : Text → Text → Text → List Text
+decode_words name input output = name ∷ codes "decode" ∷ input ∷ output ∷ []
+
+decode_taken_by : (many : Bool) (name input output : Text) → IsOperand input → IsOperand output
+    → fault_of (program many) (decode_words name input output) ≡ []
+unfolding program clap_on_literals
+decode_taken_by many name input output h k = rw (h.separator, h.long, h.short, k.separator, k.long, k.short) refl
+
+pub decode_taken : (name input output : Text) → IsOperand input → IsOperand output
+    → faults_of (decode_words name input output) ≡ []
+decode_taken name input output h k = decode_taken_by (asks_many (decode_words name input output)) name input output h k
+
+abbrev decode_rows : Bool → Text → Text → Text → List Row
+decode_rows many name input output = rows_in (subcommand_of (program many) (decode_words name input output))
+
+decode_asked_by : (many : Bool) (name input output : Text) → IsOperand input → IsOperand output
+    → (parsed_command (subcommand_of (program many) (decode_words name input output)) ≡ decodes (decode_rows many name input output) input output)
+    × (one_of (codes "y4m") (decode_rows many name input output) ≡ Some (codes "false"))
+    × (one_of (codes "md5") (decode_rows many name input output) ≡ Some (codes "false"))
+    × (first_of (codes "max-packets") (decode_rows many name input output) ≡ None)
+    × (first_of (codes "max-pixels") (decode_rows many name input output) ≡ None)
+unfolding program clap_on_literals rows_in
+decode_asked_by many name input output h k = rw (h.separator, h.long, h.short, k.separator, k.long, k.short) (refl, refl, refl, refl, refl)
+
+pub decode_asked : (name input output : Text) → IsOperand input → IsOperand output
+    → (rows : List Row) × (parsed_args (decode_words name input output) ≡ decodes rows input output) × (one_of (codes "y4m") rows ≡ Some (codes "false"))
+    × (one_of (codes "md5") rows ≡ Some (codes "false")) × (first_of (codes "max-packets") rows ≡ None) × (first_of (codes "max-pixels") rows ≡ None)
+decode_asked name input output h k =
+    let many = asks_many (decode_words name input output) in
+    let asked = decode_asked_by many name input output h k in
+    (decode_rows many name input output, asked.0, asked.1, asked.2, asked.3, asked.4)
+
+abbrev y4m_words : Text → Text → Text → List Text
+y4m_words name input output = name ∷ codes "decode" ∷ codes "--y4m" ∷ input ∷ output ∷ []
+
+y4m_taken_by : (many : Bool) (name input output : Text) → IsOperand input → IsOperand output
+    → fault_of (program many) (y4m_words name input output) ≡ []
+unfolding program clap_on_literals
+y4m_taken_by many name input output h k = rw (h.separator, h.long, h.short, k.separator, k.long, k.short) refl
+
+pub y4m_taken : (name input output : Text) → IsOperand input → IsOperand output
+    → faults_of (y4m_words name input output) ≡ []
+y4m_taken name input output h k = y4m_taken_by (asks_many (y4m_words name input output)) name input output h k
+
+abbrev y4m_rows : Bool → Text → Text → Text → List Row
+y4m_rows many name input output = rows_in (subcommand_of (program many) (y4m_words name input output))
+
+y4m_asked_by : (many : Bool) (name input output : Text) → IsOperand input → IsOperand output
+    → (parsed_command (subcommand_of (program many) (y4m_words name input output)) ≡ decodes (y4m_rows many name input output) input output)
+    × (one_of (codes "y4m") (y4m_rows many name input output) ≡ Some (codes "true"))
+    × (one_of (codes "md5") (y4m_rows many name input output) ≡ Some (codes "false"))
+    × (first_of (codes "max-packets") (y4m_rows many name input output) ≡ None)
+    × (first_of (codes "max-pixels") (y4m_rows many name input output) ≡ None)
+unfolding program clap_on_literals rows_in
+y4m_asked_by many name input output h k = rw (h.separator, h.long, h.short, k.separator, k.long, k.short) (refl, refl, refl, refl, refl)
+
+pub y4m_asked : (name input output : Text) → IsOperand input → IsOperand output
+    → (rows : List Row) × (parsed_args (y4m_words name input output) ≡ decodes rows input output) × (one_of (codes "y4m") rows ≡ Some (codes "true"))
+    × (one_of (codes "md5") rows ≡ Some (codes "false")) × (first_of (codes "max-packets") rows ≡ None) × (first_of (codes "max-pixels") rows ≡ None)
+y4m_asked name input output h k =
+    let many = asks_many (y4m_words name input output) in
+    let asked = y4m_asked_by many name input output h k in
+    (y4m_rows many name input output, asked.0, asked.1, asked.2, asked.3, asked.4)
+
+-- ---- a picture as a file
 
 abbrev still_words : Text → Text → Text → List Text
 still_words name input output = name ∷ codes "picture" ∷ input ∷ output ∷ []

@@ -16,7 +16,11 @@ use Rattle.clap.specs.declared.builder.command.Command.TheViews.{out-Command as 
 use Rattle.clap.specs.declared.builder.action.ArgAction.TheVariants.{Set, Append, SetTrue}
 use Rattle.clap.specs.declared.error.kind.ErrorKind.TheVariants.{DisplayHelp, DisplayVersion, OutOfMemory}
 use Rattle.vp_args.specs.declared.check_args.CheckArgs.{CheckArgs}
+use Rattle.vp_args.specs.declared.decode_args.DecodeArgs.{DecodeArgs}
+use Rattle.vp_args.specs.declared.decode_args.DecodeRangeArgs.{DecodeRangeArgs}
 use Rattle.vp_args.specs.declared.encode_args.EncodeOptions.{EncodeOptions}
+use Rattle.vp_args.specs.declared.file_limits.FileLimits.{FileLimits}
+use Rattle.vp_args.specs.declared.info_args.InfoArgs.{InfoArgs}
 use Rattle.vp_scale.specs.declared.scale.Scale.{Scale}
 use Rattle.vp_scale.specs.Scale.{factor_of}
 use Rattle.vp_args.specs.declared.picture_args.StillForm.{StillForm}
@@ -67,12 +71,16 @@ Gains old rules new = (app_of new ≡ with_rules (app_of old) rules)
 abbrev pub picture_rules : List Rule
 picture_rules =
     flag_rule (codes "y4m") ∷ setting_rule (codes "frame")
-    ∷ setting_rule (codes "frames") ∷ []
+    ∷ setting_rule (codes "frames") ∷ flag_rule (codes "md5") ∷ []
 
--- vp8 decode [--y4m] [--frame N | --frames A-B] IN OUT
+-- the flag for long work, and the limits on files
+abbrev pub reading_rules : List Rule
+reading_rules = flag_rule (codes "progress") ∷ setting_rule (codes "max-packets") ∷ setting_rule (codes "max-pixels") ∷ []
+
+-- vp8 decode [--y4m] [--frame N | --frames A-B] [--md5] [reading] IN OUT
 abbrev pub decode_app : App
 decode_app =
-    with_rules (with_rules (new_app (codes "decode")) picture_rules) (operand_rule (codes "IN")
+    with_rules (with_rules (with_rules (new_app (codes "decode")) picture_rules) reading_rules) (operand_rule (codes "IN")
     ∷ operand_rule (codes "OUT") ∷ [])
 
 -- the options for coding and filtering macroblocks
@@ -96,13 +104,17 @@ file_rules = flag_rule (codes "progress") ∷ flag_rule (codes "live") ∷ opera
 abbrev pub encode_app : App
 encode_app = with_rules (with_rules (with_rules (new_app (codes "encode")) macroblock_rules) frame_rules) file_rules
 
--- vp8 info IN
+-- vp8 info [--long] [--json] [reading] IN..
 abbrev pub info_app : App
-info_app = with_rules (new_app (codes "info")) (operand_rule (codes "IN") ∷ [])
+info_app =
+    with_rules (with_rules (with_rules (new_app (codes "info")) (flag_rule (codes "long") ∷ flag_rule (codes "json") ∷ []))
+    reading_rules) (operands_rule (codes "IN") ∷ [])
 
--- vp8 check [--verbose] IN..
+-- vp8 check [--verbose] [reading] IN..
 abbrev pub check_app : App
-check_app = with_rules (new_app (codes "check")) (flag_rule (codes "verbose") ∷ operands_rule (codes "IN") ∷ [])
+check_app =
+    with_rules (with_rules (with_rules (new_app (codes "check")) (flag_rule (codes "verbose") ∷ [])) reading_rules)
+    (operands_rule (codes "IN") ∷ [])
 
 -- vp8 picture [--packet N] [--scale K] [--qi Q] IN OUT
 abbrev pub picture_app : App
@@ -152,8 +164,7 @@ serve_app many =
 
 -- the program's command without its subcommands
 abbrev pub vp8_app : App
-vp8_app = on_top (λ s. record s { has_version = true; disable_help_subcommand = true; subcommand_required = true })
-    (new_app (codes "vp8"))
+vp8_app = on_top (λ s. record s { has_version = true; subcommand_required = true }) (new_app (codes "vp8"))
 
 -- the program's command with its subcommands
 unfoldable pub program : Bool → App
@@ -188,13 +199,14 @@ asks_many (w ∷ ws) = asks_many_at w (asks_many ws)
 
 -- the task that the arguments ask for
 pub data ParsedArgs : Type 0 where
-  -- the value of the flag y4m, and the two files
-  decodes : Option Text → Text → Text → ParsedArgs
+  -- the options, and the two files
+  decodes : List Row → Text → Text → ParsedArgs
   -- the options, and the two files
   decodes_range : List Row → Text → Text → ParsedArgs
   -- the options, and the two files
   encodes : List Row → Text → Text → ParsedArgs
-  tells : Text → ParsedArgs
+  -- the options, and the files
+  tells : List Row → List Text → ParsedArgs
   -- the options, and the files
   checks : List Row → List Text → ParsedArgs
   -- the options, and the two files
@@ -212,18 +224,13 @@ with_operands ask _ _ = nothing
 
 -- the pictures that `decode` is to write: all, or those of a range if an option says which
 abbrev pub decoding_of : List Row → Option Text → Option Text → Text → Text → ParsedArgs
-decoding_of rows None None = decodes (one_of (codes "y4m") rows)
+decoding_of rows None None = decodes rows
 decoding_of rows _ _ = decodes_range rows
 
--- the task, if the operand is present
-abbrev pub with_operand : (Text → ParsedArgs) → Option Text → ParsedArgs
-with_operand ask (Some input) = ask input
-with_operand ask None = nothing
-
--- the task of `check`, if there are files
-abbrev pub with_files : List Row → Option (List Text) → ParsedArgs
-with_files rows (Some files) = checks rows files
-with_files rows None = nothing
+-- the task of `info` or `check`, if there are files
+abbrev pub with_files : (List Text → ParsedArgs) → Option (List Text) → ParsedArgs
+with_files ask (Some files) = ask files
+with_files ask None = nothing
 
 -- the task, if the required options and the operands are present
 abbrev pub with_service : List Row → Option Text → Option Text → Option (List Text) → ParsedArgs
@@ -258,8 +265,8 @@ asked_at name rows =
     (first_of (codes "IN") rows) (first_of (codes "OUT") rows)
     else (if bytes_eq name (codes "encode") then with_operands (encodes rows) (first_of (codes "IN") rows)
     (first_of (codes "OUT") rows)
-    else (if bytes_eq name (codes "info") then with_operand tells (first_of (codes "IN") rows)
-    else (if bytes_eq name (codes "check") then with_files rows (all_of (codes "IN") rows)
+    else (if bytes_eq name (codes "info") then with_files (tells rows) (all_of (codes "IN") rows)
+    else (if bytes_eq name (codes "check") then with_files (checks rows) (all_of (codes "IN") rows)
     else (if bytes_eq name (codes "picture") then with_operands (pictures rows) (first_of (codes "IN") rows)
     (first_of (codes "OUT") rows)
     else (if bytes_eq name (codes "serve")
@@ -310,6 +317,33 @@ AreWanted (Some frame) None first last = IsDecimal frame first × (last ≡ firs
 AreWanted None (Some frames) first last = IsSpan frames first last
 AreWanted _ _ first last = ⊥
 
+-- the limits on files, with the defaults
+pub record AreFileLimits (rows : List Row) (l : FileLimits) : Type 0 where
+  pub packets_are : IsNumber (first_of (codes "max-packets") rows) 1048576 l.packets
+  pub pixels_are : IsNumber (first_of (codes "max-pixels") rows) 16777216 l.pixels
+
+-- what `decode` makes of the pictures, and the files
+pub record IsDecodeFor (rows : List Row) (from to : Text) (d : DecodeArgs) : Type 0 where
+  pub y4m_is : IsFlag (one_of (codes "y4m") rows) d.y4m
+  pub md5_is : IsFlag (one_of (codes "md5") rows) d.md5
+  pub progress_is : IsFlag (one_of (codes "progress") rows) d.progress
+  pub limits_are : AreFileLimits rows d.limits
+  pub input_is : d.input.now ≡ from
+  pub output_is : d.output.now ≡ to
+
+-- the same for a range of packets
+pub record IsRangeFor (rows : List Row) (from to : Text) (d : DecodeRangeArgs) : Type 0 where
+  pub decoding : IsDecodeFor rows from to d.decoding
+  pub wanted : AreWanted (first_of (codes "frame") rows) (first_of (codes "frames") rows) d.first d.last
+
+-- the arguments of `info`
+pub record IsInfoFor (rows : List Row) (files : List Text) (i : InfoArgs) : Type 0 where
+  pub long_is : IsFlag (one_of (codes "long") rows) i.long
+  pub json_is : IsFlag (one_of (codes "json") rows) i.json
+  pub progress_is : IsFlag (one_of (codes "progress") rows) i.progress
+  pub limits_are : AreFileLimits rows i.limits
+  pub files_are : texts i.files.items ≡ files
+
 -- the settings of the encoder, with the defaults
 pub record AreSettings (rows : List Row) (s : EncodeOptions) : Type 0 where
   pub qi : IsNumber (first_of (codes "qi") rows) 32 s.qi
@@ -352,6 +386,8 @@ pub record IsPictureFor (rows : List Row) (from to : Text) (p : PictureArgs) : T
 -- the arguments of `check`
 pub record IsCheckFor (rows : List Row) (files : List Text) (c : CheckArgs) : Type 0 where
   pub verbose_is : IsFlag (one_of (codes "verbose") rows) c.verbose
+  pub progress_is : IsFlag (one_of (codes "progress") rows) c.progress
+  pub limits_are : AreFileLimits rows c.limits
   pub files_are : texts c.files.items ≡ files
 
 -- the name and the file in an operand of `serve`, split at its first `=`
@@ -400,16 +436,12 @@ pub record IsServiceOfMany (rows : List Row) (address : Text) (operands : List T
 
 -- the task has the values that the arguments ask for
 abbrev pub IsTaskFor : ParsedArgs → Task → Type 0
-IsTaskFor (decodes flag from to) (Decode y4m input output) = IsFlag flag y4m × (input.now ≡ from)
-    × (output.now ≡ to)
-IsTaskFor (decodes_range rows from to) (DecodeRange d) =
-    IsFlag (one_of (codes "y4m") rows) d.y4m
-    × AreWanted (first_of (codes "frame") rows) (first_of (codes "frames") rows) d.first d.last × (d.input.now ≡ from)
-    × (d.output.now ≡ to)
+IsTaskFor (decodes rows from to) (Decode d) = IsDecodeFor rows from to d
+IsTaskFor (decodes_range rows from to) (DecodeRange d) = IsRangeFor rows from to d
 IsTaskFor (encodes rows from to) (Encode e) =
     AreSettings rows e.options × IsFlag (one_of (codes "progress") rows) e.progress
     × IsFlag (one_of (codes "live") rows) e.live × (e.input.now ≡ from) × (e.output.now ≡ to)
-IsTaskFor (tells from) (Info input) = input.now ≡ from
+IsTaskFor (tells rows files) (Info i) = IsInfoFor rows files i
 IsTaskFor (checks rows files) (Check c) = IsCheckFor rows files c
 IsTaskFor (pictures rows from to) (Picture p) = IsPictureFor rows from to p
 IsTaskFor (serves rows address connections operands) (Serve s) = IsServiceFor rows address connections operands s
@@ -451,6 +483,16 @@ AreNoSettings rows =
     ⊎ (IsMisnumbered 256 (first_of (codes "range") rows)
     ⊎ IsMisnumbered 256 (first_of (codes "partitions") rows))))))
 
+-- the option has a value that is not a number from 1 to this one
+abbrev pub IsOutside : ℕ → Option Text → Type 0
+IsOutside most None = ⊥
+IsOutside most (Some text) = IsNumeral 10 text → 0 < digits_value 10 text → digits_value 10 text ≤ most → ⊥
+
+-- a limit on files is refused
+abbrev pub AreNoFileLimits : List Row → Type 0
+AreNoFileLimits rows =
+    IsOutside 16777216 (first_of (codes "max-packets") rows) ⊎ IsOutside 268402689 (first_of (codes "max-pixels") rows)
+
 -- the number of cached pictures is not from 1 to 4096
 abbrev pub IsNoCache : Option Text → Type 0
 IsNoCache None = ⊥
@@ -460,11 +502,6 @@ IsNoCache (Some text) = IsNumeral 10 text → 0 < digits_value 10 text → digit
 abbrev pub IsNoService : List Row → Text → List Text → Type 0
 IsNoService rows connections operands =
     IsNoDecimal (2 ^ 32) connections ⊎ (IsNoCache (first_of (codes "cache") rows) ⊎ list_all is_parted operands ≡ false)
-
--- the option has a value that is not a number from 1 to this one
-abbrev pub IsOutside : ℕ → Option Text → Type 0
-IsOutside most None = ⊥
-IsOutside most (Some text) = IsNumeral 10 text → 0 < digits_value 10 text → digits_value 10 text ≤ most → ⊥
 
 -- the option has a value that is not a number from 0 to this one
 abbrev pub IsAbove : ℕ → Option Text → Type 0
@@ -499,8 +536,11 @@ IsNoPicture rows to =
 
 -- some value is refused
 abbrev pub HasInvalidValue : ParsedArgs → Type 0
+HasInvalidValue (decodes rows from to) = AreNoFileLimits rows
 HasInvalidValue (decodes_range rows from to) =
-    AreMiswanted (first_of (codes "frame") rows) (first_of (codes "frames") rows)
+    AreMiswanted (first_of (codes "frame") rows) (first_of (codes "frames") rows) ⊎ AreNoFileLimits rows
+HasInvalidValue (tells rows files) = AreNoFileLimits rows
+HasInvalidValue (checks rows files) = AreNoFileLimits rows
 HasInvalidValue (encodes rows from to) = AreNoSettings rows
 HasInvalidValue (pictures rows from to) = IsNoPicture rows to
 HasInvalidValue (serves rows address connections operands) = IsNoService rows connections operands

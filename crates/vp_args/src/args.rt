@@ -10,8 +10,9 @@ ghost use Rattle.vp_args.specs.Args.{serves, turns_of, AreNamed, AreNoSettings, 
 ghost use Rattle.vp_args.specs.Args.{IsNoPlanFor, IsOfValue, IsRefusalFor, IsTaskFor};
 
 use crate::check_args::{CheckArgs, check_task};
-use crate::decode_args::DecodeRangeArgs;
+use crate::decode_args::{DecodeArgs, DecodeRangeArgs};
 use crate::encode_args::{EncodeArgs, EncodeOptions};
+use crate::info_args::{InfoArgs, info_task};
 use crate::many_args::{asks_many, serve_many_task};
 use crate::numbers::{ENCODE_NUMBERS, decimal, kept_pictures, numbers};
 use crate::picture_args::PictureArgs;
@@ -25,20 +26,14 @@ use std::alloc::{AllocError, Global};
 /// The task that the arguments ask for. A file named `-` is standard input or output.
 #[derive(Drop)]
 pub enum Task<'a> {
-    /// Decode the file `input`, and write its pictures to the file `output`: as YUV4MPEG2, or as I420.
-    Decode {
-        y4m: bool,
-        input: &'a str,
-        output: &'a str,
-    },
+    /// Decode a file, and write its pictures, or print their MD5 sum.
+    Decode(DecodeArgs<'a>),
     /// Decode a file, and write the pictures of a range of packets.
     DecodeRange(DecodeRangeArgs<'a>),
     /// Encode a file of pictures.
     Encode(EncodeArgs<'a>),
-    /// Print the contents of the file `input`.
-    Info {
-        input: &'a str,
-    },
+    /// Print the contents of files.
+    Info(InfoArgs<'a>),
     /// Check files for damage.
     Check(CheckArgs<'a>),
     /// Write the picture of a packet to a file.
@@ -107,7 +102,7 @@ fn read_matches<'a>(alloc: Global, matches: &ArgMatches<'a>) -> Result<Task<'a>,
     match matches.subcommand() {
         Some(("decode", found)) => decode_task(found),
         Some(("encode", found)) => encode_task(found),
-        Some(("info", found)) => Ok(info_task(found)),
+        Some(("info", found)) => info_task(alloc, found),
         Some(("check", found)) => check_task(alloc, found),
         Some(("picture", found)) => picture_task(found),
         Some(("serve", found)) => serve_task(alloc, found),
@@ -188,15 +183,6 @@ fn encode_options(found: &ArgMatches<'_>) -> Result<EncodeOptions, Refusal>
         subpel: is_set(found, "subpel"),
         partitions: partitions as u8,
     })
-}
-
-fn info_task<'a>(found: &ArgMatches<'a>) -> Task<'a>
-    ensures { IsTaskFor (asked_at (codes "info") (rows_of (found_of found.now))) result }
-{
-    match text_of(found, "IN") {
-        Some(input) => Task::Info { input },
-        None => Task::Nothing,
-    }
 }
 
 fn serve_task<'a>(alloc: Global, found: &ArgMatches<'a>) -> Result<Task<'a>, Refusal>

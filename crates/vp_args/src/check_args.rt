@@ -5,6 +5,8 @@ ghost use Rattle.clap.specs.Words.{found_of, rows_of};
 ghost use Rattle.vp_args.specs.Args.{asked_at, IsNoPlanFor, IsTaskFor};
 
 use crate::args::{Refusal, Task, is_set, texts_of};
+use crate::file_limits::FileLimits;
+use crate::numbers::file_limits;
 use clap::ArgMatches;
 use std::alloc::Global;
 
@@ -13,6 +15,10 @@ use std::alloc::Global;
 pub struct CheckArgs<'a> {
     /// Whether a line is printed for each packet with a fault or damage.
     pub verbose: bool,
+    /// Whether progress is reported.
+    pub progress: bool,
+    /// The greatest files that are read.
+    pub limits: FileLimits,
     /// The files, each an IVF file, or `-` for standard input.
     pub files: Vec<&'a str>,
 }
@@ -25,8 +31,11 @@ pub(crate) fn check_task<'a>(alloc: Global, found: &ArgMatches<'a>) -> Result<Ta
     let Some(files) = texts_of(found, "IN") else {
         return Ok(Task::Nothing);
     };
+    let limits = file_limits(found)?;
     Ok(Task::Check(CheckArgs {
         verbose: is_set(found, "verbose"),
+        progress: is_set(found, "progress"),
+        limits,
         files: files.to_vec(alloc)?,
     }))
 }

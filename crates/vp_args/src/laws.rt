@@ -9,11 +9,16 @@ ghost use Rattle.vp_args.specs.Args.{IsOperand};
 pub fn decode_words()
     ensures plain { (name input output : Text) → IsOperand input → IsOperand output
         → (faults_of (name ∷ codes "decode" ∷ input ∷ output ∷ []) ≡ [])
-        × (parsed_args (name ∷ codes "decode" ∷ input ∷ output ∷ []) ≡ decodes (Some (codes "false")) input output) }
+        × ((rows : List Row)
+        × (parsed_args (name ∷ codes "decode" ∷ input ∷ output ∷ []) ≡ decodes rows input output)
+        × (one_of (codes "y4m") rows ≡ Some (codes "false")) × (one_of (codes "md5") rows ≡ Some (codes "false"))
+        × (first_of (codes "max-packets") rows ≡ None) × (first_of (codes "max-pixels") rows ≡ None)) }
     ensures y4m { (name input output : Text) → IsOperand input → IsOperand output
         → (faults_of (name ∷ codes "decode" ∷ codes "--y4m" ∷ input ∷ output ∷ []) ≡ [])
-        × (parsed_args (name ∷ codes "decode" ∷ codes "--y4m" ∷ input ∷ output ∷ [])
-        ≡ decodes (Some (codes "true")) input output) }
+        × ((rows : List Row)
+        × (parsed_args (name ∷ codes "decode" ∷ codes "--y4m" ∷ input ∷ output ∷ []) ≡ decodes rows input output)
+        × (one_of (codes "y4m") rows ≡ Some (codes "true")) × (one_of (codes "md5") rows ≡ Some (codes "false"))
+        × (first_of (codes "max-packets") rows ≡ None) × (first_of (codes "max-pixels") rows ≡ None)) }
 {}
 
 /// `vp8 decode --frame N IN OUT` asks for the picture of packet N alone.
@@ -54,5 +59,8 @@ pub fn check_words()
 pub fn info_words()
     ensures { (name input : Text) → IsOperand input
         → (faults_of (name ∷ codes "info" ∷ input ∷ []) ≡ [])
-        × (parsed_args (name ∷ codes "info" ∷ input ∷ []) ≡ tells input) }
+        × ((rows : List Row)
+        × (parsed_args (name ∷ codes "info" ∷ input ∷ []) ≡ tells rows (input ∷ []))
+        × (one_of (codes "long") rows ≡ Some (codes "false")) × (one_of (codes "json") rows ≡ Some (codes "false"))
+        × (first_of (codes "max-packets") rows ≡ None) × (first_of (codes "max-pixels") rows ≡ None)) }
 {}

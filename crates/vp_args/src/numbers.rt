@@ -3,10 +3,12 @@
 ghost use Rattle.std.specs.Prelude.{◌≡◌, ◌≤◌, ◌<◌, ◌^◌, IfErr, IfOk, IfSome, None, codes, length};
 ghost use Rattle.clap.specs.Words.{found_of, rows_of};
 ghost use Rattle.clap.specs.Walk.{first_of};
-ghost use Rattle.vp_args.specs.Args.{IsDecimal, IsMisnumbered, IsNoCache, IsNoDecimal, IsNumber, IsOfValue};
+ghost use Rattle.vp_args.specs.Args.{AreFileLimits, AreNoFileLimits, IsDecimal, IsMisnumbered, IsNoCache, IsNoDecimal};
+ghost use Rattle.vp_args.specs.Args.{IsNumber, IsOfValue};
 ghost use Rattle.vp_args.specs.Tables.{AreMissed, AreNumbers, IsMissed, IsNumberOf};
 
 use crate::args::{Refusal, text_of};
+use crate::file_limits::FileLimits;
 use clap::ArgMatches;
 
 /// An option whose value is a number.
@@ -25,49 +27,67 @@ pub(crate) const ENCODE_NUMBERS: [Number; 7] = [
         usual: 32,
         least: 0,
         most: 255,
-        refusal: "--qi is a decimal number up to 255",
+        refusal: "--qi is a number from 0 to 127",
     },
     Number {
         name: "filter",
         usual: 16,
         least: 0,
         most: 255,
-        refusal: "--filter is a decimal number up to 255",
+        refusal: "--filter is a number from 0 to 63",
     },
     Number {
         name: "sharpness",
         usual: 0,
         least: 0,
         most: 255,
-        refusal: "--sharpness is a decimal number up to 255",
+        refusal: "--sharpness is a number from 0 to 7",
     },
     Number {
         name: "key-every",
         usual: 64,
         least: 0,
         most: u32::MAX,
-        refusal: "--key-every is a decimal number",
+        refusal: "--key-every is a number from 1 to 4294967295",
     },
     Number {
         name: "golden-every",
         usual: 0,
         least: 0,
         most: u32::MAX,
-        refusal: "--golden-every is a decimal number",
+        refusal: "--golden-every is a number from 0 to 4294967295",
     },
     Number {
         name: "range",
         usual: 16,
         least: 0,
         most: 255,
-        refusal: "--range is a decimal number up to 255",
+        refusal: "--range is a number from 0 to 64",
     },
     Number {
         name: "partitions",
         usual: 1,
         least: 0,
         most: 255,
-        refusal: "--partitions is a decimal number up to 255",
+        refusal: "--partitions is 1, 2, 4 or 8",
+    },
+];
+
+/// The limits on files.
+pub(crate) const LIMIT_NUMBERS: [Number; 2] = [
+    Number {
+        name: "max-packets",
+        usual: 1_048_576,
+        least: 1,
+        most: 16_777_216,
+        refusal: "--max-packets is a number from 1 to 16777216",
+    },
+    Number {
+        name: "max-pixels",
+        usual: 16_777_216,
+        least: 1,
+        most: 268_402_689,
+        refusal: "--max-pixels is a number from 1 to 268402689",
     },
 ];
 
@@ -180,6 +200,15 @@ pub(crate) fn kept_pictures(found: &ArgMatches<'_>) -> Result<u32, Refusal>
         return Err(Refusal::Value("--cache is a number from 1 to 4096"));
     }
     Ok(cache)
+}
+
+/// Returns the limits that `--max-packets` and `--max-pixels` give.
+pub(crate) fn file_limits(found: &ArgMatches<'_>) -> Result<FileLimits, Refusal>
+    ensures limits { IfOk result (AreFileLimits (rows_of (found_of found.now))) }
+    ensures refusal { IfErr result (λ r. IsOfValue r × AreNoFileLimits (rows_of (found_of found.now))) }
+{
+    let [packets, pixels] = numbers::<2>(found, LIMIT_NUMBERS.as_slice())?;
+    Ok(FileLimits { packets, pixels })
 }
 
 /// Parses a decimal number without a sign.

@@ -3,12 +3,12 @@
 ghost use Rattle.std.specs.Prelude.{◌≡◌, ◌≤◌, ◌^◌, IfErr, IfOk, IfSome, None, Ok, codes};
 ghost use Rattle.clap.specs.Words.{found_of, rows_of};
 ghost use Rattle.clap.specs.Walk.{first_of};
-ghost use Rattle.vp_args.specs.Args.{asked_at, decoding_of, AreMiswanted, AreWanted, IsDecimal, IsNoDecimal};
-ghost use Rattle.vp_args.specs.Args.{IsNoPlanFor, IsNoSpan, IsOfValue, IsSpan, IsTaskFor};
+ghost use Rattle.vp_args.specs.Args.{asked_at, decoding_of, AreMiswanted, AreNoFileLimits, AreWanted, IsDecimal};
+ghost use Rattle.vp_args.specs.Args.{IsDecodeFor, IsNoDecimal, IsNoPlanFor, IsNoSpan, IsOfValue, IsSpan, IsTaskFor};
 
 use crate::args::{Refusal, Task, is_set, text_of};
-use crate::decode_args::DecodeRangeArgs;
-use crate::numbers::decimal;
+use crate::decode_args::{DecodeArgs, DecodeRangeArgs};
+use crate::numbers::{decimal, file_limits};
 use clap::ArgMatches;
 
 /// The task of decoding a file: all its pictures, or those of a range of packets.
@@ -34,17 +34,36 @@ fn decode_task_args<'a>(
         (first_of (codes "frame") (rows_of (found_of found.now)))
         (first_of (codes "frames") (rows_of (found_of found.now))) input.entry.now output.entry.now)) }
 {
-    let y4m = is_set(found, "y4m");
-    match wanted(found)? {
+    let packets = wanted(found)?;
+    let decoding = decode_args(found, input, output)?;
+    match packets {
         Some((first, last)) => Ok(Task::DecodeRange(DecodeRangeArgs {
-            y4m,
+            decoding,
             first,
             last,
-            input,
-            output,
         })),
-        None => Ok(Task::Decode { y4m, input, output }),
+        None => Ok(Task::Decode(decoding)),
     }
+}
+
+// Returns what is made of the pictures.
+fn decode_args<'a>(
+    found: &ArgMatches<'a>,
+    input: &'a str,
+    output: &'a str,
+) -> Result<DecodeArgs<'a>, Refusal>
+    ensures decoding { IfOk result (IsDecodeFor (rows_of (found_of found.now)) input.entry.now output.entry.now) }
+    ensures refusal { IfErr result (λ r. IsOfValue r × AreNoFileLimits (rows_of (found_of found.now))) }
+{
+    let limits = file_limits(found)?;
+    Ok(DecodeArgs {
+        y4m: is_set(found, "y4m"),
+        md5: is_set(found, "md5"),
+        progress: is_set(found, "progress"),
+        limits,
+        input,
+        output,
+    })
 }
 
 // Returns the first and the last of the packets that an option names, if one does.

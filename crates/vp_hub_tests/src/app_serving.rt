@@ -83,11 +83,14 @@ fn gets_nothing(alloc: Global, client: &mut TcpStream) -> io::Result<bool> {
     Ok(got.is_empty())
 }
 
+/// What is printed of a connection whose number is in use: its fault, and the hint under it.
+const REFUSED: &[u8] = b"vp8: AlreadyOpen\n  connection 0: its requests are refused\n";
+
 /// Serves two connections; the number of the first one is in use. Returns whether just that is printed.
 fn refuses_the_first(alloc: Global, hub: &mut Hub, listener: &TcpListener) -> bool {
     let _ = hub.step(&Event::Open(0));
     let (well, told) = serve_next(alloc, hub, listener, 2);
-    !well && told.as_slice() == b"vp8: AlreadyOpen\n".as_slice()
+    !well && told.as_slice() == REFUSED
 }
 
 #[test]

@@ -12,6 +12,6 @@ use Rattle.vp_app.proofs.check.check_each.Given as goal
 abbrev pub invariant-loop-name : goal.invariant-loop-name
 invariant-loop-name g l =
     (dones : List (Result Checked DecodeFault))
-    × AreDone l.verbose (texts (take l.name-index l.names)) dones l.total l.well
+    × AreDone l.work.limits l.work.style (texts (take l.name-index l.names)) dones l.total l.well
     (read_side g.R.Read.remaining l.fn.input) (read_side g.R.Read.remaining l.input)
     (counted_contents g.W.Write.contents l.fn.output) (counted_contents g.W.Write.contents l.output)

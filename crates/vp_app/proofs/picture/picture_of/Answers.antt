@@ -17,7 +17,7 @@ returns-in-Ok g c =
       cache_is = c.usual.ensures.cache;
     }) c.in_ok-file.ensures.file
     (subst (λ file. IsFoundIn c.usual.result file c.args.wanted.now.packet c.in-Ok.found) c.deref.ensures.value c.in-Ok.ensures.found)
-    c.make.ensures.number c.make.ensures.width c.make.ensures.height c.make.ensures.alpha c.make.ensures.unfound c.make.ensures.file
+    c.make.ensures.number c.make.ensures.width c.make.ensures.height c.make.ensures.alpha c.make.ensures.unmade c.make.ensures.file
 
 pub returns : goal.returns
 returns g c =

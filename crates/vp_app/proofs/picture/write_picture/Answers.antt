@@ -6,4 +6,4 @@ pub returns-in-Ok-clause-made : goal.returns-in-Ok-clause-made
 returns-in-Ok-clause-made g c =
     over_written c.args.wanted.now.input.now c.args.wanted.now c.written.result c.in-Ok.made
     (read_side g.R.Read.remaining c.args.input.now) (read_side g.R.Read.remaining c.made_picture.new.input)
-    c.written.ensures.made c.written.ensures.unfound c.in-Ok.ensures.made
+    c.written.ensures.made c.written.ensures.untold c.in-Ok.ensures.made

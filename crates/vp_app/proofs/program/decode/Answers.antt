@@ -6,27 +6,27 @@ use Rattle.vp_app.proofs.program.decode.Goals as goal
 
 pub returns-then-eq-clause-decoded : goal.returns-then-eq-clause-decoded
 returns-then-eq-clause-decoded g c =
-    from_stream c.args.form c.args.from.now c.args.to.now c.decode_into.result
+    from_stream c.args.decoding.now.limits c.args.form c.args.decoding.now.input.now c.args.decoding.now.output.now c.decode_into.result
     (read_side g.R.Read.remaining c.args.input.now) (read_side g.R.Read.remaining c.decode_into.new.input)
     (written_side g.W.Write.contents c.args.output.now) (written_side g.W.Write.contents c.decode_into.new.output)
     (search rules) c.decode_into.ensures.decoded
 
 pub returns-then-eq-2-clause-decoded : goal.returns-then-eq-2-clause-decoded
 returns-then-eq-2-clause-decoded g c =
-    let named : is_stream c.args.from.now ≡ false = search rules in
-    from_none c.args.form c.args.from.now c.args.to.now Device
+    let named : is_stream c.args.decoding.now.input.now ≡ false = search rules in
+    from_none c.args.decoding.now.limits c.args.form c.args.decoding.now.input.now c.args.decoding.now.output.now Device
     (read_side g.R.Read.remaining c.args.input.now) (written_side g.W.Write.contents c.args.output.now) named (inl refl)
 
 pub returns-in-Ok-clause-decoded : goal.returns-in-Ok-clause-decoded
 returns-in-Ok-clause-decoded g c =
-    let named : is_stream c.args.from.now ≡ false = search rules in
-    from_file c.args.form c.args.from.now c.args.to.now c.decode_into-done.result
+    let named : is_stream c.args.decoding.now.input.now ≡ false = search rules in
+    from_file c.args.decoding.now.limits c.args.form c.args.decoding.now.input.now c.args.decoding.now.output.now c.decode_into-done.result
     (read_side g.R.Read.remaining c.args.input.now) _ _
     (written_side g.W.Write.contents c.args.output.now) (written_side g.W.Write.contents c.decode_into-done.new.output)
     named c.decode_into-done.ensures.decoded
 
 pub returns-in-Err-clause-decoded : goal.returns-in-Err-clause-decoded
 returns-in-Err-clause-decoded g c =
-    let named : is_stream c.args.from.now ≡ false = search rules in
-    from_none c.args.form c.args.from.now c.args.to.now c.file_fault.result
+    let named : is_stream c.args.decoding.now.input.now ≡ false = search rules in
+    from_none c.args.decoding.now.limits c.args.form c.args.decoding.now.input.now c.args.decoding.now.output.now c.file_fault.result
     (read_side g.R.Read.remaining c.args.input.now) (written_side g.W.Write.contents c.args.output.now) named c.file_fault.ensures.either

@@ -2,10 +2,9 @@ use Rattle.vp_app.proofs.program.decode_over.Goals as goal
 
 pub returns : goal.returns
 returns g c =
-    let usual = c.usual.ensures in
     let done = c.decode_all.ensures in record {
-      limits = c.usual.result;
-      usual = record { pixels = usual.pixels; packet_bytes = usual.packet_bytes; packets = usual.packets; cache_is = usual.cache };
+      limits = c.limits_of.result;
+      usual = c.limits_of.ensures;
       file = done.decoded.0;
       consumed = done.decoded.1;
       answer = done.decoded.2;

@@ -5,17 +5,17 @@ use Rattle.vp_app.proofs.program.run_task.Goals as goal
 
 pub returns-in-Decode-clause-does : goal.returns-in-Decode-clause-does
 returns-in-Decode-clause-does g c = λ asked h.
-    does_decode asked c.args.task.now c.in-Decode.y4m c.form_of.result c.in-Decode.from c.in-Decode.to c.decode-done.result c.report_decode.result
-    (read_side g.R.Read.remaining c.args.input.now) (read_side g.R.Read.remaining c.decode-done.new.input)
-    (written_side g.W.Write.contents c.args.output.now) (written_side g.W.Write.contents c.decode-done.new.output)
-    (search rules) c.form_of.ensures h c.report_decode.ensures.status c.decode-done.ensures.decoded
+    does_decode asked c.args.task.now c.in-Decode.decoding c.run_decode.result
+    (read_side g.R.Read.remaining c.args.input.now) (read_side g.R.Read.remaining c.run_decode.new.input)
+    (written_side g.W.Write.contents c.args.output.now) (written_side g.W.Write.contents c.run_decode.new.output)
+    (search rules) h c.run_decode.ensures.does
 
 pub returns-in-DecodeRange-clause-does : goal.returns-in-DecodeRange-clause-does
 returns-in-DecodeRange-clause-does g c = λ asked h.
-    does_decode_range asked c.args.task.now c.in-DecodeRange.wanted c.form_of-in-DecodeRange.result c.decode_packets-done.result c.report_packets.result
-    (read_side g.R.Read.remaining c.args.input.now) (read_side g.R.Read.remaining c.decode_packets-done.new.input)
-    (written_side g.W.Write.contents c.args.output.now) (written_side g.W.Write.contents c.decode_packets-done.new.output)
-    (search rules) c.form_of-in-DecodeRange.ensures h c.report_packets.ensures.status c.decode_packets-done.ensures.decoded
+    does_decode_range asked c.args.task.now c.in-DecodeRange.wanted c.run_range.result
+    (read_side g.R.Read.remaining c.args.input.now) (read_side g.R.Read.remaining c.run_range.new.input)
+    (written_side g.W.Write.contents c.args.output.now) (written_side g.W.Write.contents c.run_range.new.output)
+    (search rules) h c.run_range.ensures.does
 
 pub returns-in-Encode-clause-does : goal.returns-in-Encode-clause-does
 returns-in-Encode-clause-does g c = λ asked h.
@@ -26,17 +26,17 @@ returns-in-Encode-clause-does g c = λ asked h.
 
 pub returns-in-Info-clause-does : goal.returns-in-Info-clause-does
 returns-in-Info-clause-does g c = λ asked h.
-    does_tell asked c.args.task.now c.in-Info.from c.survey_file-done.result c.report_survey.result
-    (read_side g.R.Read.remaining c.args.input.now) (read_side g.R.Read.remaining c.survey_file-done.new.input)
-    (written_side g.W.Write.contents c.args.output.now) (written_side g.W.Write.contents c.report_survey.new.output)
-    (search rules) h c.survey_file-done.ensures.looked c.report_survey.ensures.told
+    does_tell asked c.args.task.now c.in-Info.wanted c.run_info.result
+    (read_side g.R.Read.remaining c.args.input.now) (read_side g.R.Read.remaining c.run_info.new.input)
+    (written_side g.W.Write.contents c.args.output.now) (written_side g.W.Write.contents c.run_info.new.output)
+    (search rules) h c.run_info.ensures.does
 
 pub returns-in-Check-clause-does : goal.returns-in-Check-clause-does
 returns-in-Check-clause-does g c = λ asked h.
-    does_check asked c.args.task.now c.in-Check.wanted c.check_files.result
-    (read_side g.R.Read.remaining c.args.input.now) (read_side g.R.Read.remaining c.check_files.new.input)
-    (written_side g.W.Write.contents c.args.output.now) (written_side g.W.Write.contents c.check_files.new.output)
-    (search rules) h c.check_files.ensures.checked
+    does_check asked c.args.task.now c.in-Check.wanted c.run_check.result
+    (read_side g.R.Read.remaining c.args.input.now) (read_side g.R.Read.remaining c.run_check.new.input)
+    (written_side g.W.Write.contents c.args.output.now) (written_side g.W.Write.contents c.run_check.new.output)
+    (search rules) h c.run_check.ensures.does
 
 pub returns-in-Picture-clause-does : goal.returns-in-Picture-clause-does
 returns-in-Picture-clause-does g c = λ asked h.

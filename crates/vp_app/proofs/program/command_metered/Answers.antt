@@ -3,7 +3,7 @@ use Rattle.clap.specs.Walk.{texts}
 use Rattle.vp_args.specs.Args.{parsed_args}
 use Rattle.vp_app.specs.Commands.{read_side, written_side}
 use Rattle.vp_app.proofs.CommandLemmas.{does_refused, mistaken_words}
-use Rattle.vp_app.proofs.program.command.Goals as goal
+use Rattle.vp_app.proofs.program.command_metered.Goals as goal
 
 pub returns-in-Ok-clause-does : goal.returns-in-Ok-clause-does
 returns-in-Ok-clause-does g c = λ none. c.run_task.ensures.does (parsed_args (texts c.args.words.now)) c.in-Ok.ensures.plan.1

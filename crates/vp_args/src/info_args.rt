@@ -1,0 +1,44 @@
+//! The arguments of `vp8 info`.
+
+ghost use Rattle.std.specs.Prelude.{IfErr, IfOk, codes};
+ghost use Rattle.clap.specs.Words.{found_of, rows_of};
+ghost use Rattle.vp_args.specs.Args.{asked_at, IsNoPlanFor, IsTaskFor};
+
+use crate::args::{Refusal, Task, is_set, texts_of};
+use crate::file_limits::FileLimits;
+use crate::numbers::file_limits;
+use clap::ArgMatches;
+use std::alloc::Global;
+
+/// The arguments of `vp8 info`.
+#[derive(Drop)]
+pub struct InfoArgs<'a> {
+    /// Whether each packet that is read past its end is marked.
+    pub long: bool,
+    /// Whether JSON is printed.
+    pub json: bool,
+    /// Whether progress is reported.
+    pub progress: bool,
+    /// The greatest files that are read.
+    pub limits: FileLimits,
+    /// The files, each an IVF file, or `-` for standard input.
+    pub files: Vec<&'a str>,
+}
+
+/// The task of listing files.
+pub(crate) fn info_task<'a>(alloc: Global, found: &ArgMatches<'a>) -> Result<Task<'a>, Refusal>
+    ensures plan { IfOk result (IsTaskFor (asked_at (codes "info") (rows_of (found_of found.now)))) }
+    ensures refusal { IfErr result (IsNoPlanFor (asked_at (codes "info") (rows_of (found_of found.now)))) }
+{
+    let Some(files) = texts_of(found, "IN") else {
+        return Ok(Task::Nothing);
+    };
+    let limits = file_limits(found)?;
+    Ok(Task::Info(InfoArgs {
+        long: is_set(found, "long"),
+        json: is_set(found, "json"),
+        progress: is_set(found, "progress"),
+        limits,
+        files: files.to_vec(alloc)?,
+    }))
+}
