@@ -2,7 +2,7 @@
 //! bytes. It prints the exit status, the number of unread input bytes, and the output and errors that aren't redirected
 //! to a name; the hints under faults are left out. `limited WORD.. < NAME` encodes a source with arguments of `encode`,
 //! under the limits that `limits PIXELS BYTES PACKETS CACHE` sets. `plan WORD..` prints the task of `encode` or `serve`
-//! arguments, `read PATH` the contents of a file, `show TEXT` the bytes of a text, and `sum TEXT` their MD5.
+//! arguments, `read PATH [> NAME]` the contents of a file, `show TEXT` the bytes of a text, and `sum TEXT` their MD5.
 
 use crate::text::{Names, limits, malformed};
 use crate::transcript::{Found, Script};
@@ -66,11 +66,11 @@ fn run_over(rt: &HostRuntime, words: &[&str], input: &[u8]) -> Done {
     }
 }
 
-/// Returns the lines about faults without the hints under them, which begin with two spaces; other texts as they are.
+/// Returns the lines about faults without the hints under them, which begin with two spaces; usage errors as they are.
 fn without_hints(alloc: Global, errors: &[u8]) -> Result<Vec<u8>, AllocError> {
     let mut lines = Vec::new(alloc);
     for line in errors.split_inclusive(|byte| *byte == b'\n') {
-        if !errors.starts_with(b"vp8: ") || !line.starts_with(b"  ") {
+        if errors.starts_with(b"error") || !line.starts_with(b"  ") {
             lines.extend_from_slice(line)?;
         }
     }
@@ -208,11 +208,13 @@ fn tell_encoded(
     Ok(found.count_if_any("bytes", bytes)?)
 }
 
-/// Prints the contents of a file.
-fn read(rt: &HostRuntime, path: &str, found: &mut Found) -> io::Result<()> {
-    match fs::read(rt, path) {
-        Ok(bytes) => Ok(found.bytes("holds", &bytes)?),
-        Err(_) => Ok(found.word("no file")?),
+/// Prints the contents of a file, or stores them under a name.
+fn read(rt: &HostRuntime, line: &str, names: &mut Names, found: &mut Found) -> io::Result<()> {
+    let (path, name) = cut(line, " > ");
+    match (fs::read(rt, path), name) {
+        (Ok(bytes), Some(name)) => names.keep(name, &bytes),
+        (Ok(bytes), None) => Ok(found.bytes("holds", &bytes)?),
+        (Err(_), _) => Ok(found.word("no file")?),
     }
 }
 
@@ -231,7 +233,7 @@ impl Script for Commands {
         match line.split_once(' ') {
             Some(("vp8", _)) => self.run(rt, line, names, found),
             Some(("plan", words)) => tell_plan(self.alloc, words, found),
-            Some(("read", path)) => read(rt, path, found),
+            Some(("read", line)) => read(rt, line, names, found),
             Some(("show", text)) => Ok(found.bytes("bytes", &names.read(text)?)?),
             Some(("sum", text)) => Ok(found.sum(&names.read(text)?)?),
             Some(("limited", words)) => self.encode(words, names, found),
