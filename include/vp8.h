@@ -1,28 +1,29 @@
 /* vp8: decode and encode VP8 video (RFC 6386), from C.
  *
- * Each function is a proved one of the Rattle libraries: it does what its comment says whatever the bytes are, reads and
- * writes only the memory that it is handed, always returns, and never ends the process. The contracts are in
+ * Each function is a proved one of the Rattle libraries: it does what its comment says whatever the bytes are, reads
+ * and writes only the memory that it is handed, always returns, and never ends the process. The contracts are in
  * crates/vp8_c/src.
  *
  * The caller must ensure:
  *   - No pointer is null, even if the length beside it is 0, and each points to as many bytes as its length says.
  *   - Memory that a call writes to is passed once: two buffers of one call do not overlap, nor a buffer and a handle.
  *   - A handle is used by one thread at a time, is never copied, and its fields are never written.
- *   - malloc, realloc and free come from one allocator, and give blocks aligned as C's do. No call is made from a signal
- *     handler, or from the forked child of a process with threads.
+ *   - malloc, realloc and free come from one allocator, and give blocks aligned as C's do. No call is made from a
+ *     signal handler, or from the forked child of a process with threads.
  *
- * A handle (vp8_decoder, vp8_encoder, vp8_stream) lies in the caller's memory, and is closed before `new` and after `free`:
+ * A handle (vp8_decoder, vp8_encoder, vp8_stream) lies in the caller's memory, and is closed before `new` and after
+ * `free`:
  *
  *     vp8_decoder decoder = VP8_INIT;
  *     vp8_status status = vp8_decoder_new(&decoder, 16777216);
  *
- * A call with a closed handle is refused with VP8_CLOSED, and `new` with an open one with VP8_OPEN; neither changes anything.
- * `free` of a closed handle does nothing.
+ * A call with a closed handle is refused with VP8_CLOSED, and `new` with an open one with VP8_OPEN; neither changes
+ * anything. `free` of a closed handle does nothing.
  *
- * Pictures are I420: a plane of luma (Y) as large as the picture, and two of colour (U, V), whose sides are half of its,
- * rounded up. A plane in the caller's memory is a pointer, a length and a stride, all in bytes: row r begins r strides
- * after the pointer. It fits if the stride is no less than the plane's width and the last row ends within the length;
- * a plane that is too small is refused with VP8_BUFFER, and nothing is written.
+ * Pictures are I420: a plane of luma (Y) as large as the picture, and two of colour (U, V), whose sides are half of
+ * its, rounded up. A plane in the caller's memory is a pointer, a length and a stride, all in bytes: row r begins r
+ * strides after the pointer. It fits if the stride is no less than the plane's width and the last row ends within the
+ * length; a plane that is too small is refused with VP8_BUFFER, and nothing is written.
  */
 #ifndef VP8_H
 #define VP8_H
@@ -133,8 +134,8 @@ vp8_status vp8_decoder_new(vp8_decoder *decoder, uint32_t max_pixels);
  * bytes is a frame that its sender dropped: the last shown picture is shown again.
  * VP8_OK: its picture is shown, and vp8_decoder_copy gives it. VP8_HIDDEN: it is not to be shown.
  * VP8_TRUNCATED to VP8_PARTITION_TABLE, VP8_PARTITION + n: it can't be decoded; then inter packets are refused, by
- * VP8_NO_REFERENCE or a fault that comes before it, until a key packet is decoded. VP8_MEMORY: the decoder is as before,
- * and the packet may be tried again. VP8_CLOSED. */
+ * VP8_NO_REFERENCE or a fault that comes before it, until a key packet is decoded. VP8_MEMORY: the decoder is as
+ * before, and the packet may be tried again. VP8_CLOSED. */
 vp8_status vp8_decoder_decode(vp8_decoder *decoder, const uint8_t *packet, size_t packet_len);
 
 /* Decodes a packet as vp8_decoder_decode does, but goes on after damage: a packet that can't be decoded shows no
@@ -184,16 +185,16 @@ typedef struct vp8_lent_picture {
   vp8_lent_plane y, u, v;
 } vp8_lent_picture;
 
-/* Lends the picture that the last packet showed: nothing is copied. It is valid until the next call for this decoder, and
- * is only read: later frames are predicted from it. No bytes follow the last row but those of its stride.
+/* Lends the picture that the last packet showed: nothing is copied. It is valid until the next call for this decoder,
+ * and is only read: later frames are predicted from it. No bytes follow the last row but those of its stride.
  * VP8_NO_PICTURE, VP8_CLOSED: nothing is written. */
 vp8_status vp8_decoder_lend(vp8_decoder *decoder, vp8_lent_picture *lent);
 
-/* Writes 1 to *corrupt if a partition of the packet that was decoded last was read past its end: zeros are read there, so
- * that its picture is most likely damaged, which no status names; else 0, also if the last packet had no bytes or could
- * not be decoded, and before the first one. Pictures that are predicted from a corrupt one may be damaged with it, up to
- * the next key frame, which this call does not tell. Most damage lies within a partition, and can't be told from another
- * picture.
+/* Writes 1 to *corrupt if a partition of the packet that was decoded last was read past its end: zeros are read there,
+ * so that its picture is most likely damaged, which no status names; else 0, also if the last packet had no bytes or
+ * could not be decoded, and before the first one. Pictures that are predicted from a corrupt one may be damaged with
+ * it, up to the next key frame, which this call does not tell. Most damage lies within a partition, and can't be told
+ * from another picture.
  * VP8_CLOSED: nothing is written. */
 vp8_status vp8_decoder_corrupt(vp8_decoder *decoder, uint32_t *corrupt);
 
@@ -204,12 +205,13 @@ enum {
   VP8_ALTREF = 3
 };
 
-/* The size in pixels of the reference frames, which is that of the frame that was decoded last. VP8_NO_PICTURE: there are
- * none before the first key packet, and after a packet that vp8_decoder_decode refused; VP8_CLOSED: nothing is written. */
+/* The size in pixels of the reference frames, which is that of the frame that was decoded last. VP8_NO_PICTURE: there
+ * are none before the first key packet, and after a packet that vp8_decoder_decode refused; VP8_CLOSED: nothing is
+ * written. */
 vp8_status vp8_decoder_reference_size(vp8_decoder *decoder, uint32_t *width, uint32_t *height);
 
-/* Copies a reference frame as vp8_decoder_copy does. VP8_NO_PICTURE: there are none, or the number is none of the three;
- * VP8_BUFFER, VP8_CLOSED: nothing is written. */
+/* Copies a reference frame as vp8_decoder_copy does. VP8_NO_PICTURE: there are none, or the number is none of the
+ * three; VP8_BUFFER, VP8_CLOSED: nothing is written. */
 vp8_status vp8_decoder_reference(vp8_decoder *decoder, uint32_t reference,
                                  uint8_t *y, size_t y_len, size_t y_stride,
                                  uint8_t *u, size_t u_len, size_t u_stride,
@@ -269,8 +271,8 @@ vp8_status vp8_stream_picture_at(vp8_stream *stream, uint32_t n);
 /* The size in pixels of the picture that is kept. VP8_NO_PICTURE, VP8_CLOSED: nothing is written. */
 vp8_status vp8_stream_size(vp8_stream *stream, uint32_t *width, uint32_t *height);
 
-/* Copies the picture that is kept as Y, U and V, each row after row with nothing between: width * height bytes, and twice
- * ((width + 1) / 2) * ((height + 1) / 2). Bytes after them are unchanged.
+/* Copies the picture that is kept as Y, U and V, each row after row with nothing between: width * height bytes, and
+ * twice ((width + 1) / 2) * ((height + 1) / 2). Bytes after them are unchanged.
  * VP8_NO_PICTURE, VP8_BUFFER, VP8_CLOSED: nothing is written. */
 vp8_status vp8_stream_copy_i420(vp8_stream *stream, uint8_t *out, size_t out_len);
 
@@ -300,9 +302,10 @@ typedef struct vp8_settings {
  * VP8_OPEN, VP8_DIMENSIONS, VP8_SETTINGS, VP8_MEMORY. */
 vp8_status vp8_encoder_new(vp8_encoder *encoder, uint32_t width, uint32_t height, const vp8_settings *settings);
 
-/* Encodes a picture of the encoder's size as one packet, to be decoded after those before it, and keeps the packet and the
- * picture that decoders show for it.
- * VP8_TOO_LONG, VP8_MEMORY: nothing is kept, and the next frame is a key frame. VP8_BUFFER, VP8_CLOSED: nothing changes. */
+/* Encodes a picture of the encoder's size as one packet, to be decoded after those before it, and keeps the packet and
+ * the picture that decoders show for it.
+ * VP8_TOO_LONG, VP8_MEMORY: nothing is kept, and the next frame is a key frame. VP8_BUFFER, VP8_CLOSED: nothing
+ * changes. */
 vp8_status vp8_encoder_encode(vp8_encoder *encoder,
                               const uint8_t *y, size_t y_len, size_t y_stride,
                               const uint8_t *u, size_t u_len, size_t u_stride,

@@ -5,7 +5,8 @@ A problem, printed with file and line, is: a path, a file or a script that isn't
 doesn't export; `Type::method` without such a method, variant or field; another name in `code` form that no source has;
 a test, a case, a law or a clause of that name that isn't there; a line of a block "antt FILE" that FILE doesn't have;
 a line over 120 columns; a document over its length; another version than CHANGELOG.md's newest in a place that names
-one; and, if `rt` is on the path, that README.md doesn't name the kit in use. The script fails if there is a problem. Run it at the top of the repository.
+one; and, if `rt` is on the path, that README.md doesn't name the kit in use. The script fails if there is a problem.
+Run it at the top of the repository.
 
 Names of others, as of libvpx or of an older version, are allowed in a document that lists them in a comment:
 <!-- names of others: mb_row, ivfdec.c -->

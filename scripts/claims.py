@@ -8,8 +8,8 @@ definitions in reading order, each with its number of reached lines and its firs
 `--write` renews the table in CLAIMS.md.
 
 It fails if CLAIMS.md doesn't have the table, if a public contract reaches a file whose first comment begins with
-`Private to the crate`, if no public contract reaches a file without those words, if a law isn't exported, and if a door's
-function doesn't exist. Run it at the top of the repository.
+`Private to the crate`, if no public contract reaches a file without those words, if a law isn't exported, and if a
+door's function doesn't exist. Run it at the top of the repository.
 
 Counted are the definitions that a contract names, and all that these name. A contract is the clauses of a function, and
 the `ghost Value` of the types in its signature. Comments and blank lines aren't counted, nor are the declared types of

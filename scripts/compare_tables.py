@@ -5,8 +5,8 @@
 
 PAGE, else docs/TABLES.md, is the page in Markdown: sections headed "Trees", "Vector probabilities", "Key-frame subblock
 probabilities", "Default coefficient probabilities", "Coefficient update probabilities", "Quantisers" and
-"Interpolation". SOURCES, else crates/vp_tables/src, is the folder of the crate's `.rt` files. Prints each constant and how many of its
-numbers agree; fails at the first that does not.
+"Interpolation". SOURCES, else crates/vp_tables/src, is the folder of the crate's `.rt` files. Prints each constant and
+how many of its numbers agree; fails at the first that does not.
 """
 
 import pathlib

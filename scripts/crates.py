@@ -10,7 +10,8 @@ PLACE = re.compile(r"(?<=<!-- crates -->\n).*?(?=<!-- end -->)", re.S)
 
 def rows():
     """A line for each crate, in the order of crates.txt, and one for those of tests."""
-    names = [line.split(":")[0].split()[0] for line in pathlib.Path("crates.txt").read_text().splitlines() if ":" in line]
+    lines = pathlib.Path("crates.txt").read_text().splitlines()
+    names = [line.split(":")[0].split()[0] for line in lines if ":" in line]
     for name in names:
         title = pathlib.Path("crates", name, "README.md").read_text().splitlines()[0]
         if not title.startswith(f"# {name}: "):
@@ -27,7 +28,8 @@ def main():
     if "--write" in sys.argv:
         PAGE.write_text(PLACE.sub(lambda _: table, text))
     elif table not in text:
-        sys.exit(f"{PAGE}: its table of crates is not that of crates.txt and the READMEs; scripts/crates.py --write renews it")
+        wrong = "its table of crates is not that of crates.txt and the READMEs"
+        sys.exit(f"{PAGE}: {wrong}; scripts/crates.py --write renews it")
 
 
 main()

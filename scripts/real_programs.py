@@ -63,7 +63,8 @@ def check_y4m(path, data, shown, pixels):
     assert int(found['nb_read_frames']) == shown, found
     if scale:
         assert fractions.Fraction(found['r_frame_rate']) == fractions.Fraction(rate, scale), found
-    command = ['ffmpeg', '-v', 'error', '-f', 'yuv4mpegpipe', '-i', '-', '-f', 'rawvideo', '-pix_fmt', 'yuv420p', '-fps_mode', 'passthrough', '-']
+    command = ['ffmpeg', '-v', 'error', '-f', 'yuv4mpegpipe', '-i', '-', '-f', 'rawvideo', '-pix_fmt', 'yuv420p',
+               '-fps_mode', 'passthrough', '-']
     assert run(command, y4m)[1] == pixels, 'the pixels'
     return True
 

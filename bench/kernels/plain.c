@@ -1,4 +1,5 @@
-/* The same kernels as plain C, as RFC 6386 writes them (chapters 15 and 18), and the sum by psadbw: `plain NAME COUNT`. */
+/* The same kernels as plain C, as RFC 6386 writes them (chapters 15 and 18), and the sum by psadbw:
+ * `plain NAME COUNT`. */
 #include <emmintrin.h>
 #include <stdint.h>
 #include <stdio.h>
@@ -14,8 +15,9 @@ static uint8_t u(int x) { return (uint8_t)(c(x) + 128); }
 
 static int is_changed(const uint8_t *p, int d, int limit) {
     if (abs(p[-d] - p[0]) * 2 + (abs(p[-2 * d] - p[d]) >> 1) > limit) return 0;
-    return abs(p[-4 * d] - p[-3 * d]) <= INTERIOR && abs(p[-3 * d] - p[-2 * d]) <= INTERIOR && abs(p[-2 * d] - p[-d]) <= INTERIOR
-        && abs(p[3 * d] - p[2 * d]) <= INTERIOR && abs(p[2 * d] - p[d]) <= INTERIOR && abs(p[d] - p[0]) <= INTERIOR;
+    return abs(p[-4 * d] - p[-3 * d]) <= INTERIOR && abs(p[-3 * d] - p[-2 * d]) <= INTERIOR
+        && abs(p[-2 * d] - p[-d]) <= INTERIOR && abs(p[3 * d] - p[2 * d]) <= INTERIOR
+        && abs(p[2 * d] - p[d]) <= INTERIOR && abs(p[d] - p[0]) <= INTERIOR;
 }
 static int is_high(const uint8_t *p, int d) { return abs(p[-2 * d] - p[-d]) > HEV || abs(p[d] - p[0]) > HEV; }
 
@@ -73,14 +75,16 @@ static void filter(int all) {
         }
 }
 
-static const int16_t taps[8][6] = {{0, 0, 128, 0, 0, 0}, {0, -6, 123, 12, -1, 0}, {2, -11, 108, 36, -8, 1}, {0, -9, 93, 50, -6, 0},
+static const int16_t taps[8][6] = {
+    {0, 0, 128, 0, 0, 0}, {0, -6, 123, 12, -1, 0}, {2, -11, 108, 36, -8, 1}, {0, -9, 93, 50, -6, 0},
     {3, -16, 77, 77, -16, 3}, {0, -6, 50, 93, -9, 0}, {1, -8, 36, 108, -11, 2}, {0, -1, 12, 123, -6, 0}};
 
 static void pass(const uint8_t *from, int stride, int d, uint8_t *to, int rows, const int16_t *t) {
     for (int r = 0; r < rows; r++)
         for (int x = 0; x < 16; x++) {
             const uint8_t *p = from + r * stride + x;
-            int z = (p[-2 * d] * t[0] + p[-d] * t[1] + p[0] * t[2] + p[d] * t[3] + p[2 * d] * t[4] + p[3 * d] * t[5] + 64) >> 7;
+            int sum = p[-2 * d] * t[0] + p[-d] * t[1] + p[0] * t[2] + p[d] * t[3] + p[2 * d] * t[4] + p[3 * d] * t[5];
+            int z = (sum + 64) >> 7;
             to[16 * r + x] = z < 0 ? 0 : z > 255 ? 255 : z;
         }
 }
@@ -93,8 +97,10 @@ static void six(const uint8_t *p, uint8_t *to) {
 
 static uint32_t sad16(const uint8_t *a, const uint8_t *b) {
     __m128i sum = _mm_setzero_si128();
-    for (int i = 0; i < 256; i += 16)
-        sum = _mm_add_epi32(sum, _mm_sad_epu8(_mm_loadu_si128((const __m128i *)(a + i)), _mm_loadu_si128((const __m128i *)(b + i))));
+    for (int i = 0; i < 256; i += 16) {
+        __m128i from_a = _mm_loadu_si128((const __m128i *)(a + i)), from_b = _mm_loadu_si128((const __m128i *)(b + i));
+        sum = _mm_add_epi32(sum, _mm_sad_epu8(from_a, from_b));
+    }
     return (uint32_t)(_mm_cvtsi128_si32(sum) + _mm_cvtsi128_si32(_mm_srli_si128(sum, 8)));
 }
 

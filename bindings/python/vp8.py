@@ -28,8 +28,8 @@ import ctypes
 import os
 import threading
 
-__all__ = ['Decoder', 'Error', 'Frame', 'LentPicture', 'PacketInfo', 'Picture', 'Stream', 'StreamInfo', 'packets', 'peek',
-           'webp_file', 'webp_packet', 'webp_picture', 'DEFAULT_MAX_PIXELS',
+__all__ = ['Decoder', 'Error', 'Frame', 'LentPicture', 'PacketInfo', 'Picture', 'Stream', 'StreamInfo', 'packets',
+           'peek', 'webp_file', 'webp_packet', 'webp_picture', 'DEFAULT_MAX_PIXELS',
            'OK', 'HIDDEN', 'TRUNCATED', 'VERSION', 'START_CODE', 'SIZE', 'TOO_LARGE', 'NO_REFERENCE',
            'FIRST_PARTITION', 'PARTITION_TABLE', 'PARTITION', 'SIGNATURE', 'CODEC', 'TOO_MANY', 'PACKET_TOO_LARGE',
            'TORN', 'ENDED', 'LOSSLESS', 'ANIMATED', 'NOT_KEY', 'TOO_LONG', 'CLOSED', 'MEMORY', 'LIMITS', 'NO_PICTURE',

@@ -1,5 +1,5 @@
-/* encode IN.i420 WIDTH HEIGHT OUT.ivf [QI]: encodes raw pictures as an IVF file, 30 a second, decodes each packet again, and
- * says where that isn't the encoder's own reconstruction. */
+/* encode IN.i420 WIDTH HEIGHT OUT.ivf [QI]: encodes raw pictures as an IVF file, 30 a second, decodes each packet
+ * again, and says where that isn't the encoder's own reconstruction. */
 #include <inttypes.h>
 #include <string.h>
 
@@ -43,16 +43,16 @@ static int is_reconstruction(vp8_encoder *encoder, vp8_decoder *decoder, struct 
 {
   return vp8_encoder_reconstruction(encoder, a->y, a->luma_len, a->width, a->u, a->chroma_len, a->chroma_stride, a->v,
                                     a->chroma_len, a->chroma_stride) == VP8_OK
-         && vp8_decoder_copy(decoder, b->y, b->luma_len, b->width, b->u, b->chroma_len, b->chroma_stride, b->v, b->chroma_len,
-                             b->chroma_stride) == VP8_OK
+         && vp8_decoder_copy(decoder, b->y, b->luma_len, b->width, b->u, b->chroma_len, b->chroma_stride, b->v,
+                             b->chroma_len, b->chroma_stride) == VP8_OK
          && memcmp(a->y, b->y, a->luma_len + 2 * a->chroma_len) == 0;
 }
 
 int main(int count, char **words)
 {
   if (count < 5) return fprintf(stderr, "encode IN.i420 WIDTH HEIGHT OUT.ivf [QI]\n"), 2;
-  vp8_settings settings = { .qi = count > 5 ? atoi(words[5]) : 32, .level = 16, .key_every = 64, .range = 16, .subpel = 1,
-                            .partitions = 1 };
+  vp8_settings settings = { .qi = count > 5 ? atoi(words[5]) : 32, .level = 16, .key_every = 64, .range = 16,
+                            .subpel = 1, .partitions = 1 };
   vp8_encoder encoder = VP8_INIT;
   vp8_decoder decoder = VP8_INIT;
   struct planes source, shown, again;
@@ -60,13 +60,14 @@ int main(int count, char **words)
   uint64_t error, sum = 0;
   FILE *in = fopen(words[1], "rb"), *out = fopen(words[4], "wb");
   if (!in || !out) return perror("encode"), 1;
-  int is_well = vp8_encoder_new(&encoder, width, height, &settings) == VP8_OK && vp8_decoder_new(&decoder, 268402689) == VP8_OK
-                && planes_new(&source, width, height) && planes_new(&shown, width, height) && planes_new(&again, width, height);
+  int is_well = vp8_encoder_new(&encoder, width, height, &settings) == VP8_OK
+                && vp8_decoder_new(&decoder, 268402689) == VP8_OK && planes_new(&source, width, height)
+                && planes_new(&shown, width, height) && planes_new(&again, width, height);
   if (!is_well || !put_head(out, width, height, 0)) return fprintf(stderr, "encode: refused\n"), 1;
   size_t len = source.luma_len + 2 * source.chroma_len;
   while (is_well && fread(source.y, 1, len, in) == len) {
-    is_well = vp8_encoder_encode(&encoder, source.y, source.luma_len, width, source.u, source.chroma_len, source.chroma_stride,
-                                 source.v, source.chroma_len, source.chroma_stride) == VP8_OK
+    is_well = vp8_encoder_encode(&encoder, source.y, source.luma_len, width, source.u, source.chroma_len,
+                                 source.chroma_stride, source.v, source.chroma_len, source.chroma_stride) == VP8_OK
               && put_packet(&encoder, &decoder, out, frames++) && is_reconstruction(&encoder, &decoder, &shown, &again)
               && vp8_encoder_squared_error(&encoder, &error) == VP8_OK;
     sum += is_well ? error : 0;

@@ -1,5 +1,5 @@
-/* ivf_to_i420 IN.ivf OUT.i420: writes each picture that the packets of an IVF file show, and goes on behind packets that
- * can't be decoded. */
+/* ivf_to_i420 IN.ivf OUT.i420: writes each picture that the packets of an IVF file show, and goes on behind packets
+ * that can't be decoded. */
 #include "ivf.h"
 #include "planes.h"
 #include "vp8.h"

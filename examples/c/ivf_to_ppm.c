@@ -1,5 +1,5 @@
-/* ivf_to_ppm IN.ivf N OUT.ppm: decodes the packets of an IVF file one after another, and writes the picture that packet N,
- * from 0, shows. */
+/* ivf_to_ppm IN.ivf N OUT.ppm: decodes the packets of an IVF file one after another, and writes the picture that
+ * packet N, from 0, shows. */
 #include "ivf.h"
 #include "planes.h"
 #include "ppm.h"
@@ -22,8 +22,8 @@ static int write_shown(vp8_decoder *decoder, const char *path)
     complain("no picture", status);
     return 1;
   }
-  status = vp8_decoder_copy(decoder, planes.y, planes.luma_len, width, planes.u, planes.chroma_len, planes.chroma_stride,
-                            planes.v, planes.chroma_len, planes.chroma_stride);
+  status = vp8_decoder_copy(decoder, planes.y, planes.luma_len, width, planes.u, planes.chroma_len,
+                            planes.chroma_stride, planes.v, planes.chroma_len, planes.chroma_stride);
   int is_written = status == VP8_OK && write_ppm(&planes, path);
   free(planes.y);
   return !is_written;

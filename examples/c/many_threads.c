@@ -1,5 +1,5 @@
-/* many_threads N IN.ivf ..: decodes each IVF file on the main thread, then the files by turns on N threads at once, each with
- * a decoder of its own, and ends with 1 if a thread doesn't show the same pictures. */
+/* many_threads N IN.ivf ..: decodes each IVF file on the main thread, then the files by turns on N threads at once,
+ * each with a decoder of its own, and ends with 1 if a thread doesn't show the same pictures. */
 #define _POSIX_C_SOURCE 200809L
 #include <pthread.h>
 

@@ -1,5 +1,5 @@
-/* refusals: calls what include/vp8.h says is refused, and compares what other calls give. It ends with 1 where an answer
- * is another one. */
+/* refusals: calls what include/vp8.h says is refused, and compares what other calls give. It ends with 1 where an
+ * answer is another one. */
 #include <stdio.h>
 #include <string.h>
 
@@ -93,7 +93,8 @@ static void streams(void)
   vp8_stream stream = VP8_INIT;
   vp8_stream_info info;
   expect("closed stream", vp8_stream_picture_at(&stream, 0), VP8_CLOSED);
-  expect("no IVF file", vp8_stream_new(&stream, (const uint8_t *)"no IVF file, but over 32 bytes of a text", 40), VP8_OK);
+  const uint8_t *text = (const uint8_t *)"no IVF file, but over 32 bytes of a text";
+  expect("no IVF file", vp8_stream_new(&stream, text, 40), VP8_OK);
   expect("its info", vp8_stream_get_info(&stream, &info), VP8_OK);
   expect("its fault", info.fault, VP8_SIGNATURE);
   expect("its packets", vp8_stream_picture_at(&stream, 0), VP8_NO_PACKET);
@@ -246,7 +247,8 @@ static void names(void)
   uint8_t name[32];
   expect("a name's length", vp8_status_name(VP8_TOO_LARGE, name, sizeof name), 8);
   expect("a name", strcmp((char *)name, "TooLarge") == 0, 1);
-  expect("a partition's name", vp8_status_name(VP8_PARTITION + 2, name, sizeof name) == 11 && strcmp((char *)name, "Partition 2") == 0, 1);
+  expect("a partition's name",
+         vp8_status_name(VP8_PARTITION + 2, name, sizeof name) == 11 && strcmp((char *)name, "Partition 2") == 0, 1);
   expect("no status", vp8_status_name(999999, name, sizeof name), 0);
 }
 

@@ -1,12 +1,13 @@
-/* thumbnail IN.ivf OUT.ppm [WIDTH]: a small picture of an IVF file: that of the packet in its middle, or of the first one
- * behind it that shows one, at most WIDTH (160) pixels wide, each pixel the mean of those that it stands for. */
+/* thumbnail IN.ivf OUT.ppm [WIDTH]: a small picture of an IVF file: that of the packet in its middle, or of the first
+ * one behind it that shows one, at most WIDTH (160) pixels wide, each pixel the mean of those that it stands for. */
 #include "ivf.h"
 #include "planes.h"
 #include "ppm.h"
 #include "vp8.h"
 
 /* The mean of the pixels of a plane that the pixel at (column, row) of a smaller plane stands for. */
-static uint8_t mean(const uint8_t *plane, size_t width, size_t height, size_t column, size_t row, size_t columns, size_t rows)
+static uint8_t mean(const uint8_t *plane, size_t width, size_t height, size_t column, size_t row, size_t columns,
+                    size_t rows)
 {
   size_t sum = 0, left = column * width / columns, right = (column + 1) * width / columns;
   size_t top = row * height / rows, bottom = (row + 1) * height / rows;

@@ -19,7 +19,9 @@ unsafe extern "C" {
     fn vp8_decoder_new(decoder: *mut Handle, max_pixels: u32) -> u32;
     fn vp8_decoder_decode(decoder: *mut Handle, packet: *const u8, packet_len: usize) -> u32;
     fn vp8_decoder_size(decoder: *mut Handle, width: *mut u32, height: *mut u32) -> u32;
-    fn vp8_decoder_copy(decoder: *mut Handle, y: *mut u8, y_len: usize, y_stride: usize, u: *mut u8, u_len: usize, u_stride: usize,
+    fn vp8_decoder_copy(decoder: *mut Handle,
+                        y: *mut u8, y_len: usize, y_stride: usize,
+                        u: *mut u8, u_len: usize, u_stride: usize,
                         v: *mut u8, v_len: usize, v_stride: usize) -> u32;
     fn vp8_decoder_free(decoder: *mut Handle);
 }
@@ -54,7 +56,18 @@ impl Decoder {
         let (y, colour) = picture.split_at_mut(width * height);
         let (u, v) = colour.split_at_mut(side * height.div_ceil(2));
         let status = unsafe {
-            vp8_decoder_copy(&mut *self.0, y.as_mut_ptr(), y.len(), width, u.as_mut_ptr(), u.len(), side, v.as_mut_ptr(), v.len(), side)
+            vp8_decoder_copy(
+                &mut *self.0,
+                y.as_mut_ptr(),
+                y.len(),
+                width,
+                u.as_mut_ptr(),
+                u.len(),
+                side,
+                v.as_mut_ptr(),
+                v.len(),
+                side,
+            )
         };
         if status == OK { Ok(picture) } else { Err(status) }
     }

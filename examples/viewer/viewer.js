@@ -136,7 +136,9 @@ async function begin() {
   await look();
   at('packet').value = query.get('packet') ?? 0;
   await choose();
-  setInterval(() => state === 'open' && look().catch(error => { at('state').value = error.message; }), POLL_MILLISECONDS);
+  setInterval(() => {
+    if (state === 'open') look().catch(error => { at('state').value = error.message; });
+  }, POLL_MILLISECONDS);
 }
 
 at('stream').onchange = () => { stop(); at('packet').value = 0; choose(); };
