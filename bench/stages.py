@@ -6,6 +6,7 @@ import collections
 import pathlib
 import re
 import subprocess
+import textwrap
 
 STAGES = ("tokens", "loop filter", "modes, vectors, header, row loop", "inter prediction", "intra prediction",
           "residue", "memset, memcpy", "output", "else", "all")
@@ -72,13 +73,19 @@ def stages(command, rules, folder):
 
 
 def table(streams, libvpx, folder):
-    """Prints the table, for streams with a name, the command of vp8 and that of vpxdec. The folder libvpx has a vpxdec
-    with symbols."""
+    """Prints the table, for streams with a name, the command of vp8 and that of vpxdec, and returns the lines of its sums
+    as docs/PERFORMANCE.md has them. The folder libvpx has a vpxdec with symbols."""
     found = {name: (stages(ours, OURS, folder), stages([libvpx / "vpxdec", *theirs[1:]], LIBVPX, folder))
              for name, ours, theirs in streams}
     print("| stage | " + " | ".join(f"{name}: vp8 | libvpx" for name in found) + " | ratio of the sums |")
     print("|---" * (2 * len(found) + 2) + "|")
+    lines = ["| stage | vp8 | libvpx | ratio |", "|---|---|---|---|"]
     for stage in STAGES:
         cells = [f"{counts[stage] / 1e6:.0f}" for pair in found.values() for counts in pair]
         ours, theirs = (sum(pair[k][stage] for pair in found.values()) for k in (0, 1))
-        print(f"| {stage} | " + " | ".join(cells) + f" | {ours / max(theirs, 1):.2f} |")
+        ratio = f"{ours / max(theirs, 1):.2f}"
+        print(f"| {stage} | " + " | ".join(cells) + f" | {ratio} |")
+        if stage != ELSE:
+            lines.append(f"| {stage} | {ours / 1e6:,.0f} | {theirs / 1e6:,.0f} | {ratio} |")
+    each = ", ".join(f"{name} {ours[ALL] / theirs[ALL]:.2f}" for name, (ours, theirs) in found.items())
+    return [*lines, "", *textwrap.wrap(f"By stream, all stages: {each}.", 120)]
