@@ -1,6 +1,5 @@
 pub mod Parts
 pub mod SumLemmas
-pub mod SubblockLemmas
 pub mod PlaneLemmas
 pub mod StrideLemmas
 pub mod AddLemmas

@@ -1,16 +1,19 @@
 -- The coefficients of blocks with few tokens, and of blocks whose first one stands apart.
-use Rattle.std.proofs.Common.{◌≡◌, ◌∙◌, refl, ◌*ℤ◌, ℕ, zero, suc, ◌-◌, ◌≤◌, ℤ, pos, List, [], ◌∷◌, get_or, set, length, replicate, unsigned_abs, sym, ap, arith, inl, inr, nat_lt, false, ◌+◌, Option, None}
+use Rattle.std.proofs.Common.{◌≡◌, ◌∙◌, refl, ◌*ℤ◌, ℕ, zero, suc, ◌-◌, ◌≤◌, ℤ, pos, List, [], ◌∷◌, get_or, set, length, replicate, unsigned_abs, sym, ap, arith, inl, inr, nat_lt, false, true, Bool, ◌<◌, ◌+◌, Option, None}
 use Rattle.std.proofs.lemmas.Bool.{cases_lt}
 use Rattle.std.proofs.lemmas.Bool.Decides.{nat_tests}
 use Rattle.std.proofs.lemmas.Int.{ints}
 use Rattle.std.proofs.lemmas.List.{ext_get_or, get_or-replicate}
 use Rattle.std.proofs.Math.IntN.{zero-*ℤ}
+use Rattle.std.specs.Borrow.{Bor}
 use Rattle.vp_tokens.specs.Block.{Block, IsBlock}
 use Rattle.vp_transform.specs.Fits.{EachWithin}
 use Rattle.vp_transform.specs.Transform.{idct, vertical, horizontal, iwht, hadamard_times, times_hadamard_rounded}
 use Rattle.vp_quant.specs.Quant.{dequantised}
 use Rattle.vp_tokens.specs.Blocks.{block_of}
-use Rattle.vp_recon.specs.Residue.{residue}
+use Rattle.vp_tokens.specs.declared.contexts.Tokens.{Tokens}
+use Rattle.vp_quant.specs.declared.factors.Factors.{Factors}
+use Rattle.vp_recon.specs.Residue.{residue, luma_firsts, luma_coefficients, luma_residue}
 use Rattle.vp_recon.specs.declared.residue.Residues.{Residues}
 use Rattle.vp_recon.specs.Parts.{with_first, residue_in}
 use Rattle.vp_recon.specs.Sums.{IsNothing}
@@ -93,6 +96,39 @@ not_above n e = grind (arith, nat_tests)
 -- a subblock without tokens, whose first coefficient doesn't stand apart
 pub nothing_in : (r : Residues) (k : ℕ) (b : Block) → IsBlock b → b ≡ block_of r.tokens.now (r.first + k) → r.firsts ≡ None → b.tokens ≡ 0 → IsNothing (residue_in r k)
 nothing_in r k b is same apart none i below =
-    ap (λ (o : Option (List ℤ)). get_or (idct (with_first o k (dequantised (block_of r.tokens.now (r.first + k)).levels r.dc r.ac))) i (pos 0)) apart
+    ap (λ (o : Option (Bor (List ℤ))). get_or (idct (with_first o k (dequantised (block_of r.tokens.now (r.first + k)).levels r.dc r.ac))) i (pos 0)) apart
     ∙ ap (λ (a : Block). get_or (idct (dequantised a.levels r.dc r.ac)) i (pos 0)) (sym same)
     ∙ ap (λ (zs : List ℤ). get_or zs i (pos 0)) (no_residue b is r.dc r.ac none) ∙ get_or-replicate 16 i (pos 0) (pos 0) below
+
+-- ---- the luma of a macroblock
+module _ (t : Tokens) (f : Factors) where
+  plain : (k : ℕ) → idct (dequantised (block_of t (1 + k)).levels f.y_dc f.y_ac) ≡ luma_residue false t f k
+  unfolding luma_residue luma_coefficients
+  plain k = refl
+
+  after : (k : ℕ) → idct (set (dequantised (block_of t (1 + k)).levels 0 f.y_ac) 0 (get_or (luma_firsts t f) k (pos 0))) ≡ luma_residue true t f k
+  unfolding luma_residue luma_coefficients
+  after k = ap idct (any_first (block_of t (1 + k)).levels (get_or (luma_firsts t f) k (pos 0)) f.y_dc f.y_ac)
+
+  zeros : (b : Block) → IsBlock b → b ≡ block_of t 0 → b.tokens ≡ 0 → luma_firsts t f ≡ replicate 16 (pos 0)
+  unfolding luma_firsts
+  zeros b is same none = ap (λ (a : Block). iwht (dequantised a.levels f.y2_dc f.y2_ac)) (sym same) ∙ no_firsts b is f.y2_dc f.y2_ac none
+
+  -- without a Y2 block
+  pub luma_plain : (y2 : Bool) → y2 ≡ false → (k : ℕ) → k < 16 → idct (dequantised (block_of t (1 + k)).levels f.y_dc f.y_ac) ≡ luma_residue y2 t f k
+  luma_plain y2 e k below = plain k ∙ ap (λ (b : Bool). luma_residue b t f k) (sym e)
+
+  -- with one, which gives the first coefficients
+  pub luma_after : (y2 : Bool) → y2 ≡ true → (firsts : List ℤ) → firsts ≡ luma_firsts t f → (k : ℕ) → k < 16
+      → idct (set (dequantised (block_of t (1 + k)).levels 0 f.y_ac) 0 (get_or firsts k (pos 0))) ≡ luma_residue y2 t f k
+  luma_after y2 e firsts are k below =
+      ap (λ (zs : List ℤ). idct (set (dequantised (block_of t (1 + k)).levels 0 f.y_ac) 0 (get_or zs k (pos 0)))) are
+      ∙ after k ∙ ap (λ (b : Bool). luma_residue b t f k) (sym e)
+
+  -- with one that has no tokens
+  pub luma_without : (y2 : Bool) → y2 ≡ true → (b : Block) → IsBlock b → b ≡ block_of t 0 → b.tokens ≡ 0 → (k : ℕ) → k < 16
+      → idct (dequantised (block_of t (1 + k)).levels 0 f.y_ac) ≡ luma_residue y2 t f k
+  luma_without y2 e b is same none k below =
+      ap idct (sym (no_first (block_of t (1 + k)).levels 0 f.y_ac))
+      ∙ ap (λ (z : ℤ). idct (set (dequantised (block_of t (1 + k)).levels 0 f.y_ac) 0 z)) (sym (get_or-replicate 16 k (pos 0) (pos 0) below))
+      ∙ luma_after y2 e (replicate 16 (pos 0)) (sym (zeros b is same none)) k below

@@ -10,7 +10,7 @@ use Rattle.vp_transform.proofs.Words.{coded, read}
 use Rattle.vp_transform.specs.Transform.{idct}
 use Rattle.vp_transform.specs.Short.{cut}
 use Rattle.vp_recon.specs.Rebuilt.{summed, to_byte}
-use Rattle.vp_recon.specs.Sums.{HasEqualSums, IsNothing, AreSums}
+use Rattle.vp_recon.specs.Sums.{HasEqualSums, IsNothing}
 
 pub summed-zero : (p : ℕ) → p ≤ 255 → summed p (pos 0) ≡ p
 unfolding summed
@@ -41,13 +41,6 @@ pub lanes_summed : (p : ℕ) (z : ℤ) → unsigned_abs (int_min (pos 255) (int_
 unfolding summed
 lanes_summed p z = lanes_byte (pos p +ℤ z)
 
--- A number of i16 held to 255 adds as much as the number itself.
-pub lanes_sum : (p : ℕ) (z : ℤ) → p < 256 → unsigned_abs (int_min (pos 255) (int_max (pos 0) (pos p +ℤ int_min (pos 255) (int_max (negsuc 32767) z)))) ≡ summed p z
-unfolding summed
-lanes_sum p z byte =
-    let e : int_min (pos 255) (int_max (pos 0) (pos p +ℤ int_min (pos 255) (int_max (negsuc 32767) z))) ≡ int_min (pos 255) (int_max (pos 0) (pos p +ℤ z)) = omega (arith, ints, clamps) in
-    ap unsigned_abs e ∙ lanes_byte (pos p +ℤ z)
-
 -- numbers of i16, as lanes have them
 pub lane_kept : (numbers : List ℤ) (i : ℕ) → SFits w16 (get_or numbers i (pos 0)) → get_or (map (to_z w16) (map (of_z w16) numbers)) i (pos 0) ≡ get_or numbers i (pos 0)
 lane_kept numbers i fits = coded_at numbers i ∙ to_z-of_z w16 (get_or numbers i (pos 0)) fits
@@ -63,19 +56,12 @@ pub cut_kept : (kept residue : List ℤ) → ((i : ℕ) → i < 16 → get_or ke
 cut_kept kept residue e i below pixel byte = ap (summed pixel) (e i below) ∙ summed-cut pixel (get_or residue i (pos 0)) byte
 
 -- the sums of a subblock without residue
-pub nothing_added : (prediction residue : List ℕ) (zs : List ℤ) → IsNothing zs → prediction ≡ residue → ((i : ℕ) → i < 16 → get_or prediction i 0 ≤ 255) → AreSums residue prediction zs
+pub nothing_added : (prediction residue : List ℕ) (zs : List ℤ) → IsNothing zs → prediction ≡ residue → ((i : ℕ) → i < 16 → get_or prediction i 0 ≤ 255)
+    → (r c : ℕ) → r < 4 → c < 4 → get_or residue (r * 4 + c) 0 ≡ summed (get_or prediction (r * 4 + c) 0) (get_or zs (4 * r + c) (pos 0))
 nothing_added prediction same zs nothing e byte r c rin cin =
     let p : ℕ = get_or prediction (r * 4 + c) 0 in
     ap (λ (ps : List ℕ). get_or ps (r * 4 + c) 0) (sym e)
     ∙ sym (summed-zero p (byte (r * 4 + c) (omega arith))) ∙ ap (summed p) (sym (nothing (4 * r + c) (omega arith)))
-
--- sixteen times a number that the code keeps
-pub sixteen_kept : (z : ℤ) (i : ℕ) → i < 16 → get_or (replicate 16 (to_z w16 (of_z w16 (cut z)))) i (pos 0) ≡ cut z
-unfolding cut
-sixteen_kept (pos n) i below =
-    get_or-replicate 16 i (to_z w16 (of_z w16 (cut (pos n)))) (pos 0) below ∙ to_z-of_z w16 (cut (pos n)) (record { sfits = let e : min n 32767 < 2 ^ 15 = omega arith in e })
-sixteen_kept (negsuc n) i below =
-    get_or-replicate 16 i (to_z w16 (of_z w16 (cut (negsuc n)))) (pos 0) below ∙ to_z-of_z w16 (cut (negsuc n)) (record { sfits = let e : min n 32767 < 2 ^ 15 = omega arith in e })
 
 -- a residue whose coefficients but the first are 0
 pub even_is : (dc z : ℤ) → unsigned_abs dc ≤ 2 ^ 40 → idct (coded dc ∷ replicate 15 (pos 0)) ≡ replicate 16 z → unsigned_abs z ≤ unsigned_abs (coded dc)

@@ -1,5 +1,5 @@
 -- Private to the crate: two adjacent subblocks, and their residues in vectors.
-use Rattle.std.specs.Prelude.{◌≡◌, ℕ, ◌+◌, ◌*◌, ◌/◌, ◌<◌, ◌≤◌, ℤ, pos, List, [], ◌∷◌, nat_lt, slice_index_or}
+use Rattle.std.specs.Prelude.{◌≡◌, ℕ, ◌+◌, ◌*◌, ◌/◌, ◌<◌, ◌≤◌, ℤ, pos, List, [], ◌∷◌, nat_lt, slice_index, slice_index_or}
 use Rattle.std.specs.Prelude.{unsigned_abs, if◌then◌else◌}
 use Rattle.vp_base.specs.Raster.{Raster, pixel}
 use Rattle.vp_base.specs.Block.{with_block}
@@ -19,6 +19,10 @@ with_both_added p x y left right = with_added (with_added p x y left) (x + 4) y 
 abbrev pub row_lane : List ℤ → List ℤ → List ℤ → List ℤ → ℕ → ℕ → ℤ
 row_lane a b c d r j = lane (slice_index_or (a ∷ b ∷ c ∷ d ∷ []) r []) j
 
+-- pixel j of row r of four rows
+abbrev pub row_pixel : List ℕ → List ℕ → List ℕ → List ℕ → ℕ → ℕ → ℕ
+row_pixel a b c d r j = slice_index (slice_index_or (a ∷ b ∷ c ∷ d ∷ []) r []) j
+
 -- four rows of eight numbers that add up like the residues of two adjacent subblocks
 abbrev pub ArePairedRows : List ℤ → List ℤ → List ℤ → List ℤ → List ℤ → List ℤ → Type 0
 ArePairedRows a b c d left right =
@@ -26,9 +30,9 @@ ArePairedRows a b c d left right =
     → (summed pixel (row_lane a b c d r j) ≡ summed pixel (slice_index_or left (4 * r + j) (pos 0)))
     × (summed pixel (row_lane a b c d r (4 + j)) ≡ summed pixel (slice_index_or right (4 * r + j) (pos 0)))
 
--- eight numbers small enough to be added to a byte in 16 bits
-abbrev pub AreLow : List ℤ → Type 0
-AreLow xs = (j : ℕ) → j < 8 → unsigned_abs (lane xs j) ≤ 8800
+-- n numbers small enough to be added to a byte in 16 bits
+abbrev pub AreLow : ℕ → List ℤ → Type 0
+AreLow n xs = (j : ℕ) → j < n → unsigned_abs (lane xs j) ≤ 8800
 
 -- p with the residues of the subblocks before k added to the block at column x of row y, which is `across` subblocks
 -- wide and high

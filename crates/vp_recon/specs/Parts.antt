@@ -1,6 +1,7 @@
 -- Private to the crate: the coefficients from which the residues of a plane's subblocks are computed.
 use Rattle.std.specs.Prelude.{◌≡◌, ℕ, ◌+◌, ◌<◌, ◌^◌, ℤ, pos, List, ◌∷◌, replicate, Option, Some, None, slice_index_or}
 use Rattle.std.specs.Prelude.{slice_set}
+use Rattle.std.specs.Borrow.{Bor}
 use Rattle.vp_tokens.specs.Blocks.{block_of}
 use Rattle.vp_quant.specs.Quant.{dequantised}
 use Rattle.vp_transform.specs.Fits.{EachWithin}
@@ -8,9 +9,9 @@ use Rattle.vp_transform.specs.Transform.{idct}
 use Rattle.vp_recon.specs.declared.residue.Residues.{Residues}
 
 -- the coefficients of subblock k, whose DC coefficient comes from the Y2 block if there is one
-abbrev pub with_first : Option (List ℤ) → ℕ → List ℤ → List ℤ
+abbrev pub with_first : Option (Bor (List ℤ)) → ℕ → List ℤ → List ℤ
 with_first None k own = own
-with_first (Some firsts) k own = slice_set own 0 (slice_index_or firsts k (pos 0))
+with_first (Some firsts) k own = slice_set own 0 (slice_index_or firsts.now k (pos 0))
 
 -- the coefficients of subblock k
 abbrev pub coefficients_in : Residues → ℕ → List ℤ
@@ -26,7 +27,7 @@ HasResidues n r residue = (k : ℕ) → k < n → residue_in r k ≡ residue k
 
 -- DC coefficients from a Y2 block are small enough for the inverse transform in 64 bits
 abbrev pub HasSmallFirsts : Residues → Type 0
-HasSmallFirsts r = (firsts : List ℤ) → r.firsts ≡ Some firsts → EachWithin (2 ^ 40) firsts
+HasSmallFirsts r = (firsts : Bor (List ℤ)) → r.firsts ≡ Some firsts → EachWithin (2 ^ 40) firsts.now
 
 -- the AC coefficients of subblock k are 0
 abbrev pub IsAlone : Residues → ℕ → Type 0

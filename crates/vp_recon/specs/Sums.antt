@@ -15,12 +15,6 @@ HasEqualSums kept residue =
 abbrev pub IsNothing : List ℤ → Type 0
 IsNothing residue = (i : ℕ) → i < 16 → slice_index_or residue i (pos 0) ≡ pos 0
 
--- the pixels of a subblock are the sums of its prediction and its residue
-abbrev pub AreSums : List ℕ → List ℕ → List ℤ → Type 0
-AreSums pixels prediction residue =
-    (r c : ℕ) → r < 4 → c < 4 → slice_index pixels (r * 4 + c)
-    ≡ summed (slice_index prediction (r * 4 + c)) (slice_index_or residue (4 * r + c) (pos 0))
-
 -- the pixels of a block of n by n are bytes
 abbrev pub AreBlockBytes : ℕ → (ℕ → ℕ → ℕ) → Type 0
 AreBlockBytes n block = (r c : ℕ) → r < n → c < n → block r c ≤ 255

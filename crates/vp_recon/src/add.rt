@@ -1,25 +1,94 @@
-//! Adds residues to the prediction that a picture already holds.
+//! Adds residues to the prediction that a picture already holds (RFC 6386, chapter 14.5).
 
 ghost use Rattle.std.specs.Prelude.{◌≡◌, ℕ, ◌+◌, ◌*◌, ◌%◌, ◌<◌, ◌≤◌, ℤ, List};
 ghost use Rattle.vp_base.specs.Raster.{pixel};
 ghost use Rattle.vp_base.specs.Block.{with_block};
 ghost use Rattle.vp_base.specs.Image.{Image, plane_of, with_plane};
+ghost use Rattle.vp_recon.specs.Residue.{luma_residue, chroma_residue};
 ghost use Rattle.vp_recon.specs.Rebuilt.{summed, residue_at};
-ghost use Rattle.vp_recon.specs.Sums.{HasEqualSums, ArePixelBytes};
-ghost use Rattle.vp_recon.specs.Pairs.{with_added, with_both_added, with_until};
+ghost use Rattle.vp_recon.specs.Sums.{ArePixelBytes};
+ghost use Rattle.vp_recon.specs.Pairs.{with_both_added, with_until};
 ghost use Rattle.vp_recon.specs.Parts.{HasSmallFirsts, HasResidues, IsAlone, residue_in};
 
-use crate::four::{add_sixteen, four_numbers};
-use crate::pair::{add_rows, even_number, even_row};
-use crate::reconstruct::sums;
-use crate::residue::Residues;
-use crate::subblock::{load_subblock, store_subblock};
+use crate::residue::{Residues, block_of, luma_firsts, residues_after_y2};
+use crate::rows::add_rows;
 use vp_base::Picture;
-use vp_transform::idct_pair;
+use vp_quant::Factors;
+use vp_tokens::Tokens;
+
+/// Adds the luma residues of a macroblock, with a Y2 block or without, to its prediction. The macroblock begins at
+/// column `x` of row `y`.
+pub(crate) fn add_luma(
+    picture: &mut Picture,
+    x: usize,
+    y: usize,
+    y2: bool,
+    tokens: &Tokens,
+    factors: &Factors,
+)
+    requires columns { x + 16 ≤ picture.old.luma.width }
+    requires rows { y + 16 ≤ picture.old.luma.height }
+    requires bytes { ArePixelBytes picture.old.luma x y 16 }
+    ensures { picture.new ≡ with_plane picture.old 0 (with_block picture.old.luma x y 16 16
+        (λ r c. summed (pixel picture.old.luma (x + c) (y + r))
+        (residue_at 4 (luma_residue y2 tokens.now factors.now) r c))) }
+{
+    if !y2 {
+        let residues = Residues {
+            tokens,
+            first: 1,
+            dc: factors.y_dc,
+            ac: factors.y_ac,
+            firsts: None,
+        };
+        return add_residues::<4>(picture, 0, x, y, &residues);
+    }
+    // If the Y2 block has no tokens, all DC coefficients are 0.
+    if block_of(tokens, 0).tokens == 0 {
+        let residues = Residues {
+            tokens,
+            first: 1,
+            dc: 0,
+            ac: factors.y_ac,
+            firsts: None,
+        };
+        return add_residues::<4>(picture, 0, x, y, &residues);
+    }
+    let firsts = luma_firsts(tokens, factors);
+    let residues = residues_after_y2(tokens, factors.y_ac, &firsts);
+    add_residues::<4>(picture, 0, x, y, &residues);
+}
+
+/// Adds the residues of a macroblock's chroma plane to its prediction: 1 is U, 2 is V.
+pub(crate) fn add_chroma(
+    picture: &mut Picture,
+    plane: usize,
+    x: usize,
+    y: usize,
+    tokens: &Tokens,
+    factors: &Factors,
+)
+    requires plane { plane < 3 }
+    requires columns { x + 8 ≤ (plane_of picture.old plane).width }
+    requires rows { y + 8 ≤ (plane_of picture.old plane).height }
+    requires bytes { ArePixelBytes (plane_of picture.old plane) x y 8 }
+    ensures { picture.new ≡ with_plane picture.old plane (with_block (plane_of picture.old plane) x y 8 8
+        (λ r c. summed (pixel (plane_of picture.old plane) (x + c) (y + r))
+        (residue_at 2 (chroma_residue tokens.now factors.now plane) r c))) }
+{
+    let residues = Residues {
+        tokens,
+        first: 13 + 4 * plane,
+        dc: factors.uv_dc,
+        ac: factors.uv_ac,
+        firsts: None,
+    };
+    add_residues::<2>(picture, plane, x, y, &residues);
+}
 
 /// Adds the residues of a block's subblocks to its prediction. The block begins at column `x` of row `y`, and is
 /// `ACROSS` subblocks (2 or 4) wide and high.
-pub(crate) fn add_residues<const ACROSS: usize>(
+fn add_residues<const ACROSS: usize>(
     picture: &mut Picture,
     plane: usize,
     x: usize,
@@ -141,11 +210,8 @@ fn add_four(picture: &mut Picture, plane: usize, x: usize, y: usize, residues: &
         (with_both_added (plane_of picture.old plane) x y (residue_in residues.now k) (residue_in residues.now (k + 1)))
         (x + 8) y (residue_in residues.now (k + 2)) (residue_in residues.now (k + 3))) }
 {
-    let a = even_number(residues.first_coefficient(k));
-    let b = even_number(residues.first_coefficient(k + 1));
-    let c = even_number(residues.first_coefficient(k + 2));
-    let d = even_number(residues.first_coefficient(k + 3));
-    add_sixteen(picture, plane, x, y, four_numbers(a, b, c, d));
+    let row = residues.row_of_four(k);
+    add_rows::<16>(picture, plane, x, y, row, row, row, row);
 }
 
 /// Adds the residues of subblocks `k` and `k + 1` to two adjacent subblocks. The left one begins at column `x` of row
@@ -160,46 +226,6 @@ fn add_two(picture: &mut Picture, plane: usize, x: usize, y: usize, residues: &R
     ensures { picture.new ≡ with_plane picture.old plane (with_both_added (plane_of picture.old plane) x y
         (residue_in residues.now k) (residue_in residues.now (k + 1))) }
 {
-    if !residues.has_others(k) && !residues.has_others(k + 1) {
-        let left = even_number(residues.first_coefficient(k));
-        let right = even_number(residues.first_coefficient(k + 1));
-        let row = even_row(left, right);
-        add_rows(picture, plane, x, y, (row, row, row, row));
-        return;
-    }
-    let Some(left) = residues.small_coefficients(k) else {
-        return add_each(picture, plane, x, y, residues, k);
-    };
-    let Some(right) = residues.small_coefficients(k + 1) else {
-        return add_each(picture, plane, x, y, residues, k);
-    };
-    add_rows(picture, plane, x, y, idct_pair(&left, &right));
-}
-
-/// Adds the residues of subblocks `k` and `k + 1` as `add_two` does, one by one, for coefficients of any size.
-fn add_each(picture: &mut Picture, plane: usize, x: usize, y: usize, residues: &Residues, k: usize)
-    requires plane { plane < 3 }
-    requires columns { x + 8 ≤ (plane_of picture.old plane).width }
-    requires rows { y + 4 ≤ (plane_of picture.old plane).height }
-    requires subblocks { k + 1 < 16 }
-    requires blocks { residues.now.first + k + 1 < 25 }
-    requires small { HasSmallFirsts residues.now }
-    ensures { picture.new ≡ with_plane picture.old plane (with_both_added (plane_of picture.old plane) x y
-        (residue_in residues.now k) (residue_in residues.now (k + 1))) }
-{
-    let _known = picture.plane(plane).width();
-    add_kept(picture, plane, x, y, residues.kept(k));
-    add_kept(picture, plane, x + 4, y, residues.kept(k + 1));
-}
-
-/// Adds a residue, clamped to 16 bits, to the subblock at column `x` of row `y`.
-fn add_kept(picture: &mut Picture, plane: usize, x: usize, y: usize, numbers: [i16; 16])
-    requires plane { plane < 3 }
-    requires columns { x + 4 ≤ (plane_of picture.old plane).width }
-    requires rows { y + 4 ≤ (plane_of picture.old plane).height }
-    ensures { (residue : List ℤ) → HasEqualSums numbers residue
-        → picture.new ≡ with_plane picture.old plane (with_added (plane_of picture.old plane) x y residue) }
-{
-    let prediction = load_subblock(picture.plane(plane), x, y);
-    store_subblock(picture, plane, x, y, sums(prediction, numbers));
+    let (a, b, c, d) = residues.rows_of_two(k);
+    add_rows::<8>(picture, plane, x, y, a, b, c, d);
 }

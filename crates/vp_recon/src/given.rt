@@ -9,9 +9,9 @@ ghost use Rattle.vp_recon.specs.Rebuilt.{rebuilt, summed, residue_at};
 ghost use Rattle.vp_recon.specs.Residue.{residue, luma_residue, chroma_residue};
 ghost use Rattle.vp_recon.specs.Given.{IsGiven};
 
-use crate::add::add_residues;
-use crate::residue::{chroma_residues, luma_residues, with_residue};
-use crate::subblock::store_subblock;
+use crate::add::{add_chroma, add_luma};
+use crate::residue::with_residue;
+use crate::rows::store_subblock;
 use std::simd::prelude::*;
 use vp_base::{Picture, Place};
 use vp_quant::Factors;
@@ -71,8 +71,7 @@ fn rebuild_luma(
     let _known = [picture.plane(0).width(), picture.plane(0).height()];
     let [x, y] = [16 * place.column, 16 * place.row];
     picture.write_block::<16>(0, x, y, prediction);
-    let residues = luma_residues(true, tokens, factors);
-    add_residues::<4>(picture, 0, x, y, &residues);
+    add_luma(picture, x, y, true, tokens, factors);
 }
 
 /// Rebuilds a chroma plane of a macroblock: 1 is U, 2 is V.
@@ -94,8 +93,7 @@ fn rebuild_chroma(
     let _known = [picture.plane(plane).width(), picture.plane(plane).height()];
     let [x, y] = [8 * place.column, 8 * place.row];
     picture.write_block::<8>(plane, x, y, prediction);
-    let residues = chroma_residues(tokens, factors, plane);
-    add_residues::<2>(picture, plane, x, y, &residues);
+    add_chroma(picture, plane, x, y, tokens, factors);
 }
 
 /// Rebuilds one luma subblock of a macroblock without a Y2 block from its prediction, in raster order, and its residue.
@@ -116,5 +114,5 @@ pub fn rebuild_subblock_from(
     let _known = [picture.plane(0).width(), picture.plane(0).height()];
     let prediction = u8x16::from_array(*prediction);
     let pixels = with_residue(prediction, levels, factors.y_dc, factors.y_ac);
-    store_subblock(picture, 0, 4 * block.column, 4 * block.row, pixels);
+    store_subblock(picture, 4 * block.column, 4 * block.row, pixels);
 }

@@ -10,7 +10,7 @@ ghost use Rattle.vp_recon.specs.Rebuilt.{luma_rebuilt, with_sub};
 ghost use Rattle.vp_recon.specs.Sums.{AreBlockBytes, with_colours};
 
 use crate::residue::{block_of, with_residue};
-use crate::subblock::store_subblock;
+use crate::rows::store_subblock;
 use std::simd::prelude::*;
 use vp_base::{Picture, Place};
 use vp_intra::{predict_chroma_into, predict_luma_into, predict_sub};
@@ -40,7 +40,7 @@ pub fn rebuild_subblock(
     let prediction = predict_sub(picture.plane(0), x, y, mode);
     let prediction = u8x16::from_array(prediction);
     let pixels = with_residue(prediction, levels, factors.y_dc, factors.y_ac);
-    store_subblock(picture, 0, x, y, pixels);
+    store_subblock(picture, x, y, pixels);
 }
 
 /// Rebuilds the luma of a B_PRED macroblock: its subblocks have modes of their own.

@@ -2,17 +2,14 @@
 #![tactic(auto)]
 
 mod add;
-mod four;
 mod given;
 mod inter;
 mod intra;
 mod laws;
 mod macroblock;
-mod pair;
 mod predictor;
-mod reconstruct;
 mod residue;
-mod subblock;
+mod rows;
 
 pub use given::{MacroblockPixels, rebuild_from, rebuild_subblock_from};
 pub use intra::rebuild_subblock;

@@ -10,11 +10,10 @@ ghost use Rattle.vp_recon.specs.Prediction.{luma_prediction, chroma_prediction, 
 ghost use Rattle.vp_recon.specs.Rebuilt.{luma_rebuilt, chroma_rebuilt, rebuilt};
 ghost use Rattle.vp_recon.specs.Sums.{AreBlockBytes, with_colours};
 
-use crate::add::add_residues;
+use crate::add::{add_chroma, add_luma};
 use crate::inter::{predict_inter_chroma, predict_inter_luma};
 use crate::intra::{predict_intra_chroma, predict_intra_luma, rebuild_subs};
 use crate::predictor::Predictor;
-use crate::residue::{chroma_residues, luma_residues};
 use vp_base::{Picture, Place};
 use vp_quant::Factors;
 use vp_tokens::Tokens;
@@ -125,8 +124,7 @@ fn rebuild_at_once(
     let _known = [picture.plane(0).width(), picture.plane(0).height()];
     let [x, y] = [16 * place.column, 16 * place.row];
     predict_luma(picture, place, source);
-    let residues = luma_residues(source.has_y2(), tokens, factors);
-    add_residues::<4>(picture, 0, x, y, &residues);
+    add_luma(picture, x, y, source.has_y2(), tokens, factors);
 }
 
 /// Rebuilds both chroma planes of a macroblock.
@@ -145,6 +143,6 @@ fn rebuild_chroma(
     let _known = picture.dim();
     let [x, y] = [8 * place.column, 8 * place.row];
     predict_chroma(picture, place, source);
-    add_residues::<2>(picture, 1, x, y, &chroma_residues(tokens, factors, 1));
-    add_residues::<2>(picture, 2, x, y, &chroma_residues(tokens, factors, 2));
+    add_chroma(picture, 1, x, y, tokens, factors);
+    add_chroma(picture, 2, x, y, tokens, factors);
 }

@@ -1,20 +1,25 @@
 //! The residues of a macroblock's subblocks (RFC 6386, chapter 14).
 
-ghost use Rattle.std.specs.Prelude.{◌≡◌, ℕ, ◌+◌, ◌*◌, ◌<◌, ◌≤◌, ◌^◌, ℤ, pos, ◌*ℤ◌, List, ◌∷◌, length, replicate};
-ghost use Rattle.std.specs.Prelude.{slice_index_or, slice_set, unsigned_abs, Some, false, true};
+ghost use Rattle.std.specs.Prelude.{◌≡◌, ℕ, ◌+◌, ◌*◌, ◌<◌, ◌≤◌, ◌^◌, ℤ, pos, ◌*ℤ◌, List, ◌∷◌, replicate};
+ghost use Rattle.std.specs.Prelude.{slice_index, slice_index_or, slice_set, unsigned_abs, Some, false, true};
 ghost use Rattle.vp_transform.specs.Fits.{EachWithin};
 ghost use Rattle.vp_transform.specs.Transform.{idct, iwht};
 ghost use Rattle.vp_quant.specs.Quant.{dequantised};
 ghost use Rattle.vp_tokens.specs.Blocks.{block_of};
-ghost use Rattle.vp_recon.specs.Residue.{residue, luma_firsts, luma_residue, chroma_residue};
-ghost use Rattle.vp_recon.specs.Sums.{AreSums, HasEqualSums, IsNothing};
+ghost use Rattle.vp_transform.specs.Pair.{row_in};
+ghost use Rattle.vp_lanes.specs.Lane.{lane};
+ghost use Rattle.vp_recon.specs.Rebuilt.{summed};
+ghost use Rattle.vp_recon.specs.Residue.{residue, luma_firsts};
+ghost use Rattle.vp_recon.specs.Sums.{HasEqualSums, IsNothing};
 ghost use Rattle.vp_recon.specs.Parts.{HasSmallFirsts, HasResidues, IsAlone, coefficients_in, residue_in};
+ghost use Rattle.vp_recon.specs.Pairs.{ArePairedRows, AreLow};
 
-use crate::reconstruct::sums;
+use crate::rows::added;
 use std::simd::prelude::*;
+use vp_lanes::clamp_i16;
 use vp_quant::{Factors, dequant, dequant_short};
 use vp_tokens::{Block, Tokens};
-use vp_transform::{cut, idct_cut, idct_of_first, idct_short, iwht, iwht_of_first};
+use vp_transform::{idct_cut, idct_of_first, idct_pair, idct_short, iwht, iwht_of_first};
 
 /// Returns block `n`: 0 is Y2, 1 to 16 are luma, 17 to 20 U, and 21 to 24 V.
 pub(crate) fn block_of(tokens: &Tokens, n: usize) -> &Block
@@ -32,14 +37,25 @@ fn first_of(levels: &[i16; 16], dc: u16) -> i64
     i64::from(levels[0]) * i64::from(dc)
 }
 
-/// Returns the residue of a subblock, clamped to 16 bits. `first` is its DC coefficient; its AC levels are multiplied
-/// by `ac`.
+/// Returns the residue of each pixel of a DC-only subblock, clamped to -255..255. `first` is its DC coefficient.
+fn even_number(first: i64) -> i16
+    requires { unsigned_abs first ≤ 2 ^ 40 }
+    ensures value { (i pixel : ℕ) → i < 16 → pixel ≤ 255 → summed pixel result
+        ≡ summed pixel (slice_index_or (idct (first ∷ replicate 15 (pos 0))) i (pos 0)) }
+    ensures within { unsigned_abs result ≤ 255 }
+{
+    idct_of_first(first).clamp(-255, 255) as i16
+}
+
+/// Returns numbers that add up like the residue of a subblock. `first` is its DC coefficient; its AC levels are
+/// multiplied by `ac`.
 fn residue_with_first(block: &Block, first: i64, ac: u16) -> [i16; 16]
     requires { unsigned_abs first ≤ 2 ^ 40 }
-    ensures { HasEqualSums result (idct (slice_set (dequantised block.now.levels 0 ac) 0 first)) }
+    ensures value { HasEqualSums result (idct (slice_set (dequantised block.now.levels 0 ac) 0 first)) }
+    ensures low { AreLow 16 result }
 {
     if block.tokens <= 1 {
-        return [cut(idct_of_first(first)); 16];
+        return [even_number(first); 16];
     }
     match short_with_first(block, first, ac) {
         Some(coefficients) => idct_short(&coefficients),
@@ -84,39 +100,52 @@ fn with_first(block: [i16; 16], first: i16) -> [i16; 16]
         .to_array()
 }
 
-/// Returns the residue of a subblock, clamped to 16 bits, in 64-bit arithmetic: for coefficients of any size.
+/// Returns the residue of a subblock, clamped to -255..255, in 64-bit arithmetic: for coefficients of any size.
 fn large_residue(block: &Block, first: i64, ac: u16) -> [i16; 16]
     requires { unsigned_abs first ≤ 2 ^ 40 }
-    ensures { HasEqualSums result (idct (slice_set (dequantised block.now.levels 0 ac) 0 first)) }
+    ensures value { HasEqualSums result (idct (slice_set (dequantised block.now.levels 0 ac) 0 first)) }
+    ensures low { AreLow 16 result }
 {
     let mut coefficients = dequant(&block.levels, 0, ac);
     coefficients[0] = first;
-    idct_cut(&coefficients)
+    held(idct_cut(&coefficients))
+}
+
+/// Clamps each number to -255..255: more makes no difference to a pixel.
+fn held(numbers: [i16; 16]) -> [i16; 16]
+    ensures value { (residue : List ℤ) → HasEqualSums numbers residue → HasEqualSums result residue }
+    ensures low { AreLow 16 result }
+{
+    clamp_i16(i16x16::from_array(numbers), -255, 255).to_array()
 }
 
 /// Adds the residue of a subblock to its prediction. Its DC level is multiplied by `dc`, its AC levels by `ac`.
 pub(crate) fn with_residue(prediction: u8x16, block: &Block, dc: u16, ac: u16) -> u8x16
-    ensures { AreSums result prediction (residue block.now.levels dc ac) }
+    ensures { (r c : ℕ) → r < 4 → c < 4 → slice_index result (r * 4 + c) ≡ summed (slice_index prediction (r * 4 + c))
+        (slice_index_or (residue block.now.levels dc ac) (4 * r + c) (pos 0)) }
 {
     if block.tokens == 0 {
         return prediction;
     }
     let first = first_of(&block.levels, dc);
-    sums(prediction, residue_with_first(block, first, ac))
+    added::<16>(
+        prediction,
+        i16x16::from_array(residue_with_first(block, first, ac)),
+    )
 }
 
 /// The inputs from which the residues of a plane's subblocks are computed.
 #[derive(Clone, Copy)]
 pub(crate) struct Residues<'a> {
-    tokens: &'a Tokens,
+    pub(crate) tokens: &'a Tokens,
     /// The number of the first subblock's block among all 25.
-    first: usize,
+    pub(crate) first: usize,
     /// The factor of the DC levels.
-    dc: u16,
+    pub(crate) dc: u16,
     /// The factor of the AC levels.
-    ac: u16,
+    pub(crate) ac: u16,
     /// The DC coefficients, if a Y2 block gives them.
-    firsts: Option<[i64; 16]>,
+    pub(crate) firsts: Option<&'a [i64; 16]>,
 }
 
 impl<'a> Residues<'a> {
@@ -135,7 +164,7 @@ impl<'a> Residues<'a> {
         ensures { result ≡ false → IsNothing (residue_in self.now k) }
     {
         let block = block_of(self.tokens, self.first + k);
-        match &self.firsts {
+        match self.firsts {
             None => block.tokens > 0,
             Some(_) => true,
         }
@@ -155,7 +184,7 @@ impl<'a> Residues<'a> {
     }
 
     /// Returns the DC coefficient of subblock `k`.
-    pub(crate) fn first_coefficient(&self, k: usize) -> i64
+    fn first_coefficient(&self, k: usize) -> i64
         requires subblock { k < 16 }
         requires block { self.now.first + k < 25 }
         requires small { HasSmallFirsts self.now }
@@ -163,14 +192,14 @@ impl<'a> Residues<'a> {
             + k)).levels 0 self.now.ac) 0 result ≡ coefficients_in self.now k }
         ensures within { unsigned_abs result ≤ 2 ^ 40 }
     {
-        match &self.firsts {
+        match self.firsts {
             None => first_of(&block_of(self.tokens, self.first + k).levels, self.dc),
             Some(firsts) => firsts[k],
         }
     }
 
     /// Returns whether subblock `k` may have nonzero AC coefficients.
-    pub(crate) fn has_others(&self, k: usize) -> bool
+    fn has_others(&self, k: usize) -> bool
         requires { self.now.first + k < 25 }
         ensures { result ≡ false → (first : ℤ) → slice_set (dequantised
             (block_of self.now.tokens.now (self.now.first + k)).levels 0 self.now.ac) 0 first
@@ -198,7 +227,7 @@ impl<'a> Residues<'a> {
 
     /// Returns the coefficients of subblock `k`, if all are from -2200 to 2200 and its levels are small enough for
     /// 16-bit products.
-    pub(crate) fn small_coefficients(&self, k: usize) -> Option<[i16; 16]>
+    fn small_coefficients(&self, k: usize) -> Option<[i16; 16]>
         requires subblock { k < 16 }
         requires block { self.now.first + k < 25 }
         requires small { HasSmallFirsts self.now }
@@ -209,27 +238,132 @@ impl<'a> Residues<'a> {
         let Some(own) = dequant_short(block.levels, self.dc, self.ac) else {
             return None;
         };
-        match &self.firsts {
+        match self.firsts {
             None => Some(own),
             Some(firsts) => with_small_first(own, firsts[k]),
         }
     }
 
-    /// Returns the residue of subblock `k`, clamped to 16 bits.
-    pub(crate) fn kept(&self, k: usize) -> [i16; 16]
+    /// Returns numbers that add up like the residue of subblock `k`.
+    fn kept(&self, k: usize) -> [i16; 16]
         requires subblock { k < 16 }
         requires block { self.now.first + k < 25 }
         requires small { HasSmallFirsts self.now }
-        ensures { HasEqualSums result (residue_in self.now k) }
+        ensures value { HasEqualSums result (residue_in self.now k) }
+        ensures low { AreLow 16 result }
     {
         let block = block_of(self.tokens, self.first + k);
         residue_with_first(block, self.first_coefficient(k), self.ac)
     }
+
+    /// Returns four rows of eight numbers that add up like the residues of subblocks `k` and `k + 1` side by side.
+    pub(crate) fn rows_of_two(&self, k: usize) -> (i16x8, i16x8, i16x8, i16x8)
+        requires subblocks { k + 1 < 16 }
+        requires blocks { self.now.first + k + 1 < 25 }
+        requires small { HasSmallFirsts self.now }
+        ensures value { ArePairedRows result.0 result.1 result.2 result.3 (residue_in self.now k)
+            (residue_in self.now (k + 1)) }
+        ensures first { AreLow 8 result.0 }
+        ensures second { AreLow 8 result.1 }
+        ensures third { AreLow 8 result.2 }
+        ensures fourth { AreLow 8 result.3 }
+    {
+        if !self.has_others(k) && !self.has_others(k + 1) {
+            let left = even_number(self.first_coefficient(k));
+            let right = even_number(self.first_coefficient(k + 1));
+            let row = even_row(left, right);
+            return (row, row, row, row);
+        }
+        let Some(left) = self.small_coefficients(k) else {
+            return self.large_rows_of_two(k);
+        };
+        let Some(right) = self.small_coefficients(k + 1) else {
+            return self.large_rows_of_two(k);
+        };
+        idct_pair(&left, &right)
+    }
+
+    /// Returns such rows for coefficients of any size.
+    fn large_rows_of_two(&self, k: usize) -> (i16x8, i16x8, i16x8, i16x8)
+        requires subblocks { k + 1 < 16 }
+        requires blocks { self.now.first + k + 1 < 25 }
+        requires small { HasSmallFirsts self.now }
+        ensures value { ArePairedRows result.0 result.1 result.2 result.3 (residue_in self.now k)
+            (residue_in self.now (k + 1)) }
+        ensures first { AreLow 8 result.0 }
+        ensures second { AreLow 8 result.1 }
+        ensures third { AreLow 8 result.2 }
+        ensures fourth { AreLow 8 result.3 }
+    {
+        side_by_side(self.kept(k), self.kept(k + 1))
+    }
+
+    /// Returns a row of the residues of subblocks `k` to `k + 3`, clamped to -255..255. They must have DC coefficients
+    /// only: then their rows are all equal.
+    pub(crate) fn row_of_four(&self, k: usize) -> i16x16
+        requires subblocks { k + 3 < 16 }
+        requires blocks { self.now.first + k + 3 < 25 }
+        requires small { HasSmallFirsts self.now }
+        requires first { IsAlone self.now k }
+        requires second { IsAlone self.now (k + 1) }
+        requires third { IsAlone self.now (k + 2) }
+        requires fourth { IsAlone self.now (k + 3) }
+        ensures value { (i r c pixel : ℕ) → i < 4 → r < 4 → c < 4 → pixel ≤ 255 → summed pixel (lane result (4 * i + c))
+            ≡ summed pixel (slice_index_or (residue_in self.now (k + i)) (4 * r + c) (pos 0)) }
+        ensures low { AreLow 16 result }
+    {
+        four_numbers(
+            even_number(self.first_coefficient(k)),
+            even_number(self.first_coefficient(k + 1)),
+            even_number(self.first_coefficient(k + 2)),
+            even_number(self.first_coefficient(k + 3)),
+        )
+    }
+}
+
+/// Returns a row of the residues of two subblocks, each of which has one value for all its pixels.
+fn even_row(left: i16, right: i16) -> i16x8
+    ensures left { (j : ℕ) → j < 4 → lane result j ≡ left }
+    ensures right { (j : ℕ) → j < 4 → lane result (4 + j) ≡ right }
+{
+    i16x8::splat(left).shuffle::<8>(i16x8::splat(right), [0, 1, 2, 3, 8, 9, 10, 11])
+}
+
+/// Returns a row of the residues of four subblocks, each of which has one value for all its pixels.
+fn four_numbers(a: i16, b: i16, c: i16, d: i16) -> i16x16
+    ensures first { (j : ℕ) → j < 4 → lane result j ≡ a }
+    ensures second { (j : ℕ) → j < 4 → lane result (4 + j) ≡ b }
+    ensures third { (j : ℕ) → j < 4 → lane result (8 + j) ≡ c }
+    ensures fourth { (j : ℕ) → j < 4 → lane result (12 + j) ≡ d }
+{
+    i16x8::splat(a)
+        .shuffle::<8>(i16x8::splat(b), [0, 1, 2, 3, 8, 9, 10, 11])
+        .shuffle::<16>(
+            i16x8::splat(c).shuffle::<8>(i16x8::splat(d), [0, 1, 2, 3, 8, 9, 10, 11]),
+            [0, 1, 2, 3, 4, 5, 6, 7, 8, 9, 10, 11, 12, 13, 14, 15],
+        )
+}
+
+/// Returns the rows of two subblocks side by side.
+fn side_by_side(left: [i16; 16], right: [i16; 16]) -> (i16x8, i16x8, i16x8, i16x8)
+    ensures top { result.0 ≡ row_in left right 0 }
+    ensures upper { result.1 ≡ row_in left right 1 }
+    ensures lower { result.2 ≡ row_in left right 2 }
+    ensures bottom { result.3 ≡ row_in left right 3 }
+{
+    let left = i16x16::from_array(left);
+    let right = i16x16::from_array(right);
+    (
+        left.shuffle::<8>(right, [0, 1, 2, 3, 16, 17, 18, 19]),
+        left.shuffle::<8>(right, [4, 5, 6, 7, 20, 21, 22, 23]),
+        left.shuffle::<8>(right, [8, 9, 10, 11, 24, 25, 26, 27]),
+        left.shuffle::<8>(right, [12, 13, 14, 15, 28, 29, 30, 31]),
+    )
 }
 
 /// Returns the DC coefficients of the luma subblocks, from the Y2 block (RFC 6386, chapter 14.3).
 #[tactic(auto, unfolding(crate::specs::Residue::luma_firsts))]
-fn luma_firsts(tokens: &Tokens, factors: &Factors) -> [i64; 16]
+pub(crate) fn luma_firsts(tokens: &Tokens, factors: &Factors) -> [i64; 16]
     ensures value { result ≡ luma_firsts tokens.now factors.now }
     ensures within { EachWithin (2 ^ 40) result }
 {
@@ -240,68 +374,24 @@ fn luma_firsts(tokens: &Tokens, factors: &Factors) -> [i64; 16]
     iwht(&dequant(&block.levels, factors.y2_dc, factors.y2_ac))
 }
 
-/// Returns the luma residues of a macroblock, with a Y2 block or without.
-#[tactic(auto, unfolding(crate::specs::Residue::luma_residue, crate::specs::Residue::luma_coefficients))]
-pub(crate) fn luma_residues<'a>(y2: bool, tokens: &'a Tokens, factors: &Factors) -> Residues<'a>
+/// Returns the luma residues of a macroblock whose Y2 block gives the DC coefficients `firsts`.
+pub(crate) fn residues_after_y2<'a>(
+    tokens: &'a Tokens,
+    ac: u16,
+    firsts: &'a [i64; 16],
+) -> Residues<'a>
+    requires { EachWithin (2 ^ 40) firsts.now }
     ensures first { result.first ≡ 1 }
     ensures small { HasSmallFirsts result }
-    ensures value { HasResidues 16 result (luma_residue y2 tokens.now factors.now) }
+    ensures value { HasResidues 16 result (λ k. idct (slice_set
+        (dequantised (block_of tokens.now (1 + k)).levels 0 ac) 0 (slice_index_or firsts.now k (pos 0)))) }
 {
-    if y2 {
-        return residues_with_y2(tokens, factors);
-    }
-    Residues {
-        tokens,
-        first: 1,
-        dc: factors.y_dc,
-        ac: factors.y_ac,
-        firsts: None,
-    }
-}
-
-/// Returns the luma residues of a macroblock with a Y2 block. If that has no tokens, all DC coefficients are 0.
-fn residues_with_y2<'a>(tokens: &'a Tokens, factors: &Factors) -> Residues<'a>
-    ensures first { result.first ≡ 1 }
-    ensures small { HasSmallFirsts result }
-    ensures value { HasResidues 16 result (luma_residue true tokens.now factors.now) }
-{
-    let block = block_of(tokens, 0);
-    if block.tokens == 0 {
-        return Residues {
-            tokens,
-            first: 1,
-            dc: 0,
-            ac: factors.y_ac,
-            firsts: None,
-        };
-    }
-    let firsts = luma_firsts(tokens, factors);
+    let firsts = Some(firsts);
     Residues {
         tokens,
         first: 1,
         dc: 0,
-        ac: factors.y_ac,
-        firsts: Some(firsts),
-    }
-}
-
-/// Returns the residues of a chroma plane: 1 is U, 2 is V.
-#[tactic(auto, unfolding(crate::specs::Residue::chroma_residue))]
-pub(crate) fn chroma_residues<'a>(
-    tokens: &'a Tokens,
-    factors: &Factors,
-    plane: usize,
-) -> Residues<'a>
-    requires { plane < 3 }
-    ensures first { result.first ≡ 13 + 4 * plane }
-    ensures small { HasSmallFirsts result }
-    ensures value { HasResidues 4 result (chroma_residue tokens.now factors.now plane) }
-{
-    Residues {
-        tokens,
-        first: 13 + 4 * plane,
-        dc: factors.uv_dc,
-        ac: factors.uv_ac,
-        firsts: None,
+        ac,
+        firsts,
     }
 }

@@ -1,124 +1,45 @@
-use Rattle.std.proofs.Common.{◌≡◌, ◌∙◌, ◌+◌, ◌<◌, ℕ, ℤ, pos, List, ◌∷◌, replicate, set, sym, ap, subst, arith}
-use Rattle.vp_lanes.specs.Lane.{lane}
-use Rattle.vp_quant.specs.Quant.{dequantised}
-use Rattle.vp_tokens.specs.Blocks.{block_of}
-use Rattle.vp_transform.specs.Transform.{idct}
-use Rattle.vp_transform.proofs.Words.{coded, read}
-use Rattle.vp_transform.proofs.Sizes.{fits-below}
+use Rattle.std.proofs.Common.{◌∙◌, ◌+◌, ◌<◌, ◌≤◌, ℕ, ℤ, ap, arith}
+use Rattle.vp_base.specs.Raster.{Raster, pixel}
+use Rattle.vp_base.specs.Image.{Image, plane_of, with_plane}
+use Rattle.vp_recon.specs.Rebuilt.{summed}
+use Rattle.vp_recon.specs.Pairs.{row_lane}
+use Rattle.vp_recon.specs.Parts.{residue_in}
 use Rattle.vp_transform.proofs.Eights.{handed16}
-use Rattle.vp_recon.specs.Parts.{coefficients_in, residue_in}
-use Rattle.vp_recon.specs.Pairs.{ArePairedRows, AreLow}
-use Rattle.vp_recon.proofs.PairLemmas.{low_handed, short_coded, even_low, even_rows, row_low, rows_kept}
+use Rattle.vp_recon.proofs.PairLemmas.{low_handed, row_handed, both_as_one}
 use Rattle.vp_recon.proofs.add.add_two.Goals as goal
 
-pub add_rows-requires-clause-first : goal.add_rows-requires-clause-first
-add_rows-requires-clause-first c =
-    let l = c.even_number-left.result in
-    let m = c.even_number-right.result in
-    let row = c.even_row-row.result in
-    let el : (j : ℕ) → j < 4 → lane row j ≡ l = λ j h. c.even_row-row.ensures.left j h ∙ short_coded l c.even_number-left.ensures.within in
-    let em : (j : ℕ) → j < 4 → lane row (4 + j) ≡ m = λ j h. c.even_row-row.ensures.right j h ∙ short_coded m c.even_number-right.ensures.within in
-    let low : AreLow row = even_low row l m el em c.even_number-left.ensures.within c.even_number-right.ensures.within in
-    low_handed row low
-
-pub add_rows-requires-clause-second : goal.add_rows-requires-clause-second
-add_rows-requires-clause-second c =
-    let l = c.even_number-left.result in
-    let m = c.even_number-right.result in
-    let row = c.even_row-row.result in
-    let el : (j : ℕ) → j < 4 → lane row j ≡ l = λ j h. c.even_row-row.ensures.left j h ∙ short_coded l c.even_number-left.ensures.within in
-    let em : (j : ℕ) → j < 4 → lane row (4 + j) ≡ m = λ j h. c.even_row-row.ensures.right j h ∙ short_coded m c.even_number-right.ensures.within in
-    let low : AreLow row = even_low row l m el em c.even_number-left.ensures.within c.even_number-right.ensures.within in
-    low_handed row low
-
-pub add_rows-requires-clause-third : goal.add_rows-requires-clause-third
-add_rows-requires-clause-third c =
-    let l = c.even_number-left.result in
-    let m = c.even_number-right.result in
-    let row = c.even_row-row.result in
-    let el : (j : ℕ) → j < 4 → lane row j ≡ l = λ j h. c.even_row-row.ensures.left j h ∙ short_coded l c.even_number-left.ensures.within in
-    let em : (j : ℕ) → j < 4 → lane row (4 + j) ≡ m = λ j h. c.even_row-row.ensures.right j h ∙ short_coded m c.even_number-right.ensures.within in
-    let low : AreLow row = even_low row l m el em c.even_number-left.ensures.within c.even_number-right.ensures.within in
-    low_handed row low
-
-pub add_rows-requires-clause-fourth : goal.add_rows-requires-clause-fourth
-add_rows-requires-clause-fourth c =
-    let l = c.even_number-left.result in
-    let m = c.even_number-right.result in
-    let row = c.even_row-row.result in
-    let el : (j : ℕ) → j < 4 → lane row j ≡ l = λ j h. c.even_row-row.ensures.left j h ∙ short_coded l c.even_number-left.ensures.within in
-    let em : (j : ℕ) → j < 4 → lane row (4 + j) ≡ m = λ j h. c.even_row-row.ensures.right j h ∙ short_coded m c.even_number-right.ensures.within in
-    let low : AreLow row = even_low row l m el em c.even_number-left.ensures.within c.even_number-right.ensures.within in
-    low_handed row low
-
-pub returns-then-not-has_others-2 : goal.returns-then-not-has_others-2
-returns-then-not-has_others-2 c =
-    let l = c.even_number-left.result in
-    let m = c.even_number-right.result in
-    let row = c.even_row-row.result in
-    let el : (j : ℕ) → j < 4 → lane row j ≡ l = λ j h. c.even_row-row.ensures.left j h ∙ short_coded l c.even_number-left.ensures.within in
-    let em : (j : ℕ) → j < 4 → lane row (4 + j) ≡ m = λ j h. c.even_row-row.ensures.right j h ∙ short_coded m c.even_number-right.ensures.within in
-    let low : AreLow row = even_low row l m el em c.even_number-left.ensures.within c.even_number-right.ensures.within in
-    let r = c.args.residues.now in
-    let k : ℕ = c.args.k in
-    let first : ℤ = c.first_coefficient.result in
-    let second : ℤ = c.first_coefficient-then-not-has_others-2.result in
-    let exact_first : coded first ≡ first = read first (fits-below first (omega (arith, c.first_coefficient.ensures.within))) in
-    let exact_second : coded second ≡ second = read second (fits-below second (omega (arith, c.first_coefficient-then-not-has_others-2.ensures.within))) in
-    let left : coded first ∷ replicate 15 (pos 0) ≡ coefficients_in r k =
-    sym (c.has_others.ensures c.if-not-has_others.true (coded first))
-    ∙ ap (λ (z : ℤ). set (dequantised (block_of r.tokens.now (r.first + k)).levels 0 r.ac) 0 z) exact_first ∙ c.first_coefficient.ensures.value in
-    let right : coded second ∷ replicate 15 (pos 0) ≡ coefficients_in r (k + 1) =
-    sym (c.has_others-then-not-has_others.ensures c.if-not-has_others-2.true (coded second))
-    ∙ ap (λ (z : ℤ). set (dequantised (block_of r.tokens.now (r.first + (k + 1))).levels 0 r.ac) 0 z) exact_second ∙ c.first_coefficient-then-not-has_others-2.ensures.value in
-    c.add_rows.ensures (residue_in r k) (residue_in r (k + 1))
-    (subst (λ (zs : List ℤ). ArePairedRows (handed16 row) (handed16 row) (handed16 row) (handed16 row) (idct zs) (residue_in r (k + 1))) left
-    (subst (λ (zs : List ℤ). ArePairedRows (handed16 row) (handed16 row) (handed16 row) (handed16 row) (idct (coded first ∷ replicate 15 (pos 0))) (idct zs)) right
-    (even_rows row l m el em (idct (coded first ∷ replicate 15 (pos 0))) (idct (coded second ∷ replicate 15 (pos 0))) low c.even_number-left.ensures.value c.even_number-right.ensures.value)))
-
-pub add_rows-requires-2-clause-first : goal.add_rows-requires-2-clause-first
-add_rows-requires-2-clause-first c =
-    let a : List ℤ = c.in-Some.left in
-    let b : List ℤ = c.in-Some-small_coefficients.right in
-    let small_a = c.small_coefficients.ensures.small a c.in-Some.is in
-    let small_b = c.small_coefficients-2.ensures.small b c.in-Some-small_coefficients.is in
-    row_low a b small_a small_b 0 c.idct_pair.result.0 c.idct_pair.ensures.top
-
-pub add_rows-requires-2-clause-second : goal.add_rows-requires-2-clause-second
-add_rows-requires-2-clause-second c =
-    let a : List ℤ = c.in-Some.left in
-    let b : List ℤ = c.in-Some-small_coefficients.right in
-    let small_a = c.small_coefficients.ensures.small a c.in-Some.is in
-    let small_b = c.small_coefficients-2.ensures.small b c.in-Some-small_coefficients.is in
-    row_low a b small_a small_b 1 c.idct_pair.result.1 c.idct_pair.ensures.upper
-
-pub add_rows-requires-2-clause-third : goal.add_rows-requires-2-clause-third
-add_rows-requires-2-clause-third c =
-    let a : List ℤ = c.in-Some.left in
-    let b : List ℤ = c.in-Some-small_coefficients.right in
-    let small_a = c.small_coefficients.ensures.small a c.in-Some.is in
-    let small_b = c.small_coefficients-2.ensures.small b c.in-Some-small_coefficients.is in
-    row_low a b small_a small_b 2 c.idct_pair.result.2 c.idct_pair.ensures.lower
-
-pub add_rows-requires-2-clause-fourth : goal.add_rows-requires-2-clause-fourth
-add_rows-requires-2-clause-fourth c =
-    let a : List ℤ = c.in-Some.left in
-    let b : List ℤ = c.in-Some-small_coefficients.right in
-    let small_a = c.small_coefficients.ensures.small a c.in-Some.is in
-    let small_b = c.small_coefficients-2.ensures.small b c.in-Some-small_coefficients.is in
-    row_low a b small_a small_b 3 c.idct_pair.result.3 c.idct_pair.ensures.bottom
+pub add_rows-requires : goal.add_rows-requires
+add_rows-requires c =
+    let v = c.rows_of_two.result in
+    let to = c.rows_of_two.ensures in (
+      omega arith,
+      (
+        omega arith,
+        (
+          c.requires.plane,
+          (
+            c.requires.columns,
+            (c.requires.rows, (low_handed 8 v.0 to.first, (low_handed 8 v.1 to.second, (low_handed 8 v.2 to.third, low_handed 8 v.3 to.fourth)))),
+          ),
+        ),
+      ),
+    )
 
 pub returns : goal.returns
 returns c =
-    let a : List ℤ = c.in-Some.left in
-    let b : List ℤ = c.in-Some-small_coefficients.right in
+    let p : Image = c.args.picture.now in
+    let n : ℕ = c.args.plane in
+    let q : Raster = plane_of c.args.picture.now c.args.plane in
+    let x : ℕ = c.args.x in
+    let y : ℕ = c.args.y in
     let r = c.args.residues.now in
     let k : ℕ = c.args.k in
-    let v0 = c.idct_pair.result.0 in
-    let v1 = c.idct_pair.result.1 in
-    let v2 = c.idct_pair.result.2 in
-    let v3 = c.idct_pair.result.3 in
-    c.add_rows-2.ensures (residue_in r k) (residue_in r (k + 1))
-    (subst (λ (zs : List ℤ). ArePairedRows v0 v1 v2 v3 (idct zs) (residue_in r (k + 1))) (c.small_coefficients.ensures.value a c.in-Some.is)
-    (subst (λ (zs : List ℤ). ArePairedRows v0 v1 v2 v3 (idct a) (idct zs)) (c.small_coefficients-2.ensures.value b c.in-Some-small_coefficients.is)
-    (rows_kept (idct a) (idct b) v0 v1 v2 v3 c.idct_pair.ensures.top c.idct_pair.ensures.upper c.idct_pair.ensures.lower c.idct_pair.ensures.bottom)))
+    let v = c.rows_of_two.result in
+    let to = c.rows_of_two.ensures in
+    let f : ℕ → ℕ → ℤ = row_lane (handed16 v.0) (handed16 v.1) (handed16 v.2) (handed16 v.3) in
+    let same = row_handed 8 v.0 v.1 v.2 v.3 to.first to.second to.third to.fourth in
+    let byte : (i j : ℕ) → i < 4 → j < 8 → pixel q (x + j) (y + i) ≤ 255 = c.add_rows.ensures.bytes in
+    c.add_rows.ensures.value
+    ∙ ap (with_plane p n) (both_as_one q x y (residue_in r k) (residue_in r (k + 1)) (λ i j. summed (pixel q (x + j) (y + i)) (f i j))
+    (λ i j iin jin. ap (summed (pixel q (x + j) (y + i))) (same i j iin (omega arith)) ∙ (to.value i j iin jin (pixel q (x + j) (y + i)) (byte i j iin (omega arith))).0)
+    (λ i j iin jin. ap (summed (pixel q (x + (4 + j)) (y + i))) (same i (4 + j) iin (omega arith)) ∙ (to.value i j iin jin (pixel q (x + (4 + j)) (y + i)) (byte i (4 + j) iin (omega arith))).1))

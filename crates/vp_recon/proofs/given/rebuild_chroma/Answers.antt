@@ -4,16 +4,16 @@ use Rattle.vp_recon.specs.Rebuilt.{residue_at}
 use Rattle.vp_recon.proofs.AddLemmas.{predicted_bytes, still_wide, still_high, summed_onto}
 use Rattle.vp_recon.proofs.given.rebuild_chroma.Goals as goal
 
-pub add_residues-requires-clause-columns : goal.add_residues-requires-clause-columns
-add_residues-requires-clause-columns c =
+pub add_chroma-requires-clause-columns : goal.add_chroma-requires-clause-columns
+add_chroma-requires-clause-columns c =
     still_wide c.args.picture.now c.write_block.new.self c.args.plane (8 * c.args.place.column) (8 * c.args.place.row) 8 _ c.requires.columns c.requires.rows c.write_block.ensures
 
-pub add_residues-requires-clause-rows : goal.add_residues-requires-clause-rows
-add_residues-requires-clause-rows c =
+pub add_chroma-requires-clause-rows : goal.add_chroma-requires-clause-rows
+add_chroma-requires-clause-rows c =
     still_high c.args.picture.now c.write_block.new.self c.args.plane (8 * c.args.place.column) (8 * c.args.place.row) 8 _ c.requires.columns c.requires.rows c.write_block.ensures
 
-pub add_residues-requires-clause-bytes : goal.add_residues-requires-clause-bytes
-add_residues-requires-clause-bytes c =
+pub add_chroma-requires-clause-bytes : goal.add_chroma-requires-clause-bytes
+add_chroma-requires-clause-bytes c =
     predicted_bytes c.args.picture.now c.write_block.new.self c.args.plane (8 * c.args.place.column) (8 * c.args.place.row) 8 _ c.requires.columns c.requires.rows c.write_block.ensures
     (λ r j rin jin. let byte = c.fits-prediction (r * 8 + j) in omega arith)
 
@@ -21,4 +21,4 @@ pub returns : goal.returns
 returns c =
     let own = chroma_residue c.args.tokens.now c.args.factors.now c.args.plane in
     summed_onto c.args.picture.now c.write_block.new.self c.args.plane (8 * c.args.place.column) (8 * c.args.place.row) 8 (λ r j. get_or c.args.prediction.now (r * 8 + j) 0)
-    c.requires.columns c.requires.rows c.write_block.ensures c.add_residues.new.picture (residue_at 2 own) (c.add_residues.ensures own c.chroma_residues-residues.ensures.value)
+    c.requires.columns c.requires.rows c.write_block.ensures c.add_chroma.new.picture (residue_at 2 own) c.add_chroma.ensures

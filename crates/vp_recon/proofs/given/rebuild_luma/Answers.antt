@@ -4,16 +4,16 @@ use Rattle.vp_recon.specs.Rebuilt.{residue_at}
 use Rattle.vp_recon.proofs.AddLemmas.{predicted_bytes, still_wide, still_high, summed_onto}
 use Rattle.vp_recon.proofs.given.rebuild_luma.Goals as goal
 
-pub add_residues-requires-clause-columns : goal.add_residues-requires-clause-columns
-add_residues-requires-clause-columns c =
+pub add_luma-requires-clause-columns : goal.add_luma-requires-clause-columns
+add_luma-requires-clause-columns c =
     still_wide c.args.picture.now c.write_block.new.self 0 (16 * c.args.place.column) (16 * c.args.place.row) 16 _ c.requires.columns c.requires.rows c.write_block.ensures
 
-pub add_residues-requires-clause-rows : goal.add_residues-requires-clause-rows
-add_residues-requires-clause-rows c =
+pub add_luma-requires-clause-rows : goal.add_luma-requires-clause-rows
+add_luma-requires-clause-rows c =
     still_high c.args.picture.now c.write_block.new.self 0 (16 * c.args.place.column) (16 * c.args.place.row) 16 _ c.requires.columns c.requires.rows c.write_block.ensures
 
-pub add_residues-requires-clause-bytes : goal.add_residues-requires-clause-bytes
-add_residues-requires-clause-bytes c =
+pub add_luma-requires-clause-bytes : goal.add_luma-requires-clause-bytes
+add_luma-requires-clause-bytes c =
     predicted_bytes c.args.picture.now c.write_block.new.self 0 (16 * c.args.place.column) (16 * c.args.place.row) 16 _ c.requires.columns c.requires.rows c.write_block.ensures
     (λ r j rin jin. let byte = c.fits-prediction (r * 16 + j) in omega arith)
 
@@ -21,4 +21,4 @@ pub returns : goal.returns
 returns c =
     let own = luma_residue true c.args.tokens.now c.args.factors.now in
     summed_onto c.args.picture.now c.write_block.new.self 0 (16 * c.args.place.column) (16 * c.args.place.row) 16 (λ r j. get_or c.args.prediction.now (r * 16 + j) 0)
-    c.requires.columns c.requires.rows c.write_block.ensures c.add_residues.new.picture (residue_at 4 own) (c.add_residues.ensures own c.luma_residues-residues.ensures.value)
+    c.requires.columns c.requires.rows c.write_block.ensures c.add_luma.new.picture (residue_at 4 own) c.add_luma.ensures

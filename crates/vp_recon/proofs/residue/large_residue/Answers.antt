@@ -22,13 +22,14 @@ idct_cut-requires c =
     (λ i. let e : unsigned_abs (get_or coefficients i (pos 0)) ≤ 2 ^ 40 = omega (arith, c.dequant-coefficients.ensures.within i) in e) small)
     (omega arith)
 
-pub returns : goal.returns
-returns c =
+pub returns-clause-value : goal.returns-clause-value
+returns-clause-value c =
     let dc : ℤ = c.args.first in
     let exact : coded dc ≡ dc = read dc (fits-below dc (omega (arith, c.requires))) in
     let coefficients : List ℤ = c.dequant-coefficients.result in
-    subst (λ (zs : List ℤ). HasEqualSums c.idct_cut.result (idct zs))
+    c.held.ensures.value (idct (set (dequantised c.args.block.now.levels 0 c.args.ac) 0 dc))
+    (subst (λ (zs : List ℤ). HasEqualSums c.idct_cut.result (idct zs))
     (ap (λ (z : ℤ). set coefficients 0 z) exact ∙ ap (λ (zs : List ℤ). set zs 0 dc) c.dequant-coefficients.ensures.value
     ∙ ap (λ (b : Block). set (dequantised b.levels 0 c.args.ac) 0 dc) c.block.view_is)
     (cut_kept c.idct_cut.result (idct (set coefficients 0 (coded dc)))
-    c.idct_cut.ensures)
+    c.idct_cut.ensures))

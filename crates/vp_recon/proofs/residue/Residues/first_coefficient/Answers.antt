@@ -1,4 +1,5 @@
 use Rattle.std.proofs.Common.{◌≡◌, ◌∙◌, ◌+◌, ◌*ℤ◌, ℤ, pos, List, Option, get_or, set, sym, ap, arith}
+use Rattle.std.specs.Borrow.{Bor}
 use Rattle.vp_transform.proofs.Words.{coded, read}
 use Rattle.vp_transform.proofs.Sizes.{fits-below}
 use Rattle.vp_tokens.specs.Block.{Block}
@@ -17,15 +18,15 @@ returns-in-None-clause-value c =
     ap (λ (z : ℤ). set (dequantised levels 0 r.ac) 0 z)
     (exact ∙ c.first_of.ensures.value ∙ ap (λ (b : Block). get_or b.levels 0 (pos 0) *ℤ pos r.dc) (c.behind-self.view_is ∙ c.block_of.ensures))
     ∙ own_first levels r.dc r.ac
-    ∙ ap (λ (o : Option (List ℤ)). with_first o c.args.k (dequantised levels r.dc r.ac)) (sym c.in-None.is)
+    ∙ ap (λ (o : Option (Bor (List ℤ))). with_first o c.args.k (dequantised levels r.dc r.ac)) (sym c.in-None.is)
 
 pub returns-in-Some-clause-value : goal.returns-in-Some-clause-value
 returns-in-Some-clause-value c =
     let r = c.args.self.now in
-    let firsts : List ℤ = c.in-Some.firsts in
-    let first : ℤ = get_or firsts c.args.k (pos 0) in
+    let firsts : Bor (List ℤ) = c.in-Some.firsts in
+    let first : ℤ = get_or firsts.now c.args.k (pos 0) in
     let exact : coded first ≡ first = read first (fits-below first (omega (arith, c.requires.small firsts c.in-Some.is c.args.k))) in
     let levels : List ℤ = (block_of r.tokens.now (r.first + c.args.k)).levels in
     ap (λ (z : ℤ). set (dequantised levels 0 r.ac) 0 z) exact
     ∙ any_first levels first r.dc r.ac
-    ∙ ap (λ (o : Option (List ℤ)). with_first o c.args.k (dequantised levels r.dc r.ac)) (sym c.in-Some.is)
+    ∙ ap (λ (o : Option (Bor (List ℤ))). with_first o c.args.k (dequantised levels r.dc r.ac)) (sym c.in-Some.is)
