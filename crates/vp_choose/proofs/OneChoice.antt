@@ -23,7 +23,7 @@ use Rattle.vp_transform.specs.Forward.{fwht}
 use Rattle.vp_refs.specs.References.{reference_picture}
 use Rattle.vp_recon.specs.Predictor.{Predictor, Intra, Inter}
 use Rattle.vp_recon.specs.Prediction.{luma_prediction, chroma_prediction}
-use Rattle.vp_choose.specs.declared.luma.Luma.{Luma}
+use Rattle.vp_choose.specs.declared.luma.LumaChoice.{LumaChoice}
 use Rattle.vp_choose.specs.declared.motion.Moved.{Moved}
 use Rattle.vp_choose.specs.declared.frame.Choice.{Choice}
 use Rattle.vp_choose.specs.Costs.{block_pixels}
@@ -103,10 +103,10 @@ luma_same f g g' factors t u e a b k h =
 modes_are : (m n : Modes) → m.segment ≡ n.segment → m.skip ≡ n.skip → m.reference ≡ n.reference → m.luma ≡ n.luma → m.subs ≡ n.subs → m.chroma ≡ n.chroma → m ≡ n
 modes_are m n s k r l b c = λ i. record { segment = s i; skip = k i; reference = r i; luma = l i; subs = b i; chroma = c i }
 
-abbrev subs_by : Luma → Bool → List SubMode
+abbrev subs_by : LumaChoice → Bool → List SubMode
 subs_by l b = if b then l.subblocks.modes else replicate 16 sub_is.Dc
 
-module _ (source : Image) (factors : Factors) (place : Place) (p : Image) (l m : Luma) (same : AreSameLuma l m) (a b : Choice)
+module _ (source : Image) (factors : Factors) (place : Place) (p : Image) (l m : LumaChoice) (same : AreSameLuma l m) (a b : Choice)
     (wa : IsWellFormedChoice a) (wb : IsWellFormedChoice b) (h : IsIntra source factors place p l a.modes a.tokens) (k : IsIntra source factors place p m b.modes b.tokens) where
   luma_mode : a.modes.luma ≡ b.modes.luma
   luma_mode = h.luma ∙ same.mode ∙ sym k.luma
@@ -202,7 +202,7 @@ module _ (frame : FrameSearch) (p : Image) (g : Grid MacroblockMotion) (place : 
   skips : a.tokens ≡ b.tokens → a.modes.skip ≡ b.modes.skip
   skips e = h.skip ∙ ap (λ (t : Tokens). not (any_token t)) e ∙ sym k.skip
 
-  if_intra : (l m : Luma) → AreSameLuma l m → IsIntraChoice frame p place l a → IsIntraChoice frame p place m b → AreSameChoice a b
+  if_intra : (l m : LumaChoice) → AreSameLuma l m → IsIntraChoice frame p place l a → IsIntraChoice frame p place m b → AreSameChoice a b
   if_intra l m same x y =
       let tokens : a.tokens ≡ b.tokens = tokens_of_levels (intra_levels frame.source frame.factors place p l m same a b wa wb x y) in
       record {
@@ -220,7 +220,7 @@ module _ (frame : FrameSearch) (p : Image) (g : Grid MacroblockMotion) (place : 
         motion = λ _. inter_motion frame.source frame.factors s g place p m a b x y;
       }
 
-  if_weighed : (s : Search) (l m : Luma) → AreSameLuma l m → IsWeighed frame s p g place l a → IsWeighed frame s p g place m b → AreSameChoice a b
+  if_weighed : (s : Search) (l m : LumaChoice) → AreSameLuma l m → IsWeighed frame s p g place l a → IsWeighed frame s p g place m b → AreSameChoice a b
   if_weighed s l m same x y =
       let moved : x.moved ≡ y.moved = moved_is_one s frame.source.luma place x.moved y.moved x.is y.is in
       let costs : x.moved.cost ≡ y.moved.cost = ap (λ (v : Moved). v.cost) moved in
@@ -231,7 +231,7 @@ module _ (frame : FrameSearch) (p : Image) (g : Grid MacroblockMotion) (place : 
             (subst (λ (v : Moved). IsInter frame.source frame.factors s g place p v a) moved (x.inter (omega arith))) (y.inter (omega arith))
       ]
 
-  if_taken : (o : Option Search) (l m : Luma) → AreSameLuma l m → IsTaken o frame p g place l a → IsTaken o frame p g place m b → AreSameChoice a b
+  if_taken : (o : Option Search) (l m : LumaChoice) → AreSameLuma l m → IsTaken o frame p g place l a → IsTaken o frame p g place m b → AreSameChoice a b
   if_taken None l m same x y = if_intra l m same x y
   if_taken (Some s) l m same x y = if_weighed s l m same x y
 

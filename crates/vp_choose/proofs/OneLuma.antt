@@ -16,7 +16,7 @@ use Rattle.vp_search.specs.FirstLeast.{IsFirstLeast}
 use Rattle.vp_search.proofs.RefinedLemmas.{first_is_one}
 use Rattle.vp_search.proofs.SumLemmas.{sum_below-same}
 use Rattle.vp_choose.specs.declared.subblocks.Subblocks.{Subblocks}
-use Rattle.vp_choose.specs.declared.luma.Luma.{Luma}
+use Rattle.vp_choose.specs.declared.luma.LumaChoice.{LumaChoice}
 use Rattle.vp_choose.specs.Costs.{sub_cost, chroma_cost}
 use Rattle.vp_choose.specs.Levels.{part}
 use Rattle.vp_choose.specs.Subblocks.{IsBestMode, AreSubblocksChosen, sub_levels, mode_at, mode_of, levels_in, sub_rebuilt, after_subblocks}
@@ -78,12 +78,12 @@ module _ (f : ℕ → ℕ → ℕ) (factors : Factors) (place : Place) (p : Rast
       ∙ ap (λ (m : SubMode). sub_cost (part 4 f k) (after_subblocks factors place p t k) (block_place 4 place k) m) (mode_alike k h old))
       ∙ sym b.cost
 
-pub record AreSameLuma (l m : Luma) : Type 0 where
+pub record AreSameLuma (l m : LumaChoice) : Type 0 where
   pub mode : l.mode ≡ m.mode
   pub cost : l.cost ≡ m.cost
   pub subblocks : AreAlike 16 l.subblocks m.subblocks
 
-pub luma_is_one : (f : ℕ → ℕ → ℕ) (factors : Factors) (place : Place) (p : Raster) (l m : Luma) → IsLuma f factors place p l → IsLuma f factors place p m → AreSameLuma l m
+pub luma_is_one : (f : ℕ → ℕ → ℕ) (factors : Factors) (place : Place) (p : Raster) (l m : LumaChoice) → IsLuma f factors place p l → IsLuma f factors place p m → AreSameLuma l m
 luma_is_one f factors place p l m a b =
     let c : l.subblocks.cost ≡ m.subblocks.cost = cost_alike f factors place p l.subblocks m.subblocks a.subblocks b.subblocks in
     let first : IsFirstLeast 5 (λ i. luma_cost f p place m.subblocks.cost (luma_at i)) a.number =

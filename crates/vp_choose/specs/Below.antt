@@ -5,7 +5,7 @@ use Rattle.vp_base.specs.Raster.{Raster}
 use Rattle.vp_base.specs.Image.{Image, with_plane}
 use Rattle.vp_quant.specs.declared.factors.Factors.{Factors}
 use Rattle.vp_choose.specs.declared.subblocks.Subblocks.{Subblocks}
-use Rattle.vp_choose.specs.declared.luma.Luma.{Luma}
+use Rattle.vp_choose.specs.declared.luma.LumaChoice.{LumaChoice}
 use Rattle.vp_choose.specs.Subblocks.{AreSubblocksChosen, after_subblocks}
 use Rattle.vp_choose.specs.Intra.{IsLuma}
 
@@ -17,7 +17,7 @@ pub record AreSubblocksOver (f : ℕ → ℕ → ℕ) (factors : Factors) (place
 
 -- the choice of the luma mode costs at least a limit
 pub record IsLumaOver (f : ℕ → ℕ → ℕ) (factors : Factors) (place : Place) (p : Raster) (limit : ℕ) : Type 0 where
-  pub luma : Luma
+  pub luma : LumaChoice
   pub is : IsLuma f factors place p luma
   pub over : limit ≤ luma.cost
 

@@ -8,7 +8,7 @@ use Rattle.vp_motion.specs.Vector.{MacroblockMotion}
 use Rattle.vp_tokens.specs.Blocks.{any_token, no_blocks}
 use Rattle.vp_tokens.specs.Spelled.{AreSpelled, AreTight}
 use Rattle.vp_recon.specs.Predictor.{has_y2}
-use Rattle.vp_choose.specs.declared.luma.Luma.{Luma}
+use Rattle.vp_choose.specs.declared.luma.LumaChoice.{LumaChoice}
 use Rattle.vp_choose.specs.declared.motion.Moved.{Moved}
 use Rattle.vp_choose.specs.declared.frame.Choice.{Choice}
 use Rattle.vp_choose.specs.Costs.{block_pixels}
@@ -17,19 +17,19 @@ use Rattle.vp_choose.specs.Intra.{IsLuma, IsIntra}
 use Rattle.vp_choose.specs.Inter.{IsMoved, IsInter}
 
 -- the intra choice with this luma
-abbrev pub IsIntraChoice : FrameSearch → Image → Place → Luma → Choice → Type 0
+abbrev pub IsIntraChoice : FrameSearch → Image → Place → LumaChoice → Choice → Type 0
 IsIntraChoice frame p place luma c = IsIntra frame.source frame.factors place p luma c.modes c.tokens
 
 -- inter is chosen if it costs no more than the intra luma
 pub record IsWeighed (frame : FrameSearch) (s : Search) (p : Image) (g : Grid MacroblockMotion) (place : Place)
-    (luma : Luma) (c : Choice) : Type 0 where
+    (luma : LumaChoice) (c : Choice) : Type 0 where
   pub moved : Moved
   pub is : IsMoved s frame.source.luma place moved
   pub inter : moved.cost ≤ luma.cost → IsInter frame.source frame.factors s g place p moved c
   pub intra : luma.cost < moved.cost → IsIntraChoice frame p place luma c
 
 -- in a key frame all macroblocks are intra
-abbrev pub IsTaken : Option Search → FrameSearch → Image → Grid MacroblockMotion → Place → Luma → Choice → Type 0
+abbrev pub IsTaken : Option Search → FrameSearch → Image → Grid MacroblockMotion → Place → LumaChoice → Choice → Type 0
 IsTaken None frame p g place luma c = IsIntraChoice frame p place luma c
 IsTaken (Some s) frame p g place luma c = IsWeighed frame s p g place luma c
 
@@ -37,7 +37,7 @@ IsTaken (Some s) frame p g place luma c = IsWeighed frame s p g place luma c
 -- their motion
 pub record IsChoice (frame : FrameSearch) (p : Image) (g : Grid MacroblockMotion) (place : Place) (c : Choice)
     : Type 0 where
-  pub luma : Luma
+  pub luma : LumaChoice
   pub best : IsLuma (block_pixels 16 frame.source.luma place) frame.factors place p.luma luma
   pub taken : IsTaken frame.search frame p g place luma c
   -- segments are not used

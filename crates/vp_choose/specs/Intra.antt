@@ -20,7 +20,7 @@ use Rattle.vp_recon.specs.Predictor.{Intra}
 use Rattle.vp_recon.specs.Prediction.{luma_prediction, chroma_prediction}
 use Rattle.vp_search.specs.FirstLeast.{IsFirstLeast}
 use Rattle.vp_choose.specs.declared.subblocks.Subblocks.{Subblocks}
-use Rattle.vp_choose.specs.declared.luma.Luma.{Luma}
+use Rattle.vp_choose.specs.declared.luma.LumaChoice.{LumaChoice}
 use Rattle.vp_choose.specs.Costs.{block_pixels, luma_mode_cost, chroma_cost}
 use Rattle.vp_choose.specs.Levels.{HasLumaAndY2, HasChroma}
 use Rattle.vp_choose.specs.Subblocks.{AreSubblocksChosen, levels_in}
@@ -38,7 +38,7 @@ abbrev pub luma_cost : (ℕ → ℕ → ℕ) → Raster → Place → ℕ → Lu
 luma_cost f p place subblocks mode = if is_by_subblocks mode then subblocks + 128 else luma_mode_cost f p place mode
 
 -- the first luma mode of the least cost, its cost, and the subblock modes of B_PRED
-pub record IsLuma (f : ℕ → ℕ → ℕ) (factors : Factors) (place : Place) (p : Raster) (l : Luma) : Type 0 where
+pub record IsLuma (f : ℕ → ℕ → ℕ) (factors : Factors) (place : Place) (p : Raster) (l : LumaChoice) : Type 0 where
   pub subblocks : AreSubblocksChosen f factors place p l.subblocks
   pub number : ℕ
   pub first : IsFirstLeast 5 (λ i. luma_cost f p place l.subblocks.cost (luma_at i)) number
@@ -65,7 +65,7 @@ pub record HasSubblocks (s : Subblocks) (t : Tokens) : Type 0 where
   pub luma : (k : ℕ) → k < 16 → (tokens_of t (1 + k)).levels ≡ levels_in s k
 
 -- the modes and the levels of an intra macroblock with this luma
-pub record IsIntra (source : Image) (factors : Factors) (place : Place) (p : Image) (l : Luma) (m : Modes) (t : Tokens)
+pub record IsIntra (source : Image) (factors : Factors) (place : Place) (p : Image) (l : LumaChoice) (m : Modes) (t : Tokens)
     : Type 0 where
   pub reference : m.reference ≡ reference_is.Intra
   pub luma : m.luma ≡ l.mode

@@ -28,7 +28,7 @@ const ORDER: [LumaMode; 5] = [
 
 /// The luma mode of an intra macroblock, its cost, and its subblock modes.
 #[derive(Clone, Copy)]
-pub(crate) struct Luma {
+pub(crate) struct LumaChoice {
     pub(crate) mode: LumaMode,
     pub(crate) subblocks: Subblocks,
     pub(crate) cost: u32,
@@ -37,7 +37,7 @@ pub(crate) struct Luma {
 /// The choice for the luma of an intra macroblock, and the luma rebuilt by its subblock modes, in raster order.
 #[derive(Clone, Copy)]
 pub(crate) struct RebuiltLuma {
-    pub(crate) luma: Luma,
+    pub(crate) luma: LumaChoice,
     pub(crate) rebuilt: [u8; 256],
 }
 
@@ -120,7 +120,7 @@ pub(crate) fn choose_luma_below(
     if costs[best] >= limit {
         return None;
     }
-    let luma = Luma {
+    let luma = LumaChoice {
         mode: ORDER[best],
         subblocks,
         cost: costs[best],

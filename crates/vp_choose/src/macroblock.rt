@@ -31,7 +31,7 @@ ghost use Rattle.vp_choose.specs.Choice.{IsChoice};
 
 use crate::chroma::choose_chroma;
 use crate::frame::{Choice, FrameSearch, Search};
-use crate::luma::{Luma, RebuiltLuma, choose_luma, choose_luma_below};
+use crate::luma::{LumaChoice, RebuiltLuma, choose_luma, choose_luma_below};
 use crate::motion::{Moved, motion_of};
 use crate::tokens::{chroma_of, tokens_with_y2, tokens_without_y2};
 use vp_base::{Picture, Place, Plane};
@@ -90,7 +90,7 @@ fn intra_tokens(
     blocks: &MacroblockPixels,
     prediction: &MacroblockPixels,
     factors: &Factors,
-    luma: &Luma,
+    luma: &LumaChoice,
 ) -> Tokens
     requires factors { ArePositive factors.now }
     requires small { AreSmall luma.now.subblocks.levels }
@@ -111,7 +111,7 @@ fn intra_tokens(
 }
 
 /// Returns the modes of an intra macroblock, skipped if it has no tokens.
-fn intra_modes(luma: &Luma, chroma: ChromaMode, tokens: &Tokens) -> Modes
+fn intra_modes(luma: &LumaChoice, chroma: ChromaMode, tokens: &Tokens) -> Modes
     ensures { result ≡ record {
       segment = 0;
       skip = not (any_token tokens.now);

@@ -1,6 +1,6 @@
 //! The motion searchers of the reference frames of one frame.
 
-ghost use Rattle.std.specs.Prelude.{◌≡◌, ◌≤◌, true, false, None, IfSome, IfOk};
+ghost use Rattle.std.specs.Prelude.{◌≡◌, ◌≢◌, ◌≤◌, true, false, None, IsSome, IfSome, IfOk};
 ghost use Rattle.vp_choose.specs.Frame.{lent_frame, search_of};
 ghost use Rattle.vp_choose.specs.Searchers.{AreSearchers, AreSearchersOf, searcher_of};
 
@@ -54,10 +54,15 @@ fn searcher_of<'a>(
     Searcher::new(alloc, picture.plane(0), search.range)
 }
 
-/// Makes the motion searchers of an inter frame.
+/// Makes the motion searchers of an inter frame: that of the last frame, and that of golden if it is searched for
+/// itself.
 fn make_searchers<'a>(alloc: Global, search: &Search<'a>) -> Result<Searchers<'a>, AllocError>
     requires { search.now.range ≤ 64 }
-    ensures { IfOk result (AreSearchers (search_of search.now)) }
+    ensures searchers { IfOk result (AreSearchers (search_of search.now)) }
+    ensures last { IfOk result (λ s. IsSome s.last) }
+    ensures golden { search.now.golden ≡ true
+        → search.now.references.now.golden ≢ search.now.references.now.last
+        → IfOk result (λ s. IsSome s.golden) }
 {
     let last = Some(searcher_of(alloc, search, Reference::Last)?);
     if !searches_golden(search) {
