@@ -1,16 +1,22 @@
--- The facts of a frame are those of the state and of the answer after it.
-use Rattle.std.proofs.Common.{◌≡◌, ◌∙◌, ℕ, Bool, true, false, List, [], ◌∷◌, Some, None, Ok, Err, refl, sym, ap, subst}
-use Rattle.std.specs.Prelude.{Option, Result, IsSomeAnd, ◌||◌, if◌then◌else◌}
+-- The facts of a frame are those of the states before and after it, and of the answer.
+use Rattle.std.proofs.Common.{◌≡◌, ◌∙◌, ℕ, Bool, true, false, List, [], ◌∷◌, Some, None, Ok, Err, inl, inr, refl, sym, ap, subst}
+use Rattle.std.specs.Prelude.{◌⊎◌, Option, Result, IsSomeAnd, is_some, ◌||◌, if◌then◌else◌}
+use Rattle.std.proofs.lemmas.Bool.{or_parts}
 use Rattle.vp_base.specs.Image.{Image}
 use Rattle.vp_base.specs.declared.limits.Limits.{Limits}
 use Rattle.vp_head.specs.declared.fault.PacketFault.{PacketFault}
 use Rattle.vp_head.specs.declared.fields.Header.{Header}
-use Rattle.vp_refs.specs.References.{References}
+use Rattle.vp_head.specs.declared.fields.KeyTag.{KeyTag}
+use Rattle.vp_head.specs.declared.fields.ReferenceUpdates.{ReferenceUpdates}
+use Rattle.vp_head.specs.declared.fields.ReferenceCopy.{ReferenceCopy}
+use Rattle.vp_head.specs.declared.fields.ReferenceCopy.TheVariants.{Nothing, Last, Other, Unused}
+use Rattle.vp_refs.specs.References.{References, copied_by}
 use Rattle.vp_decode.specs.declared.frame_facts.FrameFacts.{FrameFacts}
 use Rattle.vp_decode.specs.declared.decoder.Outcome.TheVariants as code
 use Rattle.vp_decode.specs.Frame.{picture_of}
-use Rattle.vp_decode.specs.FrameFacts.{facts_of, facts_in, frame_facts, AreFactsOfState}
-use Rattle.vp_decode.specs.Step.{DecoderState, ParsedPacket, parsed, frame_of_packet, references_after, state_after, answer, decoded, step, outcome}
+use Rattle.vp_decode.specs.FrameFacts.{facts_of, facts_in, frame_facts, shown_before, IsOlder, AreFactsOfStep}
+use Rattle.vp_decode.specs.Step.{DecoderState, FrameContext, ParsedPacket, key_context, inter_context, context_of, parsed, frame_of_packet, references_after, shown_after, state_after, answer, decoded, step, outcome}
+use Rattle.vp_decode.proofs.CutLemmas.{IsOpened, opened-is}
 use Rattle.vp_decode.proofs.SizeLemmas.{KeepsShape, picture_shaped}
 
 newest_is : (before : Option References) (h : Header) (p : Image) → (references_after before h p).newest ≡ p
@@ -29,22 +35,101 @@ alt_is : (before : Option References) (h : Header) (p : Image) → (h.key || h.u
 alt_is None h p e = refl
 alt_is (Some r) h p e = rw e refl
 
-facts_hold : KeepsShape → (o : ParsedPacket) → AreFactsOfState (facts_of o) (state_after o)
-facts_hold law o =
+-- ---- what a frame that isn't a key frame has of the state before
+
+-- its context is that of the state, if it is no key frame
+inter_before : (key : Option KeyTag) (state : Option DecoderState) (context : FrameContext) → context_of key state ≡ Ok context → is_some key ≡ false → IsSomeAnd state (λ k. inter_context k ≡ context)
+inter_before (Some key) state context c off = absurd cc
+inter_before None None context c off = absurd cc
+inter_before None (Some k) context c off = cc
+
+shown_is : (key : Option KeyTag) (state : Option DecoderState) (context : FrameContext) → context_of key state ≡ Ok context → context.shown ≡ shown_before (is_some key) state
+shown_is (Some key) state context c = let same : key_context key.dim ≡ context = cc in ap (λ (b : FrameContext). b.shown) (sym same)
+shown_is None None context c = absurd cc
+shown_is None (Some k) context c = let same : inter_context k ≡ context = cc in ap (λ (b : FrameContext). b.shown) (sym same)
+
+hidden_is : (show : Bool) (p : Image) (before : Option Image) → show ≡ false → shown_after show p before ≡ before
+hidden_is true p before e = absurd cc
+hidden_is false p before e = refl
+
+shown_new : (show : Bool) (p : Image) (before : Option Image) → show ≡ true → shown_after show p before ≡ Some p
+shown_new true p before e = refl
+shown_new false p before e = absurd cc
+
+last_after : (r : Option References) (b : References) (h : Header) (p : Image) → r ≡ Some b → (h.key || h.updates.refresh_last) ≡ false → (references_after r h p).last ≡ b.last
+last_after None b h p e off = absurd cc
+last_after (Some r) b h p e off = let same : r ≡ b = cc in rw off (ap (λ (x : References). x.last) same)
+
+-- a picture that is one of three
+abbrev IsOld : References → Image → Type 0
+IsOld b p = (p ≡ b.last) ⊎ (p ≡ b.golden) ⊎ (p ≡ b.alt)
+
+copied_is : (c : ReferenceCopy) (b : References) (last other own : Image) → IsOld b last → IsOld b other → IsOld b own → IsOld b (copied_by c last other own)
+copied_is Nothing b last other own l o w = w
+copied_is Last b last other own l o w = l
+copied_is Other b last other own l o w = o
+copied_is Unused b last other own l o w = w
+
+old_alt : (u : ReferenceUpdates) (b : References) → IsOld b (copied_by u.copy_to_alt b.last b.golden b.alt)
+old_alt u b = copied_is u.copy_to_alt b b.last b.golden b.alt (inl refl) (inr (inl refl)) (inr (inr refl))
+
+old_golden : (u : ReferenceUpdates) (b : References) → IsOld b (copied_by u.copy_to_golden b.last (copied_by u.copy_to_alt b.last b.golden b.alt) b.golden)
+old_golden u b = copied_is u.copy_to_golden b b.last (copied_by u.copy_to_alt b.last b.golden b.alt) b.golden (inl refl) (old_alt u b) (inr (inl refl))
+
+golden_after : (r : Option References) (b : References) (h : Header) (p : Image) → r ≡ Some b → (h.key || h.updates.refresh_golden) ≡ false → IsOld b (references_after r h p).golden
+golden_after None b h p e off = absurd cc
+golden_after (Some r) b h p e off = let same : r ≡ b = cc in subst (λ (x : References). IsOld x (references_after (Some r) h p).golden) same (rw off (old_golden h.updates r))
+
+alt_after : (r : Option References) (b : References) (h : Header) (p : Image) → r ≡ Some b → (h.key || h.updates.refresh_alt) ≡ false → IsOld b (references_after r h p).alt
+alt_after None b h p e off = absurd cc
+alt_after (Some r) b h p e off = let same : r ≡ b = cc in subst (λ (x : References). IsOld x (references_after (Some r) h p).alt) same (rw off (old_alt h.updates r))
+
+-- the state before, and its references
+record HasBefore (state : Option DecoderState) (references : Option References) : Type 0 where
+  before : DecoderState
+  is : state ≡ Some before
+  has : references ≡ Some before.references
+
+before_by : (state : Option DecoderState) (context : FrameContext) → IsSomeAnd state (λ k. inter_context k ≡ context) → HasBefore state context.references
+before_by None context h = absurd h
+before_by (Some k) context h = record { before = k; is = refl; has = ap (λ (b : FrameContext). b.references) (sym h) }
+
+-- a frame that doesn't refresh a reference is no key frame, and has the references of a state before
+before_is : (limits : Limits) (state : Option DecoderState) (packet : List ℕ) (o : ParsedPacket) (refresh : Bool) → IsOpened limits state packet o → (o.header.key || refresh) ≡ false
+    → HasBefore state o.context.references
+before_is limits state packet o refresh is off =
+    before_by state o.context (inter_before o.tag.key state o.context is.context_is (sym is.key_is ∙ (or_parts o.header.key refresh off).0))
+
+facts_hold : KeepsShape → (limits : Limits) (state : Option DecoderState) (packet : List ℕ) (o : ParsedPacket) → IsOpened limits state packet o → AreFactsOfStep (facts_of o) state (state_after o)
+facts_hold law limits state packet o is =
     let p : Image = picture_of (frame_of_packet o) in
     let newest = newest_is o.context.references o.header p in
     let shaped = picture_shaped law (frame_of_packet o) in
     record {
       width_is = ap (λ (q : Image). q.width) newest ∙ shaped.width_is;
       height_is = ap (λ (q : Image). q.height) newest ∙ shaped.height_is;
+      shown = λ e. shown_new o.tag.show p o.context.shown e ∙ ap Some (sym newest);
+      hidden = λ e. hidden_is o.tag.show p o.context.shown e ∙ shown_is o.tag.key state o.context is.context_is;
       last = λ e. last_is o.context.references o.header p e ∙ sym newest;
       golden = λ e. golden_is o.context.references o.header p e ∙ sym newest;
       alt = λ e. alt_is o.context.references o.header p e ∙ sym newest;
+      last_stays = λ e. let b : HasBefore state o.context.references = before_is limits state packet o o.header.updates.refresh_last is e in
+          subst (λ (s : Option DecoderState). IsSomeAnd s (λ k. (state_after o).references.last ≡ k.references.last)) (sym b.is)
+          (last_after o.context.references b.before.references o.header p b.has e);
+      older_golden = λ e. let b : HasBefore state o.context.references = before_is limits state packet o o.header.updates.refresh_golden is e in
+          subst (λ (s : Option DecoderState). IsOlder s (state_after o).references.golden) (sym b.is)
+          (golden_after o.context.references b.before.references o.header p b.has e);
+      older_alt = λ e. let b : HasBefore state o.context.references = before_is limits state packet o o.header.updates.refresh_alt is e in
+          subst (λ (s : Option DecoderState). IsOlder s (state_after o).references.alt) (sym b.is)
+          (alt_after o.context.references b.before.references o.header p b.has e);
     }
 
-state_by : KeepsShape → (r : Result ParsedPacket PacketFault) (f : FrameFacts) → facts_in r ≡ Some f → IsSomeAnd (decoded r).0 (AreFactsOfState f)
-state_by law (Err g) f e = absurd cc
-state_by law (Ok o) f e = let same : facts_of o ≡ f = cc in subst (λ (x : FrameFacts). AreFactsOfState x (state_after o)) same (facts_hold law o)
+state_by : KeepsShape → (limits : Limits) (state : Option DecoderState) (packet : List ℕ) (r : Result ParsedPacket PacketFault) (f : FrameFacts) → parsed limits state packet ≡ r → facts_in r ≡ Some f
+    → IsSomeAnd (decoded r).0 (AreFactsOfStep f state)
+state_by law limits state packet (Err g) f is e = absurd cc
+state_by law limits state packet (Ok o) f is e =
+    let same : facts_of o ≡ f = cc in
+    subst (λ (x : FrameFacts). AreFactsOfStep x state (state_after o)) same (facts_hold law limits state packet o (opened-is limits state packet o is))
 
 answer_is : (show : Bool) (p : Image) → outcome (answer show p) ≡ (if show then code.Shown else code.Hidden)
 answer_is true p = refl
@@ -55,10 +140,10 @@ outcome_by (Err g) f e = absurd cc
 outcome_by (Ok o) f e = let same : facts_of o ≡ f = cc in answer_is o.tag.show (picture_of (frame_of_packet o)) ∙ ap (λ (x : FrameFacts). if x.shown then code.Shown else code.Hidden) same
 
 pub facts_of_state : KeepsShape → (limits : Limits) (state : Option DecoderState) (packet : List ℕ) (f : FrameFacts) → frame_facts limits state packet ≡ Some f
-    → IsSomeAnd (step limits state packet).0 (AreFactsOfState f)
+    → IsSomeAnd (step limits state packet).0 (AreFactsOfStep f state)
 unfolding step frame_facts
 facts_of_state law limits state [] f e = absurd cc
-facts_of_state law limits state (b ∷ bs) f e = state_by law (parsed limits state (b ∷ bs)) f e
+facts_of_state law limits state (b ∷ bs) f e = state_by law limits state (b ∷ bs) (parsed limits state (b ∷ bs)) f refl e
 
 pub facts_of_outcome : (limits : Limits) (state : Option DecoderState) (packet : List ℕ) (f : FrameFacts) → frame_facts limits state packet ≡ Some f
     → outcome (step limits state packet).1 ≡ (if f.shown then code.Shown else code.Hidden)

@@ -1,5 +1,5 @@
 -- How the tokens of a frame are read, macroblock after macroblock and row after row.
-use Rattle.std.proofs.Common.{◌≡◌, ◌∙◌, ℕ, zero, suc, ◌+◌, ◌%◌, ◌<◌, Bool, List, length, Some, refl, sym, ap, subst, arith, inl, inr, add-one}
+use Rattle.std.proofs.Common.{◌≡◌, ◌≢◌, ◌∙◌, ℕ, zero, suc, ◌+◌, ◌%◌, ◌<◌, Bool, List, length, Some, refl, sym, ap, subst, arith, inl, inr, add-one}
 use Rattle.std.specs.Prelude.{slice_set}
 use Rattle.std.proofs.lemmas.Bool.{cases_lt}
 use Rattle.vp_bool.specs.Bools.{State}
@@ -9,15 +9,17 @@ use Rattle.vp_base.specs.Grid.{Grid, Has, entry, with_entry}
 use Rattle.vp_base.specs.Over.{over}
 use Rattle.vp_base.proofs.OverLemmas.{over-none, over-more, over-next}
 use Rattle.vp_tokens.specs.declared.contexts.Tokens.{Tokens}
-use Rattle.vp_tokens.specs.Blocks.{Blocks, blocks_of, any_token}
+use Rattle.vp_tokens.specs.Blocks.{Blocks, blocks_of, macroblock}
+use Rattle.vp_tokens.specs.Levels.{Probabilities}
 use Rattle.vp_tokens.specs.Contexts.{Contexts, AreContextsAt, right}
 use Rattle.vp_tokens.proofs.Steps.{row_begins}
-use Rattle.vp_recon.specs.Predictor.{has_y2}
+use Rattle.vp_quant.specs.declared.factors.Factors.{Factors}
+use Rattle.vp_recon.specs.Predictor.{Predictor, macroblock_of, has_y2}
 use Rattle.vp_loop.specs.declared.strength.Level.{Level}
 use Rattle.vp_recon.specs.Rebuilt.{rebuilt}
-use Rattle.vp_decode.specs.MacroblockInfo.{place}
-use Rattle.vp_decode.specs.Frame.{FrameInfo, Readings, predictor_at, tokens_read, seen_read, row_seen, row_tokens, row_partition, token_row, nothing_read, readings, tokens_of, macroblock_at, level_at}
-use Rattle.vp_decode.specs.FrameDecoder.{FrameDecoder, IsRebuilt, IsMacroblockStep, IsRow, IsAfterRows}
+use Rattle.vp_decode.specs.MacroblockInfo.{modes_in, place}
+use Rattle.vp_decode.specs.Frame.{FrameInfo, Readings, predictor_at, tokens_read, seen_read, row_seen, row_tokens, row_partition, token_row, nothing_read, readings, tokens_of, factors_at, macroblock_at, level_at}
+use Rattle.vp_decode.specs.FrameDecoder.{FrameDecoder, IsMacroblockStep, IsRow, IsAfterRows}
 
 -- ---- a row
 
@@ -91,20 +93,27 @@ row_next f row n g s t u a b c made last =
 pub seen_here : (g : Grid Blocks) (p : Place) (a b : FrameDecoder) → a ≡ b → AreContextsAt g p b.contexts → AreContextsAt g p a.contexts
 seen_here g p a b e stands = subst (λ (z : FrameDecoder). AreContextsAt g p z.contexts) (sym e) stands
 
--- what the code does for a macroblock, with tokens or without
-pub rebuilt_made : (f : FrameInfo) (p : Place) (g : Grid Blocks) (s t : State) (coded : Bool) (a b : FrameDecoder) (tokens : Tokens)
-    → tokens ≡ (tokens_read f p g s).0 → t ≡ (tokens_read f p g s).1
-    → AreContextsAt (with_entry g p (blocks_of (has_y2 (predictor_at f p)) tokens)) (right p) b.contexts
-    → b.picture ≡ rebuilt (macroblock_at f p tokens) p a.picture → coded ≡ any_token tokens
-    → IsRebuilt f p g s t coded a b
-unfolding seen_read bind
-rebuilt_made f p g s t coded a b tokens value rest stands picture any = record {
-  contexts = stands_seen (with_entry g p (blocks_of (has_y2 (predictor_at f p)) tokens)) (with_entry g p (blocks_of (has_y2 (predictor_at f p)) (tokens_read f p g s).0)) (right p) b.contexts
-      (ap (λ (z : Tokens). with_entry g p (blocks_of (has_y2 (predictor_at f p)) z)) value) stands;
-  rest = rest;
-  picture = picture ∙ ap (λ (z : Tokens). rebuilt (macroblock_at f p z) p a.picture) value;
-  any = any ∙ ap any_token value;
-}
+-- what the code does for a macroblock with this predictor and these factors, tokens and filter levels
+pub step_made : (f : FrameInfo) (p : Place) (g : Grid Blocks) (s t : State) (a b : FrameDecoder)
+    (source : Predictor) (probabilities : Probabilities) (y2 skip : Bool) (tokens : Tokens) (factors : Factors)
+    → source ≡ predictor_at f p → probabilities ≡ f.header.probabilities.coefficients → y2 ≡ has_y2 source → skip ≡ (modes_in f.maps p).skip
+    → factors ≡ factors_at f p → tokens ≡ (macroblock probabilities g p y2 skip s).0 → t ≡ (macroblock probabilities g p y2 skip s).1
+    → AreContextsAt (with_entry g p (blocks_of y2 tokens)) (right p) b.contexts
+    → b.picture ≡ rebuilt (macroblock_of source tokens factors) p a.picture
+    → entry b.levels p ≡ Some (level_at f p tokens) → ((q : Place) → q ≢ p → entry b.levels q ≡ entry a.levels q)
+    → IsMacroblockStep f p g s t a b
+unfolding seen_read tokens_read bind
+step_made f p g s t a b source probabilities y2 skip tokens factors from coefficients has skips scaled value rest stands picture here elsewhere =
+    let y2_is : y2 ≡ has_y2 (predictor_at f p) = has ∙ ap has_y2 from in
+    let read : macroblock probabilities g p y2 skip s ≡ tokens_read f p g s = (λ i. macroblock (coefficients i) g p (y2_is i) (skips i) s) in
+    let all : tokens ≡ (tokens_read f p g s).0 = value ∙ ap (λ (r : Tokens × State). r.0) read in
+    record {
+      contexts = subst (λ (z : Grid Blocks). AreContextsAt z (right p) b.contexts) (λ i. with_entry g p (blocks_of (y2_is i) (all i))) stands;
+      rest = rest ∙ ap (λ (r : Tokens × State). r.1) read;
+      picture = picture ∙ (λ i. rebuilt (macroblock_of (from i) (all i) (scaled i)) p a.picture);
+      here = here ∙ ap (λ (z : Tokens). Some (level_at f p z)) all;
+      elsewhere = elsewhere;
+    }
 
 -- ---- from row to row
 

@@ -1,18 +1,20 @@
--- Private to the crate: a frame whose rows are being rebuilt; how one macroblock and one row change it; the state
--- after a number of rows.
-use Rattle.std.specs.Prelude.{◌≡◌, ◌≢◌, ◌<◌, ℕ, ◌+◌, Bool, List, Some, length}
+-- Private to the crate: a macroblock that is looked up; a frame whose rows are being rebuilt; how one macroblock and one
+-- row change it; the state after a number of rows.
+use Rattle.std.specs.Prelude.{◌≡◌, ◌≢◌, ◌<◌, ℕ, List, Some, length}
 use Rattle.vp_bool.specs.Bools.{State}
 use Rattle.vp_base.specs.declared.place.Place.{Place}
 use Rattle.vp_base.specs.Grid.{Grid, entry}
 use Rattle.vp_base.specs.Image.{Image, macroblocks}
 use Rattle.vp_base.specs.Over.{over}
-use Rattle.vp_tokens.specs.Blocks.{Blocks, any_token}
+use Rattle.vp_tokens.specs.Blocks.{Blocks}
 use Rattle.vp_tokens.specs.Contexts.{Contexts, AreContextsAt, right}
+use Rattle.vp_recon.specs.Predictor.{predictor_of}
 use Rattle.vp_recon.specs.Rebuilt.{rebuilt}
 use Rattle.vp_loop.specs.declared.strength.Level.{Level}
-use Rattle.vp_decode.specs.MacroblockInfo.{place}
-use Rattle.vp_decode.specs.Frame.{FrameInfo, tokens_read, seen_read, row_seen, row_tokens, readings, tokens_of}
-use Rattle.vp_decode.specs.Frame.{macroblock_at, level_at}
+use Rattle.vp_decode.specs.declared.frame_info.Macroblock.{Macroblock}
+use Rattle.vp_decode.specs.MacroblockInfo.{modes_in, place}
+use Rattle.vp_decode.specs.Frame.{FrameInfo, predictor_at, tokens_read, seen_read, row_seen, row_tokens, readings}
+use Rattle.vp_decode.specs.Frame.{tokens_of, macroblock_at, level_at}
 
 -- the frame's info, its token contexts, the picture so far and the filter levels so far
 pub record FrameDecoder : Type 0 where
@@ -29,20 +31,16 @@ pub record IsOneFrame (b : FrameDecoder) : Type 0 where
   pub level_rows : b.levels.rows ≡ macroblocks b.picture.height
   pub contexts : length b.contexts.above ≡ macroblocks b.picture.width
 
--- b is a after the macroblock at p is rebuilt, before its filter level is computed. g has the blocks before p. s and t
--- are the states of the partition before and after. `coded` says whether there is any token.
-pub record IsRebuilt (f : FrameInfo) (p : Place) (g : Grid Blocks) (s t : State) (coded : Bool) (a b : FrameDecoder)
-    : Type 0 where
-  pub contexts : AreContextsAt (seen_read f p g s).0 (right p) b.contexts
-  pub rest : t ≡ (seen_read f p g s).1
-  pub picture : b.picture ≡ rebuilt (macroblock_at f p (tokens_read f p g s).0) p a.picture
-  pub any : coded ≡ any_token (tokens_read f p g s).0
+-- m is the macroblock at p: its modes, and what it is predicted from
+pub record IsMacroblockAt (f : FrameInfo) (p : Place) (m : Macroblock) : Type 0 where
+  pub modes : m.modes.now ≡ modes_in f.maps p
+  pub predictor : predictor_of m.predictor ≡ predictor_at f p
 
 -- b is a after the macroblock at p is rebuilt and its level is computed. g has the blocks before p. s and t are the
 -- states of the partition before and after.
 pub record IsMacroblockStep (f : FrameInfo) (p : Place) (g : Grid Blocks) (s t : State) (a b : FrameDecoder)
     : Type 0 where
-  pub contexts : AreContextsAt (seen_read f p g s).0 (record { column = p.column + 1; row = p.row }) b.contexts
+  pub contexts : AreContextsAt (seen_read f p g s).0 (right p) b.contexts
   pub rest : t ≡ (seen_read f p g s).1
   pub picture : b.picture ≡ rebuilt (macroblock_at f p (tokens_read f p g s).0) p a.picture
   pub here : entry b.levels p ≡ Some (level_at f p (tokens_read f p g s).0)

@@ -1,6 +1,8 @@
 -- Facts about the frame in a packet (RFC 6386, chapters 9.1, 9.6 and 9.7), which its tag and its header say, and whether
 -- it is corrupt. Pinned by the tests `facts_of_frames`.
-use Rattle.std.specs.Prelude.{◌≡◌, ℕ, Bool, true, false, ◌||◌, List, [], ◌∷◌, Option, Some, None, Result, Ok, Err, is_some}
+use Rattle.std.specs.Prelude.{◌≡◌, ◌⊎◌, ℕ, Bool, true, false, ◌||◌, List, [], ◌∷◌, Option, Some, None, Result, Ok, Err, is_some}
+use Rattle.std.specs.Prelude.{IsSomeAnd, option_and_then}
+use Rattle.vp_base.specs.Image.{Image}
 use Rattle.vp_base.specs.declared.limits.Limits.{Limits}
 use Rattle.vp_head.specs.declared.fields.KeyTag.{KeyTag}
 use Rattle.vp_head.specs.declared.fault.PacketFault.{PacketFault}
@@ -53,10 +55,28 @@ abbrev pub is_frame_corrupt : Option FrameFacts → Bool
 is_frame_corrupt None = false
 is_frame_corrupt (Some f) = f.corrupt
 
--- what the facts of a frame say of the state after it: its picture's size, and which references the picture becomes
-pub record AreFactsOfState (f : FrameFacts) (k : DecoderState) : Type 0 where
-  pub width_is : k.references.newest.width ≡ f.width
-  pub height_is : k.references.newest.height ≡ f.height
-  pub last : f.refreshes_last ≡ true → k.references.last ≡ k.references.newest
-  pub golden : f.refreshes_golden ≡ true → k.references.golden ≡ k.references.newest
-  pub alt : f.refreshes_alt ≡ true → k.references.alt ≡ k.references.newest
+-- ---- what the facts say of the states before and after the frame
+
+-- p is a reference frame of the state before
+abbrev pub IsOlder : Option DecoderState → Image → Type 0
+IsOlder before p = IsSomeAnd before (λ k. (p ≡ k.references.last) ⊎ (p ≡ k.references.golden) ⊎ (p ≡ k.references.alt))
+
+-- the last shown picture of the state before, which a key frame forgets
+abbrev pub shown_before : Bool → Option DecoderState → Option Image
+shown_before true before = None
+shown_before false before = option_and_then (λ k. k.shown) before
+
+-- The facts of a frame are those of the step from one state to the next: the size of the new picture; whether it is the
+-- last shown one, or else which is; of each reference frame, whether it is the new picture, or else an older one. The
+-- last frame is then that of the state before.
+pub record AreFactsOfStep (f : FrameFacts) (before : Option DecoderState) (after : DecoderState) : Type 0 where
+  pub width_is : after.references.newest.width ≡ f.width
+  pub height_is : after.references.newest.height ≡ f.height
+  pub shown : f.shown ≡ true → after.shown ≡ Some after.references.newest
+  pub hidden : f.shown ≡ false → after.shown ≡ shown_before f.key before
+  pub last : f.refreshes_last ≡ true → after.references.last ≡ after.references.newest
+  pub golden : f.refreshes_golden ≡ true → after.references.golden ≡ after.references.newest
+  pub alt : f.refreshes_alt ≡ true → after.references.alt ≡ after.references.newest
+  pub last_stays : f.refreshes_last ≡ false → IsSomeAnd before (λ k. after.references.last ≡ k.references.last)
+  pub older_golden : f.refreshes_golden ≡ false → IsOlder before after.references.golden
+  pub older_alt : f.refreshes_alt ≡ false → IsOlder before after.references.alt

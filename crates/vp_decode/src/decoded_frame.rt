@@ -4,7 +4,7 @@ ghost use Rattle.std.specs.Prelude.{◌≡◌, ◌<◌, ◌≤◌, ◌||◌, len
 ghost use Rattle.vp_base.specs.Image.{macroblocks};
 ghost use Rattle.vp_modes.specs.Map.{segments_of};
 ghost use Rattle.vp_bool.specs.Bools.{initial_state};
-ghost use Rattle.vp_decode.specs.Corrupt.{any_past, tokens_after, first_after, is_corrupt};
+ghost use Rattle.vp_decode.specs.Corrupt.{any_past, tokens_after, is_corrupt};
 ghost use Rattle.vp_decode.specs.Equation.{IsOneSize};
 ghost use Rattle.vp_decode.specs.Frame.{frame_of, picture_of};
 ghost use Rattle.vp_decode.specs.MacroblockInfo.{maps_read};
@@ -106,20 +106,20 @@ fn read_maps(
     Ok(maps)
 }
 
-/// Decodes or filters the picture of a parsed packet, given the maps of its frame, whose memory is kept for the next
-/// one. A picture that is only filtered is not corrupt.
+/// Decodes or filters the picture of a parsed packet, given the maps of its frame. A picture that is only filtered is
+/// not corrupt.
 fn picture_of_packet<F: RowFilter>(
     alloc: Global,
     buffers: &mut FrameBuffers,
     parsed: &ParsedPacket,
     filter: &mut F,
     rebuilt: Option<Picture>,
-    maps: MacroblockInfo,
+    maps: &MacroblockInfo,
 ) -> Result<DecodedPicture, AllocError>
-    requires columns { maps.modes.columns ≡ parsed.now.context.modes.columns }
-    requires rows { maps.modes.rows ≡ parsed.now.context.modes.rows }
+    requires columns { maps.now.modes.columns ≡ parsed.now.context.modes.columns }
+    requires rows { maps.now.modes.rows ≡ parsed.now.context.modes.rows }
     requires given { IfSome rebuilt (IsRebuiltFrame parsed.now) }
-    requires maps { maps
+    requires maps { maps.now
         ≡ (maps_read parsed.now.header (maps_before parsed.now.context.modes) parsed.now.first).0 }
     ensures picture { IfOk result (λ p. p.picture ≡ picture_of (frame_of_packet parsed.now)) }
     ensures corrupt { rebuilt ≡ None → IfOk result (λ p. p.corrupt ≡ any_past
@@ -130,18 +130,16 @@ fn picture_of_packet<F: RowFilter>(
     let context = &parsed.context;
     let version = parsed.tag.version;
     let info = FrameInfo::new(parsed.header, version, context.references(), maps);
-    let decoded = match rebuilt {
-        Some(rebuilt) => DecodedPicture {
+    match rebuilt {
+        Some(rebuilt) => Ok(DecodedPicture {
             picture: filter_rebuilt(alloc, buffers, &info, rebuilt, filter)?,
             corrupt: false,
-        },
+        }),
         None => {
             let partitions = &parsed.partitions;
-            decode_picture(alloc, buffers, &info, context.dim, partitions, filter)?
+            decode_picture(alloc, buffers, &info, context.dim, partitions, filter)
         }
-    };
-    buffers.maps = info.into_maps();
-    Ok(decoded)
+    }
 }
 
 /// Returns whether the first partition or a token partition is past its end.
@@ -201,7 +199,8 @@ pub(crate) fn decode_frame<F: RowFilter>(
     let maps = read_maps(alloc, buffers, context, parsed.header, &mut first)?;
     let kept = mem::replace(&mut buffers.segments, Grid::empty(alloc));
     let segments = maps.modes.segments_in(kept)?;
-    let decoded = picture_of_packet(alloc, buffers, parsed, filter, rebuilt, maps)?;
+    let decoded = picture_of_packet(alloc, buffers, parsed, filter, rebuilt, &maps)?;
+    buffers.maps = maps;
     let corrupt = is_any_past(first.is_past_end(), decoded.corrupt);
     let show = parsed.tag.show;
     frame_of_picture(

@@ -71,8 +71,8 @@ impl FrameBuffers {
         Ok(picture)
     }
 
-    /// Returns filter levels for this many columns and rows of macroblocks, none of which is filtered. Reuses the
-    /// memory of the kept levels.
+    /// Returns a grid of arbitrary filter levels for this many columns and rows of macroblocks. Reuses the kept levels
+    /// if there are as many, else their memory.
     pub(crate) fn levels(
         &mut self,
         alloc: Global,
@@ -84,6 +84,10 @@ impl FrameBuffers {
         ensures columns { IfOk result (λ g. g.columns ≡ columns) }
         ensures rows { IfOk result (λ g. g.rows ≡ rows) }
     {
-        mem::replace(&mut self.levels, Grid::empty(alloc)).refill(columns, rows, NO_LEVEL)
+        let kept = mem::replace(&mut self.levels, Grid::empty(alloc));
+        if kept.columns() == columns && kept.rows() == rows {
+            return Ok(kept);
+        }
+        kept.refill(columns, rows, NO_LEVEL)
     }
 }

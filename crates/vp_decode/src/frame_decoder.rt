@@ -1,16 +1,15 @@
 //! Rebuilds and filters a frame's picture, row by row of macroblocks.
 
-ghost use Rattle.std.specs.Prelude.{◌≡◌, ℕ, ◌+◌, ◌*◌, ◌<◌, ◌≤◌, true, false, IfOk, [], length, map, slice_index_or};
+ghost use Rattle.std.specs.Prelude.{◌≡◌, ℕ, ◌+◌, ◌<◌, ◌≤◌, IfOk, [], length, map, slice_index_or};
 ghost use Rattle.vp_base.specs.Grid.{Grid, Has, all};
 ghost use Rattle.vp_base.specs.Image.{macroblocks};
-ghost use Rattle.vp_bool.specs.Bools.{State, initial_state};
+ghost use Rattle.vp_bool.specs.Bools.{initial_state};
 ghost use Rattle.vp_loop.specs.Filtered.{row_filtered, level_in};
 ghost use Rattle.vp_tokens.specs.Blocks.{Blocks, no_blocks_read};
 ghost use Rattle.vp_tokens.specs.Contexts.{AreContextsAt};
-ghost use Rattle.vp_recon.specs.Predictor.{predictor_of};
-ghost use Rattle.vp_decode.specs.MacroblockInfo.{modes_in, place};
-ghost use Rattle.vp_decode.specs.Frame.{predictor_at, frame_of, picture_of};
-ghost use Rattle.vp_decode.specs.FrameDecoder.{IsRebuilt, IsMacroblockStep, IsRow};
+ghost use Rattle.vp_decode.specs.MacroblockInfo.{place};
+ghost use Rattle.vp_decode.specs.Frame.{frame_of, picture_of};
+ghost use Rattle.vp_decode.specs.FrameDecoder.{IsMacroblockStep, IsRow};
 ghost use Rattle.vp_decode.specs.RowBands.{IsShaped};
 ghost use Rattle.vp_decode.specs.Corrupt.{any_past, tokens_after};
 
@@ -24,10 +23,10 @@ use vp_base::{Dim, Grid, Picture, Place};
 use vp_bool::BoolDecoder;
 use vp_loop::{Level, RowFilter};
 use vp_recon::{
-    Predictor, rebuilding_keeps_rows_above, rebuilding_keeps_shape, rebuilding_reads_one_row_above,
-    unfiltered_picture_solves_its_equation,
+    predict_macroblock, rebuild_macroblock, rebuilding_keeps_rows_above, rebuilding_keeps_shape,
+    rebuilding_reads_one_row_above, unfiltered_picture_solves_its_equation,
 };
-use vp_tokens::{Contexts, Partitions, Tokens};
+use vp_tokens::{Contexts, Partitions, Tokens, pass_macroblock, read_macroblock};
 
 /// A frame's picture, and whether a token partition was read past its end.
 #[derive(Drop)]
@@ -43,8 +42,7 @@ pub(crate) struct FrameDecoder<'a> {
     contexts: Contexts,
     picture: Picture,
     levels: Grid<Level>,
-    /// The tokens of the macroblock that was read last. A skipped macroblock doesn't change them. They are lent: they
-    /// don't move with the frame.
+    /// The memory for a macroblock's tokens. It is lent: it doesn't move with the frame.
     tokens: &'a mut Tokens,
 }
 
@@ -94,64 +92,8 @@ impl<'a> FrameDecoder<'a> {
         })
     }
 
-    /// Updates the token contexts for the skipped macroblock at a place, and rebuilds it.
-    fn update_contexts(&mut self, place: Place, source: &Predictor)
-        requires place { Has self.old.info.maps.modes place }
-        requires source { predictor_of source.now ≡ predictor_at self.old.info place }
-        requires skipped { (modes_in self.old.info.maps place).skip ≡ true }
-        ensures info { self.new.info ≡ self.old.info }
-        ensures levels { self.new.levels ≡ self.old.levels }
-        ensures width { self.new.picture.width ≡ self.old.picture.width }
-        ensures height { self.new.picture.height ≡ self.old.picture.height }
-        ensures made { (g : Grid Blocks) (d : State) → Has g place → AreContextsAt g place self.old.contexts
-            → IsRebuilt self.old.info place g d d false self.old self.new }
-    {
-        let info = self.info;
-        info.update_contexts(place, source, &mut self.contexts);
-        info.rebuild_without_tokens(place, source, &mut self.picture);
-    }
-
-    /// Reads the tokens of the macroblock at a place, which isn't skipped, and rebuilds it. Returns whether it has any
-    /// token.
-    fn read(&mut self, place: Place, source: &Predictor, d: &mut BoolDecoder) -> bool
-        requires place { Has self.old.info.maps.modes place }
-        requires source { predictor_of source.now ≡ predictor_at self.old.info place }
-        requires read { (modes_in self.old.info.maps place).skip ≡ false }
-        ensures info { self.new.info ≡ self.old.info }
-        ensures levels { self.new.levels ≡ self.old.levels }
-        ensures width { self.new.picture.width ≡ self.old.picture.width }
-        ensures height { self.new.picture.height ≡ self.old.picture.height }
-        ensures made { (g : Grid Blocks) → Has g place → AreContextsAt g place self.old.contexts
-            → IsRebuilt self.old.info place g d.old d.new result self.old self.new }
-    {
-        let info = self.info;
-        let coded = info.read_tokens(place, source, &mut self.contexts, self.tokens, d);
-        info.rebuild(place, source, self.tokens, &mut self.picture);
-        coded
-    }
-
-    /// Reads the tokens of the macroblock at a place, if it isn't skipped, and rebuilds it. Returns whether it has any
-    /// token.
-    fn rebuild(&mut self, place: Place, source: &Predictor, d: &mut BoolDecoder) -> bool
-        requires place { Has self.old.info.maps.modes place }
-        requires source { predictor_of source.now ≡ predictor_at self.old.info place }
-        ensures info { self.new.info ≡ self.old.info }
-        ensures levels { self.new.levels ≡ self.old.levels }
-        ensures width { self.new.picture.width ≡ self.old.picture.width }
-        ensures height { self.new.picture.height ≡ self.old.picture.height }
-        ensures made { (g : Grid Blocks) → Has g place → AreContextsAt g place self.old.contexts
-            → IsRebuilt self.old.info place g d.old d.new result self.old self.new }
-    {
-        if self.info.is_skipped(place) {
-            self.update_contexts(place, source);
-            false
-        } else {
-            self.read(place, source, d)
-        }
-    }
-
     /// Decodes the macroblock at a place: reads its tokens, rebuilds it, and computes its filter level.
-    fn macroblock(&mut self, place: Place, d: &mut BoolDecoder)
+    fn decode(&mut self, place: Place, d: &mut BoolDecoder)
         requires { Has self.old.info.maps.modes place }
         ensures info { self.new.info ≡ self.old.info }
         ensures width { self.new.picture.width ≡ self.old.picture.width }
@@ -161,9 +103,36 @@ impl<'a> FrameDecoder<'a> {
             → IsMacroblockStep self.old.info place g d.old d.new self.old self.new }
     {
         let info = self.info;
-        let source = info.source(place);
-        let coded = self.rebuild(place, &source, d);
-        self.levels.set(place, info.level(place, &source, coded));
+        let macroblock = info.macroblock(place);
+        let modes = macroblock.modes;
+        let predictor = &macroblock.predictor;
+        let has_y2 = predictor.has_y2();
+        let coded = if modes.skip && !predictor.has_sub_modes() {
+            // It is its prediction: there are no tokens to clear, and no residue to add.
+            pass_macroblock(&mut self.contexts, place, has_y2);
+            predict_macroblock(&mut self.picture, place, predictor);
+            false
+        } else {
+            let header = info.header();
+            read_macroblock(
+                &header.probabilities.coefficients,
+                &mut self.contexts,
+                place,
+                has_y2,
+                modes.skip,
+                self.tokens,
+                d,
+            );
+            rebuild_macroblock(
+                &mut self.picture,
+                place,
+                predictor,
+                self.tokens,
+                &info.factors(&macroblock),
+            );
+            self.tokens.any()
+        };
+        self.levels.set(place, info.level(&macroblock, coded));
     }
 
     /// Decodes a row of macroblocks.
@@ -178,7 +147,7 @@ impl<'a> FrameDecoder<'a> {
             → IsRow self.old.info row self.old.info.maps.modes.columns g d.old d.new self.old self.new }
     {
         for column in 0..self.info.columns() {
-            self.macroblock(Place { column, row }, d);
+            self.decode(Place { column, row }, d);
         }
     }
 

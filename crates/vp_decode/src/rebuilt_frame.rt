@@ -20,8 +20,9 @@ fn level_by_skip(info: &FrameInfo, place: Place) -> Level
     requires { Has info.now.maps.modes place }
     ensures { (tokens : Tokens) → IsSkipOf info.now place tokens → result ≡ level_at info.now place tokens }
 {
-    let source = info.source(place);
-    info.level(place, &source, !info.is_skipped(place))
+    let macroblock = info.macroblock(place);
+    let modes = macroblock.modes;
+    info.level(&macroblock, !modes.skip)
 }
 
 /// Computes the filter levels of a row of macroblocks.
