@@ -155,7 +155,7 @@ typedef struct vp8_frame {
   uint32_t refreshes_last;   /* 1: its picture becomes the last frame, golden, altref */
   uint32_t refreshes_golden;
   uint32_t refreshes_altref;
-  uint32_t corrupt;          /* 1: a partition was read past its end, see vp8_decoder_corrupt */
+  uint32_t corrupt;          /* 1: a partition was read past its end; that tells no other damage: vp8_decoder_corrupt */
 } vp8_frame;
 
 /* Writes facts about the frame of the packet that was decoded last.
@@ -190,11 +190,11 @@ typedef struct vp8_lent_picture {
  * VP8_NO_PICTURE, VP8_CLOSED: nothing is written. */
 vp8_status vp8_decoder_lend(vp8_decoder *decoder, vp8_lent_picture *lent);
 
-/* Writes 1 to *corrupt if a partition of the packet that was decoded last was read past its end: zeros are read there,
- * so that its picture is most likely damaged, which no status names; else 0, also if the last packet had no bytes or
- * could not be decoded, and before the first one. Pictures that are predicted from a corrupt one may be damaged with
- * it, up to the next key frame, which this call does not tell. Most damage lies within a partition, and can't be told
- * from another picture.
+/* Writes 1 to *corrupt if a partition of the packet that was decoded last was read past its end, where zeros are read;
+ * else 0, also if the last packet had no bytes or could not be decoded, and before the first one. Nothing else is told:
+ * 0 does not say that the packet is whole, since changed bytes, or a lost end, may give another picture that is read
+ * within the partitions; 1 does not say that the picture is damaged, since zeros at a partition's end may be left out.
+ * Nor does it tell that a picture is predicted from a damaged one.
  * VP8_CLOSED: nothing is written. */
 vp8_status vp8_decoder_corrupt(vp8_decoder *decoder, uint32_t *corrupt);
 

@@ -142,7 +142,7 @@ PacketInfo.__doc__ = """What the first bytes of a packet say. Width and height a
 Frame = collections.namedtuple('Frame', [name for name, _ in _Frame._fields_])
 Frame.__doc__ = """Facts about the frame of a packet. The scales are the upscaling codes of a key frame, else 0.
 
-`corrupt` says whether a partition was read past its end: damage that no fault names."""
+`corrupt` says whether a partition was read past its end, where zeros are read: no other damage is told."""
 _TRUTHS = ('key', 'shown', 'refreshes_last', 'refreshes_golden', 'refreshes_altref', 'corrupt')
 
 
@@ -289,9 +289,11 @@ class Decoder(_Closing):
 
     @property
     def is_corrupt(self):
-        """Whether a partition of the packet decoded last was read past its end: damage that no fault names.
+        """Whether a partition of the packet decoded last was read past its end, where zeros are read.
 
-        False if that packet had no bytes or raised Error, and before the first one."""
+        That tells no other damage: changed bytes, or a lost end, may give another picture that is read within the
+        partitions. Nor is it always damage: zeros at a partition's end may be left out. False if that packet had no
+        bytes or raised Error, and before the first one."""
         corrupt = ctypes.c_uint32()
         with self._lock:
             _check(_library.vp8_decoder_corrupt(self._handle, corrupt))

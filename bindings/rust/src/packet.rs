@@ -44,7 +44,7 @@ pub struct Frame {
     pub refreshes_golden: bool,
     /// Its picture becomes altref.
     pub refreshes_altref: bool,
-    /// A partition was read past its end: damage that no fault names.
+    /// A partition was read past its end, where zeros are read: no other damage is told.
     pub corrupt: bool,
 }
 

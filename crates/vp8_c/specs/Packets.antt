@@ -70,9 +70,13 @@ frame_info f = record {
   corrupt = flag f.corrupt;
 }
 
+-- the facts about a packet's frame as numbers, or the status of a call where it has none
+abbrev pub told_frame : Option FrameFacts → Result FrameInfo ℕ
+told_frame f = ok_or (option_map frame_info f) NO_PICTURE
+
 -- the facts about the frame of the decoder's last packet, or the status of a call without them
 abbrev pub frame_of_value : HandleValue → Result FrameInfo ℕ
-frame_of_value (Decoder d) = ok_or (option_map frame_info d.frame) NO_PICTURE
+frame_of_value (Decoder d) = told_frame d.frame
 frame_of_value (Stream s) = Err CLOSED
 frame_of_value (Encoder e) = Err CLOSED
 

@@ -645,7 +645,7 @@ fn damage_is_told(rt: HostRuntime) {
 }
 
 /// Copies a reference frame of 17 by 1 pixels, and returns the status and the luma.
-fn copy_reference(alloc: Global, decoder: &mut Handle, reference: u32) -> (u32, [u8; 17]) {
+pub fn copy_reference(alloc: Global, decoder: &mut Handle, reference: u32) -> (u32, [u8; 17]) {
     let mut y = [9; 17];
     let (mut u, mut v) = ([9; 9], [9; 9]);
     let status = vp8_decoder_reference(alloc, decoder, reference, &mut y, 17, &mut u, 9, &mut v, 9);
@@ -680,7 +680,7 @@ fn references_are_copied(rt: HostRuntime) {
 
 /// Packets of 17 by 1 pixels, made from random bytes: a key packet, an inter packet that only golden is refreshed with,
 /// and one for altref alone.
-const PACKETS: [&[u8]; 3] = [
+pub const PACKETS: [&[u8]; 3] = [
     &[
         0x90, 2, 0, 0x9d, 1, 0x2a, 0x11, 0, 1, 0, 0, 0, 0, 0, 0, 0, 0, 0, 0, 0, 0, 0, 0, 0, 0, 0,
         0, 0, 0, 0, 0xa7, 0xe9, 0x8c, 0xbc, 0xd0, 0xc8, 0x1a, 0xcc, 0xe9, 0x31, 0xbc, 0x41, 0x0b,
@@ -698,80 +698,3 @@ const PACKETS: [&[u8]; 3] = [
         0x61, 0x62, 0x47, 0xaa, 0xd2, 0x3b, 0x9a, 0xf8, 0x5f, 0xda, 0xe5, 0x60, 0xbc,
     ],
 ];
-
-/// The planes of a picture of 17 by 1 pixels.
-type Planes = ([u8; 17], [u8; 9], [u8; 9]);
-
-/// The pictures that these packets show by vpxdec and by ffmpeg.
-const PICTURES: [Planes; 3] = [
-    (
-        [
-            128, 128, 128, 128, 129, 129, 129, 129, 128, 127, 128, 129, 125, 126, 127, 127, 128,
-        ],
-        [128, 128, 128, 128, 128, 128, 128, 128, 128],
-        [128, 128, 128, 128, 127, 128, 128, 129, 129],
-    ),
-    (
-        [
-            127, 127, 127, 127, 127, 127, 127, 127, 127, 127, 127, 127, 127, 127, 127, 127, 127,
-        ],
-        [128, 128, 128, 128, 125, 125, 125, 125, 128],
-        [128, 128, 128, 128, 128, 128, 128, 128, 128],
-    ),
-    (
-        [
-            128, 128, 128, 128, 128, 128, 128, 128, 134, 134, 134, 134, 134, 130, 126, 123, 127,
-        ],
-        [133, 133, 133, 133, 128, 128, 128, 128, 128],
-        [128, 128, 128, 128, 125, 125, 125, 125, 128],
-    ),
-];
-
-/// Decodes a packet, and returns the status and the planes of its picture.
-fn decode_and_copy(alloc: Global, decoder: &mut Handle, packet: &[u8]) -> (u32, Planes) {
-    let mut planes = ([9; 17], [9; 9], [9; 9]);
-    let (y, u, v) = (&mut planes.0, &mut planes.1, &mut planes.2);
-    let decoded = vp8_decoder_decode(alloc, decoder, packet);
-    let copied = vp8_decoder_copy(alloc, decoder, y, 17, u, 9, v, 9);
-    (decoded.max(copied), planes)
-}
-
-/// Each plane of a picture is copied to the plane of its name.
-#[test]
-fn planes_are_told_apart(rt: HostRuntime) {
-    let alloc = rt.alloc();
-    let mut decoder = Handle::closed();
-    let opened = vp8_decoder_new(alloc, &mut decoder, 17);
-    let first = decode_and_copy(alloc, &mut decoder, PACKETS[0]);
-    let second = decode_and_copy(alloc, &mut decoder, PACKETS[1]);
-    let third = decode_and_copy(alloc, &mut decoder, PACKETS[2]);
-    vp8_decoder_free(alloc, &mut decoder);
-    decoder.forget();
-    equal(&rt, &opened, &0);
-    equal(&rt, &first, &(0, PICTURES[0]));
-    equal(&rt, &second, &(0, PICTURES[1]));
-    equal(&rt, &third, &(0, PICTURES[2]));
-}
-
-/// After three packets the key packet's picture is the last frame, and those of the other two are golden and altref.
-#[test]
-fn references_are_told_apart(rt: HostRuntime) {
-    let alloc = rt.alloc();
-    let mut decoder = Handle::closed();
-    let opened = vp8_decoder_new(alloc, &mut decoder, 17);
-    let decoded = [
-        vp8_decoder_decode(alloc, &mut decoder, PACKETS[0]),
-        vp8_decoder_decode(alloc, &mut decoder, PACKETS[1]),
-        vp8_decoder_decode(alloc, &mut decoder, PACKETS[2]),
-    ];
-    let last = copy_reference(alloc, &mut decoder, 1);
-    let golden = copy_reference(alloc, &mut decoder, 2);
-    let altref = copy_reference(alloc, &mut decoder, 3);
-    vp8_decoder_free(alloc, &mut decoder);
-    decoder.forget();
-    equal(&rt, &opened, &0);
-    equal(&rt, &decoded, &[0; 3]);
-    equal(&rt, &last, &(0, PICTURES[0].0));
-    equal(&rt, &golden, &(0, PICTURES[1].0));
-    equal(&rt, &altref, &(0, PICTURES[2].0));
-}

@@ -170,7 +170,12 @@ pub extern "C" fn vp8_decoder_lend(
     };
     let status = match held.shown() {
         Ok(picture) => {
-            *lent = LentPicture::of(picture);
+            *lent = LentPicture::of(
+                picture,
+                picture.plane(0).pixels(),
+                picture.plane(1).pixels(),
+                picture.plane(2).pixels(),
+            );
             OK
         }
         Err(why) => why,
@@ -180,7 +185,7 @@ pub extern "C" fn vp8_decoder_lend(
 }
 
 /// Writes 1 if a partition of the last packet was read past its end, else 0: also for a packet with a fault or without
-/// bytes, and before the first packet.
+/// bytes, and before the first packet. No other damage is told.
 ///
 /// Status: `CLOSED`.
 #[unsafe(no_mangle)]

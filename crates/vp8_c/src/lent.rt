@@ -53,8 +53,8 @@ impl LentPlane {
 }
 
 impl LentPicture {
-    /// Lends a picture whose planes have these pixels.
-    fn of_planes(picture: &Picture, y: &[u8], u: &[u8], v: &[u8]) -> LentPicture
+    /// Lends a picture, given the pixels of its planes where they lie in memory.
+    pub fn of(picture: &Picture, y: &[u8], u: &[u8], v: &[u8]) -> LentPicture
         requires pixels_of_y { y.now ≡ picture.now.luma.pixels }
         requires pixels_of_u { u.now ≡ picture.now.u.pixels }
         requires pixels_of_v { v.now ≡ picture.now.v.pixels }
@@ -72,16 +72,25 @@ impl LentPicture {
             v: LentPlane::of(v, picture.plane(2).width()),
         }
     }
+}
 
-    /// Lends a picture.
-    pub fn of(picture: &Picture) -> LentPicture
-        ensures { IsLayoutOf picture.now result }
-    {
-        LentPicture::of_planes(
-            picture,
-            picture.plane(0).pixels(),
-            picture.plane(1).pixels(),
-            picture.plane(2).pixels(),
-        )
+#[cfg(test)]
+impl LentPicture {
+    /// Returns a picture that lends nothing, to be written to.
+    pub fn none() -> LentPicture {
+        let plane = LentPlane::of(b"", 9);
+        LentPicture {
+            width: 9,
+            height: 9,
+            y: plane,
+            u: plane,
+            v: plane,
+        }
+    }
+
+    /// Returns the width and the height in pixels, and the strides of Y, U and V in bytes.
+    pub fn layout(&self) -> (u32, u32, [usize; 3]) {
+        let strides = [self.y.stride, self.u.stride, self.v.stride];
+        (self.width, self.height, strides)
     }
 }

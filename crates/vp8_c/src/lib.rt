@@ -11,9 +11,12 @@ mod encoder_handle;
 mod file_handle;
 mod handle;
 mod handle_value;
+mod laws;
 mod lent;
 mod names;
 mod packet;
+#[cfg(test)]
+mod plane_tests;
 mod planes;
 mod raw_box;
 mod rows;
@@ -27,3 +30,5 @@ mod tests;
 mod webp;
 #[cfg(test)]
 mod webp_tests;
+
+pub use laws::the_last_packet_is_told;
