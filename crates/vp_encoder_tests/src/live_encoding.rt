@@ -4,8 +4,9 @@
 
 use crate::check::equal;
 use std::alloc::{AllocError, Global};
+use std::cell::Cell;
 use std::io;
-use std::io::Write;
+use std::io::{Read, Write};
 use std::test::Fail;
 use vp_base::{Counted, FailAt, Limits};
 use vp_encode::{EncodeAllFault, Settings, Unwatched};
@@ -201,5 +202,68 @@ fn live_write_fails(rt: HostRuntime) -> Result<(), Fail> {
     let (end, written) = live(rt.alloc(), &bytes, 0, 8);
     equal(&rt, &end, &Ok((2, 0)));
     assert!(rt; is_cut_at_each_call(rt.alloc(), &bytes, &written.bytes));
+    Ok(())
+}
+
+/// A writer that keeps in a cell its length at the last flush.
+#[derive(Drop)]
+struct Told<'a> {
+    bytes: Vec<u8>,
+    flushed: &'a Cell<usize>,
+}
+
+impl Write for Told<'_> {
+    fn write(&mut self, buf: &[u8]) -> io::Result<usize> {
+        self.bytes.write(buf)
+    }
+
+    fn flush(&mut self) -> io::Result<()> {
+        self.flushed.set(self.bytes.len());
+        Ok(())
+    }
+}
+
+/// A reader of a source of two pictures, which keeps in a cell what the other one has when the second picture is read.
+#[derive(Drop)]
+struct Watching<'a> {
+    left: &'a [u8],
+    flushed: &'a Cell<usize>,
+    at_second: &'a Cell<usize>,
+}
+
+impl Read for Watching<'_> {
+    fn read(&mut self, buf: &mut [u8]) -> io::Result<usize> {
+        if self.left.len() == 390 {
+            self.at_second.set(self.flushed.get());
+        }
+        self.left.read(buf)
+    }
+}
+
+/// The second picture is read once the first packet, whole, is written and flushed.
+#[test]
+fn packets_are_flushed_while_pictures_are_read(rt: HostRuntime) -> Result<(), Fail> {
+    let bytes = source(rt.alloc(), &[128, 200])?;
+    let (flushed, at_second) = (Cell::new(0), Cell::new(0));
+    let mut reader = Counted::new(Watching {
+        left: &bytes,
+        flushed: &flushed,
+        at_second: &at_second,
+    });
+    let mut writer = Counted::new(Told {
+        bytes: Vec::new(rt.alloc()),
+        flushed: &flushed,
+    });
+    let end = encode_live(
+        rt.alloc(),
+        &mut reader,
+        &mut writer,
+        settings(0),
+        Limits::usual(),
+        &mut Unwatched,
+    );
+    assert!(rt; end.is_ok());
+    let first = packet_size(&writer.into_inner().bytes, 32, 0).map(|size| size.saturating_add(44));
+    equal(&rt, &Some(at_second.get()), &first);
     Ok(())
 }

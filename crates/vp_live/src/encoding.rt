@@ -1,6 +1,6 @@
 //! Encodes a source while it is read.
 
-ghost use Rattle.std.specs.Prelude.{◌≡◌, ◌≢◌, ◌≤◌, ◌+◌, ◌*◌, ◌++◌, ◌⊎◌, ℕ, List, [], Option, length};
+ghost use Rattle.std.specs.Prelude.{◌≡◌, ◌≢◌, ◌≤◌, ◌+◌, ◌*◌, ◌++◌, ◌∷◌, ◌⊎◌, ℕ, List, [], ⊤, Option, length};
 ghost use Rattle.std.specs.Prelude.{OnOk, IfSome, Err};
 ghost use Rattle.std.specs.Io.KnownBytes.{Appends, Consumes, IsAtEnd};
 ghost use Rattle.vp_base.specs.Counted.{counted_remaining, counted_contents, counted_failures, counted_reads};
@@ -21,8 +21,24 @@ use crate::writing::write_head;
 use std::alloc::Global;
 use std::io::{Read, Write};
 use vp_base::{Counted, Limits};
-use vp_encode::{EncodeAllFault, EncodeReport, Encoder, Settings, Watcher};
+use vp_encode::{EncodeAllFault, EncodeReport, Encoder, Settings, Unwatched};
 use vp_y4m::{Source, SourceHead};
+
+/// The progress callback of live encoding.
+pub trait LiveWatcher {
+    /// The numbers of pictures that it has received so far, in order.
+    ghost told: { Self → List ℕ → Type 0 };
+
+    /// Receives the number of pictures whose packets are written so far, and the sum of their squared errors.
+    fn encoded(&mut self, frames: u32, error: u128)
+        ensures { (before : List ℕ) → told self.old before → told self.new (before ++ frames ∷ []) };
+}
+
+impl LiveWatcher for Unwatched {
+    ghost told = { λ _ _. ⊤ };
+
+    fn encoded(&mut self, _frames: u32, _error: u128) {}
+}
 
 /// Encodes a YUV4MPEG2 source while it is read, and writes an IVF file with its size and rate. The head counts 0
 /// packets, as it is written before their number is known. Each packet is written and flushed before the next picture
@@ -32,7 +48,7 @@ use vp_y4m::{Source, SourceHead};
 /// Errors, in the order of the work: a fault of the head, and `Settings`, write nothing. Then for each picture its
 /// fault, `TooMany`, `TooLong` and `PacketTooLarge` leave the whole packets of all pictures before it. If a write or
 /// a flush fails, a prefix of the head, or of the next packet after them, is written.
-pub fn encode_live<R: Read, W: Write, T: Watcher>(
+pub fn encode_live<R: Read, W: Write, T: LiveWatcher>(
     alloc: Global,
     reader: &mut Counted<R>,
     writer: &mut Counted<W>,
@@ -60,7 +76,7 @@ pub fn encode_live<R: Read, W: Write, T: Watcher>(
 }
 
 /// Encodes the pictures that follow a file's head, and writes their packets after that of the live file.
-fn encode_source<R: Read, W: Write, T: Watcher>(
+fn encode_source<R: Read, W: Write, T: LiveWatcher>(
     alloc: Global,
     reader: &mut Counted<R>,
     head: SourceHead,
@@ -97,7 +113,7 @@ fn encode_source<R: Read, W: Write, T: Watcher>(
 }
 
 /// Encodes the pictures that follow a file's head, and writes their packets after that of the live file.
-fn encode_pictures<R: Read, W: Write, T: Watcher>(
+fn encode_pictures<R: Read, W: Write, T: LiveWatcher>(
     source: &mut Source<'_, R>,
     run: &mut LiveProgress,
     writer: &mut Counted<W>,
@@ -130,7 +146,7 @@ fn encode_pictures<R: Read, W: Write, T: Watcher>(
 {
     while let Some(picture) = source.next_picture()? {
         run.picture(&picture, writer)?;
-        watcher.encoded(run.frames());
+        watcher.encoded(run.frames(), run.error());
     }
     Ok(())
 }

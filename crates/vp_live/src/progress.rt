@@ -113,6 +113,13 @@ impl LiveProgress {
         self.frames
     }
 
+    /// Returns the sum of their squared errors.
+    pub(crate) fn error(&self) -> u128
+        ensures { result ≡ self.now.error }
+    {
+        self.error
+    }
+
     /// Returns the report of these pictures.
     pub(crate) fn report(&self) -> EncodeReport
         ensures { result ≡ record { frames = self.now.frames; error = self.now.error } }

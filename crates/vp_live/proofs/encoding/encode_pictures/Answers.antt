@@ -27,7 +27,7 @@ loop-picture-init g c = (
   c.requires.open,
   refl,
   refl,
-  told_first c.args.run.now.frames (g.T.Watcher.told c.args.watcher.now) c.requires.first,
+  told_first c.args.run.now.frames (g.T.LiveWatcher.told c.args.watcher.now) c.requires.first,
   no_reads 0 _ _,
   no_fewer _ _,
   none_yet c.args.run.now.frames c.args.run.now.limits.packets c.requires.first,
@@ -68,7 +68,7 @@ returns-in_err-picture-2-clause-ends g c = λ settings line before at headed.
 
 pub returns-in_err-picture-2-clause-watched : goal.returns-in_err-picture-2-clause-watched
 returns-in_err-picture-2-clause-watched g c =
-    told_same (g.T.Watcher.told c.args.watcher.now) (g.T.Watcher.told c.loop-picture.watcher) c.loop-picture.run c.picture-in-Some.new.self c.in-Some.picture c.in_err-picture-2.field-0.0
+    told_same (g.T.LiveWatcher.told c.args.watcher.now) (g.T.LiveWatcher.told c.loop-picture.watcher) c.loop-picture.run c.picture-in-Some.new.self c.in-Some.picture c.in_err-picture-2.field-0.0
     (counted_contents g.W.Write.contents c.loop-picture.writer) (counted_contents g.W.Write.contents c.picture-in-Some.new.writer) c.in_err-picture-2.ensures.takes c.loop-picture.invariant.13
 
 pub loop-picture-preserved : goal.loop-picture-preserved
@@ -92,7 +92,7 @@ loop-picture-preserved g c =
       c.in_ok-picture.ensures.progress inv.10 ok_is_no_error ∙ ap progress_after (ap Ok c.in-Some.is),
       c.in_ok-picture.ensures.quiet inv.10 ok_is_no_error ∙ inv.11,
       c.in_ok-picture-2.ensures.quiet ok_is_no_error ∙ inv.12,
-      told_more (g.T.Watcher.told c.args.watcher.now) (g.T.Watcher.told c.loop-picture.watcher) (g.T.Watcher.told c.encoded.new.self) c.loop-picture.run c.picture-in-Some.new.self c.in-Some.picture f.0 c.frames.result inv.13 f.1 c.frames.ensures c.encoded.ensures,
+      told_more (g.T.LiveWatcher.told c.args.watcher.now) (g.T.LiveWatcher.told c.loop-picture.watcher) (g.T.LiveWatcher.told c.encoded.new.self) c.loop-picture.run c.picture-in-Some.new.self c.in-Some.picture f.0 c.frames.result inv.13 f.1 c.frames.ensures c.encoded.ensures,
       reads_then 0 _ _ _ _ _ _ inv.14 (rw c.in-Some.is at c.in_ok-picture.ensures.reads),
       within_next (head_of c.args.source.now) (head_of c.loop-picture.source) _ _ _ c.loop-picture.run c.picture-in-Some.new.self c.in-Some.picture f.0 inv.9 f.1 inv.15 c.in_ok-picture.ensures.within,
       few_more c.args.run.now.limits c.loop-picture.run c.picture-in-Some.new.self c.in-Some.picture f.0 inv.6 f.1,

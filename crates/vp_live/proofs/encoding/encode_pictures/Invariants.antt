@@ -26,7 +26,7 @@ invariant-loop-picture g l =
     × (progress_of l.source ≡ Open)
     × (failures_of l.source ≡ failures_of l.fn.source)
     × (counted_failures l.writer ≡ counted_failures l.fn.writer)
-    × IsWrittenFurther (g.T.Watcher.told l.fn.watcher) (g.T.Watcher.told l.watcher) (numbers_to l.run.frames)
+    × IsWrittenFurther (g.T.LiveWatcher.told l.fn.watcher) (g.T.LiveWatcher.told l.watcher) (numbers_to l.run.frames)
     × TakesInReads 0 (bytes_left g.R.Read.remaining l.fn.source) (bytes_left g.R.Read.remaining l.source) (reads_of l.fn.source) (reads_of l.source)
     × (reads_of l.source ≤ reads_of l.fn.source + l.run.frames * (1025 + i420_length (head_of l.fn.source).w (head_of l.fn.source).h))
     × (l.run.frames ≤ l.fn.run.limits.packets)
