@@ -7,10 +7,10 @@ use Rattle.vp_hub.specs.Hub.{HubState}
 use Rattle.vp_hub.specs.Work.{Hub}
 use Rattle.vp_hub.specs.Sessions.{IsSession, IsTurnedAway}
 use Rattle.vp_app.specs.Commands.{status_by_fault}
-use Rattle.vp_app.specs.Listing.{survey_text}
+use Rattle.vp_lines.specs.Listing.{survey_text}
 use Rattle.vp_app.specs.Serving.{IsServed}
 use Rattle.std.proofs.Common.{◌≡◌, ◌⊎◌, inl, inr, List, [], ◌∷◌, ℕ, Bool, true, false, refl, sym, subst}
-use Rattle.std.specs.Prelude.{Result, Err, MatchBool, codes, is_ok, ◌^◌, ◌-◌}
+use Rattle.std.specs.Prelude.{Result, Err, IsOk, MatchBool, codes, is_err, is_ok, ◌^◌, ◌-◌}
 use Rattle.std.specs.Borrow.{Bor}
 use Rattle.clap.specs.Kinds.{HasKind, IsAmong, Kinds}
 use Rattle.clap.specs.Values.{kind_of}
@@ -385,10 +385,16 @@ mistaken_words words (Value t) h m = absurd (m.some h.0)
 abbrev pub failed_side : Side
 failed_side = record { bytes = None; failures = 2 ^ 64 - 1 }
 
+-- what fails is not well
+fails : {T E : Type 0} (r : Result T E) → is_err r ≡ true → is_ok r ≡ true → ⊥
+fails (Ok x) failed ok = absurd cc
+fails (Err e) failed ok = absurd cc
+
 -- what was decoded to a file that can't be finished: its device failed
-pub unfinished : (most : FileLimits) (form : Form) (done : Result Report DecodeFault) (i i' a b : Side) → is_ok done ≡ true → IsFileDecoded most form done i i' a b
+pub unfinished : {T E F : Type 0} {new old : F} (most : FileLimits) (form : Form) (done : Result Report DecodeFault) (finished : Result T E) (i i' a b : Side)
+    → is_err finished ≡ true → (status_of done ≡ 1 → IsOk finished × (new ≡ old)) → IsFileDecoded most form done i i' a b
     → (c : Side) × (d : Side) × IsFileDecoded most form (Err Device) i i' c d
-unfinished most form (Ok report) i i' a b ok h = (
+unfinished most form (Ok report) finished i i' a b failed kept h = (
   failed_side,
   failed_side,
   record {
@@ -403,13 +409,13 @@ unfinished most form (Ok report) i i' a b ok h = (
     quiet = λ ne. absurd (ne refl);
   },
 )
-unfinished most form (Err fault) i i' a b ok h = absurd cc
+unfinished most form (Err fault) finished i i' a b failed kept h = absurd (fails finished failed (kept refl).0)
 
 -- the same for a range
-pub unfinished_range : (most : FileLimits) (form : Form) (first last : ℕ) (done : Result RangeReport DecodeFault) (i i' a b : Side) → is_ok done ≡ true
-    → IsFileRangeDecoded most form first last done i i' a b
+pub unfinished_range : {T E F : Type 0} {new old : F} (most : FileLimits) (form : Form) (first last : ℕ) (done : Result RangeReport DecodeFault) (finished : Result T E) (i i' a b : Side)
+    → is_err finished ≡ true → (status_by_range last done ≡ 1 → IsOk finished × (new ≡ old)) → IsFileRangeDecoded most form first last done i i' a b
     → (c : Side) × (d : Side) × IsFileRangeDecoded most form first last (Err Device) i i' c d
-unfinished_range most form first last (Ok report) i i' a b ok h = (
+unfinished_range most form first last (Ok report) finished i i' a b failed kept h = (
   failed_side,
   failed_side,
   record {
@@ -427,4 +433,4 @@ unfinished_range most form first last (Ok report) i i' a b ok h = (
     quiet = λ ne. absurd (ne refl);
   },
 )
-unfinished_range most form first last (Err fault) i i' a b ok h = absurd cc
+unfinished_range most form first last (Err fault) finished i i' a b failed kept h = absurd (fails finished failed (kept refl).0)

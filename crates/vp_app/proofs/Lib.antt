@@ -1,7 +1,6 @@
 pub mod CommandLemmas
 pub mod CheckLemmas
 pub mod FeedingLemmas
-pub mod ListingLemmas
 pub mod ServingLemmas
 pub mod RunLemmas
 pub mod PictureLemmas

@@ -8,7 +8,7 @@ use Rattle.vp_stream.specs.declared.fault.DecodeFault.TheVariants.{Device, Memor
 use Rattle.vp_args.specs.declared.decode_args.DecodeArgs.{DecodeArgs}
 use Rattle.vp_args.specs.declared.decode_args.DecodeRangeArgs.{DecodeRangeArgs}
 use Rattle.vp_args.specs.declared.info_args.InfoArgs.{InfoArgs}
-use Rattle.vp_app.specs.Commands.{ChecksEach, DoesDecode, DoesDecodeRange, DoesInfo, ListsFile, Side, Summed, SumsFile, SumsPictures, SumsRange, WritesPictures, WritesRange, first_name, info_style, is_plain, is_stream}
+use Rattle.vp_app.specs.Commands.{ChecksEach, DoesDecode, DoesDecodeRange, DoesInfo, ListsFile, Side, Summed, SumsFile, SumsPictures, SumsRange, WritesPictures, WritesRange, first_name, info_style, is_plain, is_stream, is_summed}
 use Rattle.vp_app.proofs.CommandLemmas.{over_file, over_stream, unopened}
 
 -- ---- one of two
@@ -19,17 +19,17 @@ when A B b e a = subst (λ x. MatchBool x A B) (sym e) a
 unless : (A B : Type 0) (b : Bool) → b ≡ false → B → MatchBool b A B
 unless A B b e x = subst (λ y. MatchBool y A B) (sym e) x
 
-pub summed_pictures : (d : DecodeArgs) (status : ℕ) (i i' o o' : Side) → d.md5 ≡ true → SumsPictures d status i i' o o' → DoesDecode d status i i' o o'
-summed_pictures d status i i' o o' e h = when _ _ d.md5 e h
+pub summed_pictures : (d : DecodeArgs) (status : ℕ) (i i' o o' : Side) → is_summed d ≡ true → SumsPictures d status i i' o o' → DoesDecode d status i i' o o'
+summed_pictures d status i i' o o' e h = when _ _ (is_summed d) e h
 
-pub written_pictures : (d : DecodeArgs) (status : ℕ) (i i' o o' : Side) → d.md5 ≡ false → WritesPictures d status i i' o o' → DoesDecode d status i i' o o'
-written_pictures d status i i' o o' e h = unless _ _ d.md5 e h
+pub written_pictures : (d : DecodeArgs) (status : ℕ) (i i' o o' : Side) → is_summed d ≡ false → WritesPictures d status i i' o o' → DoesDecode d status i i' o o'
+written_pictures d status i i' o o' e h = unless _ _ (is_summed d) e h
 
-pub summed_range : (r : DecodeRangeArgs) (status : ℕ) (i i' o o' : Side) → r.decoding.md5 ≡ true → SumsRange r status i i' o o' → DoesDecodeRange r status i i' o o'
-summed_range r status i i' o o' e h = when _ _ r.decoding.md5 e h
+pub summed_range : (r : DecodeRangeArgs) (status : ℕ) (i i' o o' : Side) → is_summed r.decoding ≡ true → SumsRange r status i i' o o' → DoesDecodeRange r status i i' o o'
+summed_range r status i i' o o' e h = when _ _ (is_summed r.decoding) e h
 
-pub written_range : (r : DecodeRangeArgs) (status : ℕ) (i i' o o' : Side) → r.decoding.md5 ≡ false → WritesRange r status i i' o o' → DoesDecodeRange r status i i' o o'
-written_range r status i i' o o' e h = unless _ _ r.decoding.md5 e h
+pub written_range : (r : DecodeRangeArgs) (status : ℕ) (i i' o o' : Side) → is_summed r.decoding ≡ false → WritesRange r status i i' o o' → DoesDecodeRange r status i i' o o'
+written_range r status i i' o o' e h = unless _ _ (is_summed r.decoding) e h
 
 pub listed_file : (w : InfoArgs) (from : List ℕ) (status : ℕ) (i i' o o' : Side) → is_plain w ≡ true → from ≡ first_name (texts w.files.items)
     → ListsFile w.limits from status i i' o o' → DoesInfo w status i i' o o'

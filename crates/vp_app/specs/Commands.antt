@@ -31,12 +31,13 @@ use Rattle.vp_frames.specs.Written.{IsRangeAnswerFor}
 use Rattle.clap.specs.Walk.{Row, first_of, one_of, texts}
 use Rattle.vp_check.specs.declared.checked.Checked.{Checked}
 use Rattle.vp_check.specs.Checks.{IsCheckFor as IsCheckAnswerFor}
-use Rattle.vp_app.specs.CheckLines.{checks_text, is_well}
-use Rattle.vp_app.specs.Listing.{survey_text}
+use Rattle.vp_lines.specs.CheckLines.{checks_text, is_well}
+use Rattle.vp_lines.specs.Listing.{survey_text}
+use Rattle.vp_lines.specs.Sums.{PrintsSums}
 use Rattle.vp_app.specs.Status.{status_by, status_of}
 use Rattle.vp_app.specs.Usual.{AreLimits, AreLimitsOf}
-use Rattle.vp_app.specs.declared.styles.LineStyle.{LineStyle}
-use Rattle.vp_app.specs.declared.styles.LineStyle.TheVariants.{Counted, Packets, Json}
+use Rattle.vp_lines.specs.declared.styles.LineStyle.{LineStyle}
+use Rattle.vp_lines.specs.declared.styles.LineStyle.TheVariants.{Counted, Packets, Json}
 use Rattle.vp_args.specs.declared.check_args.CheckArgs.{CheckArgs}
 use Rattle.vp_args.specs.declared.decode_args.DecodeArgs.{DecodeArgs}
 use Rattle.vp_args.specs.declared.decode_args.DecodeRangeArgs.{DecodeRangeArgs}
@@ -59,7 +60,7 @@ use Rattle.vp_app.specs.Many.{ServesMany, status_by_many}
 use Rattle.vp_args.specs.declared.serve_args.ServeManyArgs.{ServeManyArgs}
 use Rattle.vp_args.specs.Args.{ParsedArgs, checks, decodes, decodes_range, encodes, tells, pictures, serves}
 use Rattle.vp_args.specs.Args.{serves_many, nothing, AreMiswanted, AreNoFileLimits, AreNoSettings, IsCheckFor, IsDecodeFor}
-use Rattle.vp_args.specs.Args.{IsInfoFor, IsNoPicture, IsPictureFor, IsRangeFor}
+use Rattle.vp_args.specs.Args.{IsInfoFor, IsNoDecoding, IsNoPicture, IsPictureFor, IsRangeFor}
 use Rattle.vp_args.specs.Args.{AreSettings, IsFlag, IsNoService, IsNoServiceOfMany, IsServiceFor, IsServiceOfMany}
 
 -- ---- standard streams
@@ -327,9 +328,9 @@ IsUnbegun status input input' output output' = (status ≡ 1) × (input' ≡ inp
 abbrev pub IsUsageFault : ℕ → Side → Side → Side → Side → Type 0
 IsUsageFault status input input' output output' = (status ≡ 2) × (input' ≡ input) × (output' ≡ output)
 
--- the line of an MD5 sum, as md5sum prints it
-abbrev pub sum_line : List ℕ → List ℕ → List ℕ
-sum_line digits name = digits ++ (codes "  " ++ (name ++ codes "\n"))
+-- sums are printed in place of pictures
+abbrev pub is_summed : DecodeArgs → Bool
+is_summed d = d.md5 || d.md5_each
 
 -- work whose pictures are only summed up: done over a writer of which nothing is known here
 abbrev pub Summed : (Side → Side → Side → Side → Type 0) → Side → Side → Type 0
@@ -341,11 +342,12 @@ abbrev pub SumsFile : {T : Type 0} → (Result T DecodeFault → Side → Side �
 SumsFile Work from done input input' = (IsUnopened Device Memory from done × (input' ≡ input))
     ⊎ Over from (Summed (Work done)) input input'
 
--- the sum's line is printed, with this status, or the status is 1; after a fault nothing is printed
-abbrev pub PrintsSum : {T : Type 0} → Result T DecodeFault → List ℕ → ℕ → ℕ → Option (List ℕ) → Option (List ℕ) → Type 0
-PrintsSum (Ok report) name good status before after =
-    ((status ≡ good) × ((digits : List ℕ) × Appends before after (sum_line digits name))) ⊎ (status ≡ 1)
-PrintsSum (Err fault) name good status before after = (status ≡ 1) × (after ≡ before)
+-- the lines of the sums are printed, with this status, or the status is 1; after a fault nothing is printed
+abbrev pub PrintsSum : {T : Type 0} → Bool → Result T DecodeFault → List ℕ → ℕ → ℕ → Option (List ℕ)
+    → Option (List ℕ) → Type 0
+PrintsSum each (Ok report) name good status before after =
+    ((status ≡ good) × PrintsSums each name before after) ⊎ (status ≡ 1)
+PrintsSum each (Err fault) name good status before after = (status ≡ 1) × (after ≡ before)
 
 -- writes the pictures
 abbrev pub WritesPictures : DecodeArgs → ℕ → Side → Side → Side → Side → Type 0
@@ -353,16 +355,16 @@ WritesPictures d status input input' output output' =
     (form : Form) × (done : Result Report DecodeFault) × (is_y4m form ≡ d.y4m) × (status ≡ status_of done)
     × DecodesFile d.limits form d.input.now d.output.now done input input' output output'
 
--- prints the sum of the pictures
+-- prints the sums of the pictures
 abbrev pub SumsPictures : DecodeArgs → ℕ → Side → Side → Side → Side → Type 0
 SumsPictures d status input input' output output' =
     (form : Form) × (done : Result Report DecodeFault) × (is_y4m form ≡ d.y4m)
     × SumsFile (IsFileDecoded d.limits form) d.input.now done input input'
-    × PrintsSum done d.output.now (status_of done) status output.bytes output'.bytes
+    × PrintsSum d.md5_each done d.output.now (status_of done) status output.bytes output'.bytes
 
 -- the effect of `vp8 decode`
 abbrev pub DoesDecode : DecodeArgs → ℕ → Side → Side → Side → Side → Type 0
-DoesDecode d status input input' output output' = MatchBool d.md5 (SumsPictures d status input input' output output')
+DoesDecode d status input input' output output' = MatchBool (is_summed d) (SumsPictures d status input input' output output')
     (WritesPictures d status input input' output output')
 
 -- writes the pictures of a range of packets
@@ -373,17 +375,17 @@ WritesRange r status input input' output output' =
     × DecodesRange r.decoding.limits form r.first r.last r.decoding.input.now r.decoding.output.now done input input'
     output output'
 
--- prints the sum of the pictures of a range of packets
+-- prints the sums of the pictures of a range of packets
 abbrev pub SumsRange : DecodeRangeArgs → ℕ → Side → Side → Side → Side → Type 0
 SumsRange r status input input' output output' =
     (form : Form) × (done : Result RangeReport DecodeFault) × (is_y4m form ≡ r.decoding.y4m)
     × SumsFile (IsFileRangeDecoded r.decoding.limits form r.first r.last) r.decoding.input.now done input input'
-    × PrintsSum done r.decoding.output.now (status_by_range r.last done) status output.bytes output'.bytes
+    × PrintsSum r.decoding.md5_each done r.decoding.output.now (status_by_range r.last done) status output.bytes output'.bytes
 
 -- the effect of `vp8 decode` for a range of packets
 abbrev pub DoesDecodeRange : DecodeRangeArgs → ℕ → Side → Side → Side → Side → Type 0
 DoesDecodeRange r status input input' output output' =
-    MatchBool r.decoding.md5 (SumsRange r status input input' output output')
+    MatchBool (is_summed r.decoding) (SumsRange r status input input' output output')
     (WritesRange r status input input' output output')
 
 -- the effect of `vp8 encode`
@@ -480,12 +482,12 @@ DoesServeMany rows address operands status input input' output output' =
 abbrev pub Does : ParsedArgs → ℕ → Side → Side → Side → Side → Type 0
 Does (decodes rows from to) status input input' output output' =
     ((d : DecodeArgs) × IsDecodeFor rows from to d × DoesDecode d status input input' output output')
-    ⊎ (IsUnbegun status input input' output output' ⊎ (AreNoFileLimits rows
+    ⊎ (IsUnbegun status input input' output output' ⊎ (IsNoDecoding rows
     × IsUsageFault status input input' output output'))
 Does (decodes_range rows from to) status input input' output output' =
     ((r : DecodeRangeArgs) × IsRangeFor rows from to r × DoesDecodeRange r status input input' output output')
     ⊎ (IsUnbegun status input input' output output'
-    ⊎ ((AreMiswanted (first_of (codes "frame") rows) (first_of (codes "frames") rows) ⊎ AreNoFileLimits rows)
+    ⊎ ((AreMiswanted (first_of (codes "frame") rows) (first_of (codes "frames") rows) ⊎ IsNoDecoding rows)
     × IsUsageFault status input input' output output'))
 Does (encodes rows from to) status input input' output output' =
     DoesEncode rows from to status input input' output output'

@@ -1,8 +1,5 @@
 pub mod Usual
 pub mod Status
-pub mod FaultLines
-pub mod Listing
-pub mod CheckLines
 pub mod Feeding
 pub mod Picturing
 pub mod Serving

@@ -7,8 +7,10 @@ use std::io;
 use std::io::Write;
 use vp_args::{DecodeRangeArgs, EncodeArgs, EncodeOptions, NamedFile, PictureArgs, ServeArgs};
 use vp_encode::EncodeAllFault;
+use vp_head::PacketFault;
 use vp_hints::{
-    Cause, FileKind, Printable, hint_file, hint_not_y4m, hint_stream_file, hint_y4m_colour,
+    Cause, FileKind, Printable, hint_file, hint_not_ivf, hint_not_y4m, hint_stream_file,
+    hint_y4m_colour, meaning_of,
 };
 use vp_hub::{HubFault, ServeFault};
 use vp_ivf::FileFault;
@@ -19,6 +21,9 @@ use vp_webp::WebPFault;
 // The name of standard input in words.
 const STANDARD_INPUT: &str = "standard input";
 
+// What to do if a packet gives no picture.
+const ANOTHER: &str = ". Try: another --packet, which vp8 info lists";
+
 /// Prints why a file was not decoded, and what to do.
 pub(crate) fn hint_decode<H, W: Write>(
     outside: &Outside<'_, H>,
@@ -26,7 +31,17 @@ pub(crate) fn hint_decode<H, W: Write>(
     files: (&str, &str),
     output: &mut W,
 ) -> io::Result<()> {
-    hint_work(outside, fault, files, "were decoded", output)
+    hint_work(outside, fault, files, "decoded", output)
+}
+
+/// Prints why a file was not surveyed, and what to do.
+pub(crate) fn hint_survey<H, W: Write>(
+    outside: &Outside<'_, H>,
+    fault: DecodeFault,
+    from: &str,
+    output: &mut W,
+) -> io::Result<()> {
+    hint_work(outside, fault, (from, "-"), "read", output)
 }
 
 /// Prints why the packets of a range were not decoded, and what to do.
@@ -37,7 +52,7 @@ pub(crate) fn hint_range<H, W: Write>(
     output: &mut W,
 ) -> io::Result<()> {
     let files = (wanted.decoding.input, wanted.decoding.output);
-    hint_work(outside, fault, files, "were read", output)
+    hint_work(outside, fault, files, "read", output)
 }
 
 /// Prints how packets are counted, under a packet that is missing.
@@ -80,7 +95,8 @@ fn input_name(from: &str) -> Printable<'_> {
     }
 }
 
-// Prints which file can't be read or written, and why. Of standard input and output nothing is known here.
+// Prints which file can't be read or written, and why. Of standard input and output nothing is known here. If no call
+// failed, a write took no byte.
 fn hint_device<H, W: Write>(
     outside: &Outside<'_, H>,
     from: &str,
@@ -93,6 +109,9 @@ fn hint_device<H, W: Write>(
     match (outside.refused, outside.unwritten) {
         (Some(error), _) => hint_refused(from, error, output),
         (None, Some(error)) => hint_refused(to, error, output),
+        (None, None) if from != "-" && to != "-" => {
+            hint_refused(to, io::Error::from(io::ErrorKind::WriteZero), output)
+        }
         (None, None) => Ok(()),
     }
 }
@@ -106,8 +125,32 @@ fn hint_refused<W: Write>(name: &str, error: io::Error, output: &mut W) -> io::R
     writeln!(output, "  {name}: {cause}")
 }
 
-/// Prints why a file was not encoded, and what to do.
+/// Prints why a file was not encoded, and what to do; and what is in OUT, if packets were written as they were encoded.
 pub(crate) fn hint_encode<H, W: Write>(
+    outside: &Outside<'_, H>,
+    fault: EncodeAllFault,
+    encoding: &EncodeArgs<'_>,
+    output: &mut W,
+) -> io::Result<()> {
+    hint_encode_fault(outside, fault, encoding, output)?;
+    match &outside.encoded {
+        Some(file) if encoding.live => hint_kept(file.packets().whole, encoding.output, output),
+        _ => Ok(()),
+    }
+}
+
+// Prints the number of frames that are in a file.
+fn hint_kept<W: Write>(frames: u64, to: &str, output: &mut W) -> io::Result<()> {
+    let file = Printable(to);
+    match frames {
+        0 => Ok(()),
+        1 => writeln!(output, "  1 frame is in {file}"),
+        _ => writeln!(output, "  {frames} frames are in {file}"),
+    }
+}
+
+// Prints why a file was not encoded, and what to do.
+fn hint_encode_fault<H, W: Write>(
     outside: &Outside<'_, H>,
     fault: EncodeAllFault,
     encoding: &EncodeArgs<'_>,
@@ -163,17 +206,21 @@ fn hint_find<H, W: Write>(
 ) -> io::Result<()> {
     let file = input_name(from);
     match fault {
-        FindFault::File(fault) if from == "-" => hint_stream_file(fault, file, output),
         FindFault::File(FileFault::TooMany) => writeln!(output, "  {file}: over 1,048,576 packets"),
-        FindFault::File(fault) => hint_file(fault, from, &outside.input, "were read", output),
+        FindFault::File(fault) if from == "-" => hint_stream_file(fault, file, output),
+        FindFault::File(fault) => hint_file(fault, from, &outside.input, "read", output),
+        FindFault::WebP(WebPFault::Signature) if from != "-" => {
+            hint_not_ivf(from, &outside.input, output)
+        }
         FindFault::WebP(fault) => {
             let words = webp_words(fault);
             writeln!(output, "  {file}: {words}")
         }
-        FindFault::Packet(_) => writeln!(
-            output,
-            "  {file}: the packet can't be decoded. Try: another --packet, which vp8 info lists"
-        ),
+        FindFault::Packet(fault) => {
+            let is_webp = outside.input.kind() == FileKind::WebP;
+            let (words, advice) = (packet_words(fault), if is_webp { "" } else { ANOTHER });
+            writeln!(output, "  {file}: {words}{advice}")
+        }
         FindFault::Hidden => writeln!(
             output,
             "  {file}: the packet shows no picture. Try: another --packet, which vp8 info lists"
@@ -181,6 +228,14 @@ fn hint_find<H, W: Write>(
         FindFault::NoPacket(_) => hint_missing(from, output),
         FindFault::NoPicture(_) => writeln!(output, "  {file}: no packet shows a picture"),
         FindFault::Memory => writeln!(output, "  out of memory"),
+    }
+}
+
+// What is wrong with the packet of a picture.
+fn packet_words(fault: PacketFault) -> &'static str {
+    match fault {
+        PacketFault::TooLarge => "over 16,777,216 pixels",
+        fault => meaning_of(fault),
     }
 }
 
@@ -335,8 +390,14 @@ pub(crate) fn hint_address<W: Write>(
     error: io::Error,
     output: &mut W,
 ) -> io::Result<()> {
+    let is_invalid = error.kind() == io::ErrorKind::InvalidInput;
+    let advice = if is_invalid {
+        ". Try: ADDR:PORT, as 127.0.0.1:8080"
+    } else {
+        ""
+    };
     let (address, cause) = (Printable(address), Cause(error));
-    writeln!(output, "  {address}: {cause}")
+    writeln!(output, "  {address}: {cause}{advice}")
 }
 
 /// Prints which of the files that were fed are not IVF files of VP8.

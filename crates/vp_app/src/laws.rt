@@ -18,13 +18,13 @@ ghost use Rattle.vp_stream.specs.declared.fault.DecodeFault.TheVariants.{Device,
 ghost use Rattle.vp_app.specs.Commands.{DecodesInto, EncodesInto, Encoding, IsFileDecoded, IsFileEncoded, IsUnbegun};
 ghost use Rattle.vp_app.specs.Commands.{IsUnopened};
 ghost use Rattle.vp_args.specs.declared.file_limits.FileLimits.{FileLimits};
-ghost use Rattle.vp_app.specs.declared.styles.LineStyle.{LineStyle};
+ghost use Rattle.vp_lines.specs.declared.styles.LineStyle.{LineStyle};
 ghost use Rattle.vp_check.specs.declared.checked.Checked.{Checked};
-ghost use Rattle.vp_app.specs.CheckLines.{checks_text, is_well};
+ghost use Rattle.vp_lines.specs.CheckLines.{checks_text, is_well};
 ghost use Rattle.vp_app.specs.Commands.{ChecksFile, ChecksInput, PrintsChecks};
 ghost use Rattle.vp_app.specs.Commands.{DecodesRangeInto, IsFileRangeDecoded, PrintsSurvey, Side, SurveysFile};
 ghost use Rattle.vp_app.specs.Commands.{SurveysInput};
-ghost use Rattle.vp_app.specs.Listing.{survey_text};
+ghost use Rattle.vp_lines.specs.Listing.{survey_text};
 ghost use Rattle.vp_app.specs.Serving.{IsServed};
 ghost use Rattle.vp_app.specs.Commands.{status_by_service};
 ghost use Rattle.vp_app.specs.declared.service.ServiceFault.{ServiceFault};

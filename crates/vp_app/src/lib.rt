@@ -7,8 +7,6 @@ mod encoded;
 mod files;
 mod hints;
 mod laws;
-mod lines;
-mod listing;
 mod many;
 mod outside;
 mod picture;
@@ -16,10 +14,8 @@ mod picture_fault;
 mod program;
 mod range;
 mod service;
-mod styles;
 mod sums;
 
-pub use check::Counts;
 pub use encode::settings_of;
 pub use files::limits_of;
 pub use laws::{
@@ -32,4 +28,3 @@ pub use picture::MadePicture;
 pub use picture_fault::PictureFault;
 pub use program::{command, command_line};
 pub use service::{ServiceFault, feed_all, listen, new_hub, serve_each};
-pub use styles::LineStyle;

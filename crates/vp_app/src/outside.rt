@@ -1,13 +1,18 @@
 //! The system that a command works on, and what it met there: the facts for the hints under its faults.
 
+ghost use Rattle.std.specs.Prelude.{◌≡◌};
+
 use std::alloc::Global;
 use std::fs::{Metadata, OpenFile};
+use std::io::Write;
 use std::net::{Net, TcpListener, TcpStream};
 use std::os::unix::fs::MetadataExt;
 use std::rt::Files;
-use std::{fs, io};
+use std::{fmt, fs, io};
+use vp_base::Counted;
 use vp_hints::{Meter, Metered, Overwrite, Seen, Tally, Witness, head_fault, open_to_overwrite};
 use vp_ivf::FileFault;
+use vp_lines::report_fault;
 
 // The greatest number of streams that are served.
 const MOST_STREAMS: usize = 16;
@@ -68,7 +73,7 @@ impl<'a, H> Outside<'a, H> {
     }
 
     /// Remembers what was encoded into a file.
-    pub(crate) fn has_encoded<W: Drop>(&mut self, file: Tally<W>) {
+    pub(crate) fn has_encoded<W: Drop>(&mut self, file: Tally<'_, W, H>) {
         self.encoded = Some(file.into_seen());
     }
 
@@ -82,6 +87,28 @@ impl<'a, H> Outside<'a, H> {
     /// Remembers why a file was not written.
     pub(crate) fn has_written<F>(&mut self, file: &Witness<F>) {
         self.unwritten = file.error();
+    }
+
+    /// Whether the output is a pipe that its reader has closed, which is no mistake.
+    pub(crate) fn is_cut_off(&self) -> bool {
+        match self.unwritten {
+            Some(error) => error.kind() == io::ErrorKind::BrokenPipe,
+            None => false,
+        }
+    }
+
+    /// Prints the fault that ended the work, unless the reader of the output is gone. Returns the exit status.
+    pub(crate) fn report<F: fmt::Display + Drop, E: Write>(
+        &self,
+        fault: F,
+        errors: &mut Counted<E>,
+    ) -> u8
+        ensures { result ≡ 1 }
+    {
+        if self.is_cut_off() {
+            return 1;
+        }
+        report_fault(fault, errors)
     }
 }
 
@@ -158,8 +185,8 @@ impl<'a, H: Files> Outside<'a, H> {
         }
     }
 
-    /// Makes an output file. What an old file holds stays until the first byte is written, or until the file is
-    /// finished. The input file is refused.
+    /// Makes an output file. What an old file holds stays until the first write, or until the file is finished. The
+    /// input file is refused.
     pub(crate) fn make(&mut self, name: &str) -> io::Result<Witness<Overwrite<H::File>>> {
         match open_to_overwrite(self.system, name) {
             Ok(file) => self.overwrite(file),

@@ -8,7 +8,7 @@ ghost use Rattle.vp_app.specs.Commands.{Over};
 ghost use Rattle.vp_app.specs.Picturing.{is_told, IsUnmade, is_foreign, IsPictureFile};
 ghost use Rattle.vp_scale.specs.Scale.{factor_of, scaled_side};
 
-use crate::encoded::{decibels, samples};
+use crate::encoded::samples;
 use crate::hints::hint_picture;
 use crate::outside::Outside;
 use crate::picture_fault::{PictureFault, report_picture_fault};
@@ -17,6 +17,7 @@ use std::io::{Read, Write};
 use std::rt::Files;
 use vp_args::{PictureArgs, StillForm};
 use vp_base::{ByteList, Counted, Dim, Limits, put_all};
+use vp_hints::decibels;
 use vp_still::{Coding, Found, find, i420_still, ppm_still, webp_still, y4m_still};
 
 /// The file of a picture.
@@ -189,6 +190,7 @@ pub(crate) fn report_picture<H, E: Write>(
             print_made(made, errors);
             0
         }
+        Err(_) if outside.is_cut_off() => 1,
         Err(fault) => {
             report_picture_fault(*fault, wanted, errors);
             let _ = hint_picture(outside, *fault, wanted, errors);

@@ -11,6 +11,7 @@ use std::io;
 use std::io::Write;
 use vp_args::PictureArgs;
 use vp_base::Counted;
+use vp_hints::Printable;
 use vp_still::{FindFault, StillFault};
 
 /// The reasons for which no picture is written.
@@ -81,18 +82,17 @@ fn print_find_fault<E: Write>(
     wanted: &PictureArgs<'_>,
     errors: &mut Counted<E>,
 ) -> io::Result<()> {
-    let (name, number) = (wanted.input, wanted.packet.unwrap_or(0));
+    let (name, number) = (Printable(wanted.input), wanted.packet.unwrap_or(0));
     match fault {
         FindFault::File(fault) => writeln!(errors, "vp8: {fault}"),
         FindFault::WebP(fault) => writeln!(errors, "vp8: {fault}"),
         FindFault::Packet(fault) => writeln!(errors, "vp8: packet {number}: {fault}"),
         FindFault::Hidden => writeln!(errors, "vp8: packet {number}: Hidden"),
-        FindFault::NoPacket(count) => {
-            writeln!(
-                errors,
-                "vp8: no packet {number}: {name} has {count} packets"
-            )
-        }
+        FindFault::NoPacket(1) => writeln!(errors, "vp8: no packet {number}: {name} has 1 packet"),
+        FindFault::NoPacket(count) => writeln!(
+            errors,
+            "vp8: no packet {number}: {name} has {count} packets"
+        ),
         FindFault::NoPicture(count) => {
             writeln!(
                 errors,

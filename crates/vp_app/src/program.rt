@@ -1,12 +1,15 @@
 //! The program: runs the command line over any standard streams.
 
-ghost use Rattle.std.specs.Prelude.{◌≡◌, ◌≢◌, ◌≤◌, ◌⊎◌, [], IfOk, IsOk, None, false};
+ghost use Rattle.std.specs.Prelude.{◌≡◌, ◌≢◌, ◌≤◌, ◌⊎◌, [], IfOk, IsOk, None, false, true};
 ghost use Rattle.clap.specs.Values.{kind_of};
 ghost use Rattle.clap.specs.Walk.{texts};
 ghost use Rattle.clap.specs.declared.error.kind.ErrorKind.{ErrorKind};
 ghost use Rattle.vp_stream.specs.declared.fault.DecodeFault.{DecodeFault};
 ghost use Rattle.vp_base.specs.Counted.{counted_contents};
-ghost use Rattle.vp_app.specs.Commands.{Side, first_name, info_style, is_plain, is_stream, is_y4m, read_side};
+ghost use Rattle.vp_hints.specs.Overwrite.{is_begun};
+ghost use Rattle.vp_hints.specs.Witness.{witness_inner};
+ghost use Rattle.vp_app.specs.Commands.{Side, first_name, info_style, is_plain, is_stream, is_summed, is_y4m};
+ghost use Rattle.vp_app.specs.Commands.{read_side};
 ghost use Rattle.vp_app.specs.Commands.{status_by_report, status_by_service, written_side, DecodesFile, DecodesInto};
 ghost use Rattle.vp_app.specs.Commands.{Does, DoesCheck};
 ghost use Rattle.vp_app.specs.Commands.{DoesDecode, DoesDecodeRange, DoesInfo, IsFileDecoded, IsFileSurveyed};
@@ -20,15 +23,13 @@ ghost use Rattle.vp_args.specs.Args.{IsTaskFor};
 use crate::check::{CheckWork, check_files};
 use crate::encode::encode;
 use crate::encoded::tell_encoded;
-use crate::files::{file_fault, limits_of};
-use crate::hints::{hint_decode, hint_encode, hint_serve};
-use crate::listing::{print_faults, print_survey, report_fault};
+use crate::files::{file_fault, finish_pictures, limits_of};
+use crate::hints::{hint_decode, hint_encode, hint_serve, hint_survey};
 use crate::many::{ManyFault, print_fault, serve_many};
 use crate::outside::Outside;
 use crate::picture::{report_picture, write_picture};
 use crate::range::{decode_packets, report_packets};
 use crate::service::{ServiceFault, serve};
-use crate::styles::LineStyle;
 use crate::sums::{sum_packets, sum_pictures};
 use clap::Error;
 use clap::error::ErrorKind;
@@ -46,6 +47,7 @@ use vp_args::{
 use vp_base::Counted;
 use vp_encode::{EncodeAllFault, EncodeReport};
 use vp_hints::{Meter, Overwrite, Unit, Witness, hint_packets};
+use vp_lines::{LineStyle, print_faults, print_survey, report_fault};
 use vp_stream::{DecodeFault, Form, Report, Survey, SurveyFault, decode_all, survey};
 
 /// Runs the command that the arguments ask for; the first argument is the program's name. Returns the exit status: 0, 1
@@ -57,15 +59,18 @@ use vp_stream::{DecodeFault, Form, Report, Survey, SurveyFault, decode_all, surv
 ///
 /// With `--frame N` or `--frames A-B` only the pictures of packet N, or of packets A to B, are written. If one is
 /// missing, `vp8: no packet N: IN has COUNT packets` is printed for the first such packet, and the status is 1. With
-/// `--md5` OUT is not written, and the MD5 sum of what it would hold is printed, as md5sum does.
+/// `--md5` OUT is not written and may be left out, and the MD5 sum of what it would hold is printed, as md5sum does;
+/// with `--md5-each` the sum of each picture before it.
 ///
-/// `vp8 encode IN OUT` writes the pictures of a YUV4MPEG2 file as VP8 in an IVF file, once all are encoded. It prints
-/// `frames N error E` on `errors`: the number of frames, and the sum of their squared errors.
+/// `vp8 encode IN OUT` writes the pictures of a YUV4MPEG2 file as VP8 in an IVF file, once all are encoded, or with
+/// `--live` each as soon as it is read. It prints `frames N error E` on `errors`: the number of frames, and the sum of
+/// their squared errors.
 ///
 /// `vp8 info IN...` prints the contents of IVF files, including the packets' faults; with `--long` also which packets
 /// are read past their end, with `--json` as a JSON document for each file.
 ///
-/// With `--progress` these and `encode` print on standard error how far they are, at most twice a second.
+/// With `--progress` these and `encode` print on standard error how far they are, at most twice a second. `decode`,
+/// `info` and `check` read packets and pictures up to the limits of `--max-packets` and `--max-pixels`.
 ///
 /// `vp8 check IN...` decodes IVF files, one after another, and prints what is found in each: the numbers of its
 /// packets, and its fault. With `--verbose` a line stands before these for each packet that has a fault or is read past
@@ -206,11 +211,18 @@ fn run_decode<H: Files + AllocGlobal + Clock + Eprint, R: Read, W: Write, E: Wri
         (written_side W.contents output.old) (written_side W.contents output.new) }
 {
     switch_on(outside, decoding.progress, Unit::Packets);
-    if decoding.md5 {
+    if is_summed(decoding) {
         sum_pictures(outside, decoding, input, output, errors)
     } else {
         write_pictures(outside, decoding, input, output, errors)
     }
+}
+
+// Whether sums are printed in place of pictures.
+fn is_summed(decoding: &DecodeArgs<'_>) -> bool
+    ensures { result ≡ is_summed decoding.now }
+{
+    decoding.md5 || decoding.md5_each
 }
 
 // Decodes a file, writes its pictures, and reports it.
@@ -245,7 +257,7 @@ fn run_range<H: Files + AllocGlobal + Clock + Eprint, R: Read, W: Write, E: Writ
         (written_side W.contents output.old) (written_side W.contents output.new) }
 {
     switch_on(outside, wanted.decoding.progress, Unit::Packets);
-    if wanted.decoding.md5 {
+    if is_summed(&wanted.decoding) {
         sum_packets(outside, wanted, input, output, errors)
     } else {
         write_range(outside, wanted, input, output, errors)
@@ -459,7 +471,7 @@ fn decode_into<H: Files + AllocGlobal, R: Read, W: Write>(
     }
 }
 
-// Decodes to a file. If there is no picture, the file is empty afterwards.
+// Decodes to a file. If the status is 0 although there is no picture, the file is empty afterwards.
 fn decode_into_file<R: Read, F: OpenFile + Write>(
     alloc: Global,
     form: Form,
@@ -467,11 +479,12 @@ fn decode_into_file<R: Read, F: OpenFile + Write>(
     input: &mut Counted<R>,
     file: &mut Witness<Overwrite<F>>,
 ) -> Result<Report, DecodeFault>
-    ensures { (a : Side) × (b : Side) × IsFileDecoded limits form result
+    ensures decoded { (a : Side) × (b : Side) × IsFileDecoded limits form result
         (read_side R.remaining input.old) (read_side R.remaining input.new) a b }
+    ensures finished { status_of result ≡ 0 → is_begun (witness_inner file.new) ≡ true }
 {
     let done = decode_over(alloc, form, limits, input, &mut Counted::new(&mut *file));
-    if done.is_ok() && file.finish().is_err() {
+    if finish_pictures(&done, file).is_err() {
         return Err(DecodeFault::Device);
     }
     done
@@ -551,7 +564,7 @@ pub(crate) fn report_decode<H: AllocGlobal, E: Write>(
     let report = match done {
         Ok(report) => report,
         Err(fault) => {
-            let status = report_fault(fault, errors);
+            let status = outside.report(fault, errors);
             let files = (decoding.input, decoding.output);
             let _ = hint_decode(outside, fault, files, errors);
             return status;
@@ -579,7 +592,7 @@ fn report_encode<H, E: Write>(
             0
         }
         Err(fault) => {
-            let status = report_fault(fault, errors);
+            let status = outside.report(fault, errors);
             let _ = hint_encode(outside, fault, encoding, errors);
             status
         }
@@ -622,7 +635,7 @@ fn report_unread<H, E: Write>(
     ensures { result ≡ 1 }
 {
     let status = report_fault(fault, errors);
-    let _ = hint_decode(outside, fault, (from, "-"), errors);
+    let _ = hint_survey(outside, fault, from, errors);
     status
 }
 

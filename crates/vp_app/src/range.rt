@@ -1,12 +1,13 @@
 //! The command `vp8 decode` for a range of packets.
 
-ghost use Rattle.std.specs.Prelude.{◌≡◌, ◌≤◌, false};
+ghost use Rattle.std.specs.Prelude.{◌≡◌, ◌≤◌, false, true};
+ghost use Rattle.vp_hints.specs.Overwrite.{is_begun};
+ghost use Rattle.vp_hints.specs.Witness.{witness_inner};
 ghost use Rattle.vp_app.specs.Commands.{Side, is_stream, read_side, status_by_range, written_side, DecodesRange};
 ghost use Rattle.vp_app.specs.Commands.{DecodesRangeInto, IsFileRangeDecoded};
 
-use crate::files::{file_fault, limits_of};
+use crate::files::{file_fault, finish_range, limits_of};
 use crate::hints::{hint_missing, hint_range};
-use crate::listing::{print_faults, report_fault};
 use crate::outside::Outside;
 use std::alloc::Global;
 use std::fs::OpenFile;
@@ -16,7 +17,8 @@ use std::time::Clock;
 use vp_args::DecodeRangeArgs;
 use vp_base::Counted;
 use vp_frames::{PacketRange, RangeReport, decode_range};
-use vp_hints::{Overwrite, Witness, hint_packets};
+use vp_hints::{Overwrite, Printable, Witness, hint_packets};
+use vp_lines::print_faults;
 use vp_stream::{DecodeFault, Form};
 
 /// Opens the files, and decodes the pictures of the range. The output must not be the input file, because creating it
@@ -79,7 +81,7 @@ fn decode_into<H: Files + AllocGlobal, R: Read, W: Write>(
     }
 }
 
-// Decodes to a file. If there is no picture, the file is empty afterwards.
+// Decodes to a file. If the status is 0 although there is no picture, the file is empty afterwards.
 fn decode_into_file<R: Read, F: OpenFile + Write>(
     alloc: Global,
     form: Form,
@@ -87,11 +89,12 @@ fn decode_into_file<R: Read, F: OpenFile + Write>(
     input: &mut Counted<R>,
     file: &mut Witness<Overwrite<F>>,
 ) -> Result<RangeReport, DecodeFault>
-    ensures { (a : Side) × (b : Side) × IsFileRangeDecoded wanted.now.decoding.limits form wanted.now.first wanted.now.last result
+    ensures decoded { (a : Side) × (b : Side) × IsFileRangeDecoded wanted.now.decoding.limits form wanted.now.first wanted.now.last result
         (read_side R.remaining input.old) (read_side R.remaining input.new) a b }
+    ensures finished { status_by_range wanted.now.last result ≡ 0 → is_begun (witness_inner file.new) ≡ true }
 {
     let done = decode_over(alloc, form, wanted, input, &mut Counted::new(&mut *file));
-    if done.is_ok() && file.finish().is_err() {
+    if finish_range(&done, wanted.last, file).is_err() {
         return Err(DecodeFault::Device);
     }
     done
@@ -142,7 +145,7 @@ pub(crate) fn report_packets<H: AllocGlobal, E: Write>(
     let report = match done {
         Ok(report) => report,
         Err(fault) => {
-            let status = report_fault(fault, errors);
+            let status = outside.report(fault, errors);
             let _ = hint_range(outside, fault, wanted, errors);
             return status;
         }
@@ -158,10 +161,11 @@ pub(crate) fn report_packets<H: AllocGlobal, E: Write>(
 
 // Prints the first packet of the range that is missing.
 fn print_missing<E: Write>(count: u32, wanted: &DecodeRangeArgs<'_>, errors: &mut Counted<E>) {
-    let (number, name) = (count.max(wanted.first), wanted.decoding.input);
+    let (number, from) = (count.max(wanted.first), wanted.decoding.input);
+    let name = Printable(from);
     let _ = writeln!(
         errors,
         "vp8: no packet {number}: {name} has {count} packets"
     );
-    let _ = hint_missing(name, errors);
+    let _ = hint_missing(from, errors);
 }

@@ -1,75 +1,24 @@
-//! The command `vp8 decode --md5`: the MD5 sum of pictures, in place of a file of them.
+//! The command `vp8 decode --md5`: MD5 sums of pictures, in place of a file of them.
 
-ghost use Rattle.std.specs.Prelude.{◌≡◌, ◌≤◌, ◌<◌, ℕ, List, OnOk};
-ghost use Rattle.std.specs.Io.KnownBytes.{Appends};
-ghost use Rattle.vp_base.specs.Counted.{counted_contents};
-ghost use Rattle.vp_app.specs.Commands.{Side, read_side, sum_line, written_side, IsFileDecoded, IsFileRangeDecoded};
+ghost use Rattle.std.specs.Prelude.{◌≤◌};
+ghost use Rattle.vp_app.specs.Commands.{Side, read_side, written_side, IsFileDecoded, IsFileRangeDecoded};
 ghost use Rattle.vp_app.specs.Commands.{SumsFile, SumsPictures, SumsRange};
 
 use crate::files::file_fault;
-use crate::listing::report_fault;
 use crate::outside::Outside;
 use crate::program::{decode_over, form_of, report_decode};
 use crate::range::{decode_over as decode_range_over, report_packets};
-use md5::{Digest, Md5};
 use std::alloc::Global;
 use std::io::{Read, Write};
 use std::rt::Files;
 use std::time::Clock;
-use std::{io, str};
 use vp_args::{DecodeArgs, DecodeRangeArgs};
-use vp_base::{Counted, Device};
+use vp_base::Counted;
 use vp_frames::RangeReport;
+use vp_lines::{Summer, print_sums, report_fault};
 use vp_stream::{DecodeFault, Form, Report};
 
-/// A writer that sums up what is written.
-#[derive(Drop)]
-struct Summer {
-    hasher: Md5,
-}
-
-impl Summer {
-    // Nothing was written yet.
-    fn new() -> Summer {
-        Summer { hasher: Md5::new() }
-    }
-
-    // The digits of the sum.
-    fn digits(self) -> [u8; 32] {
-        let Summer { hasher } = self;
-        let sum = hasher.finalize();
-        let mut digits = [b'0'; 32];
-        for (place, byte) in sum.iter().enumerate() {
-            digits[2 * place] = hex_digit(*byte / 16);
-            digits[2 * place + 1] = hex_digit(*byte % 16);
-        }
-        digits
-    }
-}
-
-// A hexadecimal digit.
-fn hex_digit(value: u8) -> u8
-    requires { value < 16 }
-{
-    if value < 10 {
-        b'0' + value
-    } else {
-        b'a' + (value - 10)
-    }
-}
-
-impl Write for Summer {
-    fn write(&mut self, buf: &[u8]) -> io::Result<usize> {
-        self.hasher.update(buf);
-        Ok(buf.len())
-    }
-
-    fn flush(&mut self) -> io::Result<()> {
-        Ok(())
-    }
-}
-
-/// Decodes a file, and prints the sum of its pictures. Returns the exit status.
+/// Decodes a file, and prints the sums of its pictures. Returns the exit status.
 pub(crate) fn sum_pictures<H: Files + AllocGlobal + Clock + Eprint, R: Read, W: Write, E: Write>(
     outside: &mut Outside<'_, H>,
     decoding: &DecodeArgs<'_>,
@@ -82,11 +31,12 @@ pub(crate) fn sum_pictures<H: Files + AllocGlobal + Clock + Eprint, R: Read, W: 
         (read_side R.remaining input.old) (read_side R.remaining input.new)
         (written_side W.contents output.old) (written_side W.contents output.new) }
 {
-    let mut summer = Summer::new();
-    let done = sum_file(outside, form_of(decoding.y4m), decoding, input, &mut summer);
+    let (each, y4m) = (decoding.md5_each, decoding.y4m);
+    let mut summer = Summer::new(outside.alloc(), each, y4m);
+    let done = sum_file(outside, form_of(y4m), decoding, input, &mut summer);
     let is_told = done.is_ok();
     let status = report_decode(outside, done, decoding, errors);
-    if is_told && print_sum(summer, decoding.output, output).is_err() {
+    if is_told && print_sums(summer, each, decoding.output, output).is_err() {
         return report_fault(DecodeFault::Device, errors);
     }
     status
@@ -138,7 +88,7 @@ fn sum_over<R: Read>(
     )
 }
 
-/// Decodes a range of packets, and prints the sum of their pictures. Returns the exit status.
+/// Decodes a range of packets, and prints the sums of their pictures. Returns the exit status.
 pub(crate) fn sum_packets<H: Files + AllocGlobal + Clock + Eprint, R: Read, W: Write, E: Write>(
     outside: &mut Outside<'_, H>,
     wanted: &DecodeRangeArgs<'_>,
@@ -151,12 +101,13 @@ pub(crate) fn sum_packets<H: Files + AllocGlobal + Clock + Eprint, R: Read, W: W
         (read_side R.remaining input.old) (read_side R.remaining input.new)
         (written_side W.contents output.old) (written_side W.contents output.new) }
 {
-    let mut summer = Summer::new();
-    let form = form_of(wanted.decoding.y4m);
+    let (each, y4m) = (wanted.decoding.md5_each, wanted.decoding.y4m);
+    let mut summer = Summer::new(outside.alloc(), each, y4m);
+    let form = form_of(y4m);
     let done = sum_range(outside, form, wanted, input, &mut summer);
     let is_told = done.is_ok();
     let status = report_packets(outside, done, wanted, errors);
-    if is_told && print_sum(summer, wanted.decoding.output, output).is_err() {
+    if is_told && print_sums(summer, each, wanted.decoding.output, output).is_err() {
         return report_fault(DecodeFault::Device, errors);
     }
     status
@@ -202,26 +153,4 @@ fn sum_range_over<R: Read>(
         (read_side R.remaining input.old) (read_side R.remaining input.new) a b }
 {
     decode_range_over(alloc, form, wanted, input, &mut Counted::new(summer))
-}
-
-// Prints the line of a sum.
-fn print_sum<W: Write>(summer: Summer, name: &str, output: &mut Counted<W>) -> Result<(), Device>
-    ensures { OnOk result ((digits : List ℕ) × Appends (counted_contents W.contents output.old)
-        (counted_contents W.contents output.new) (sum_line digits name.now)) }
-{
-    let digits = summer.digits();
-    match str::from_utf8(&digits) {
-        Ok(digits) => print_line(digits, name, output),
-        Err(_) => Err(Device),
-    }
-}
-
-fn print_line<W: Write>(digits: &str, name: &str, output: &mut Counted<W>) -> Result<(), Device>
-    ensures { OnOk result (Appends (counted_contents W.contents output.old)
-        (counted_contents W.contents output.new) (sum_line digits.now name.now)) }
-{
-    match writeln!(output, "{digits}  {name}") {
-        Ok(()) => Ok(()),
-        Err(_) => Err(Device),
-    }
 }

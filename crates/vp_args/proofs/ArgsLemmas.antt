@@ -9,20 +9,22 @@ use Rattle.clap.specs.Built.{AddsArg, AddsSubcommand}
 use Rattle.clap.specs.Walk.{Row, Rule, Text, rule_of, texts}
 use Rattle.clap.specs.Kinds.{FailsBy, HasKind}
 use Rattle.clap.specs.Faults.{fault_of, is_simple_and_free}
-use Rattle.clap.specs.Simple.{App, HasMatchesOf, app_of, is_simple, subcommand_of, subcommand_rows_of, with_rule, with_subcommand}
+use Rattle.clap.specs.Simple.{App, HasMatchesOf, app_of, is_simple, new_rule, subcommand_of, subcommand_rows_of, with_rule, with_subcommand}
 use Rattle.clap.proofs.OnLiterals.{clap_on_literals}
 use Rattle.clap.specs.declared.error.Error.{Error}
 use Rattle.clap.specs.declared.builder.arg.Arg.{Arg}
 use Rattle.clap.specs.declared.builder.command.Command.{Command}
 use Rattle.clap.specs.declared.builder.command.Command.TheViews.{out-Command as fields_of}
 use Rattle.clap.specs.declared.parser.matches.ArgMatches.{ArgMatches}
-use Rattle.vp_args.specs.Tables.{part_app, with_parts, word_rule}
+use Rattle.vp_args.specs.Tables.{form_rule, formed_rule, is_required, named_rule, part_app, with_parts, word_rule}
+use Rattle.vp_args.specs.declared.words.Form.{Form}
+use Rattle.vp_args.specs.declared.words.Form.TheVariants.{Flag, Setting, Operand, Operands}
 use Rattle.vp_args.specs.declared.words.Part.{Part}
 use Rattle.vp_args.specs.declared.words.Word.{Word}
 use Rattle.vp_args.specs.declared.args.Task.TheVariants.{Nothing}
 use Rattle.vp_args.specs.declared.args.Refusal.{Refusal}
 use Rattle.vp_args.specs.declared.args.Refusal.TheVariants.{Words, Value}
-use Rattle.vp_args.specs.Args.{ParsedArgs, serves, check_app, decode_app, encode_app, faults_of, info_app, picture_app, serve_app, vp8_app, Gains, IsFlag, IsForMemory, IsNoNaming, IsTaskFor, is_equals, is_parted, program, with_rules, with_service, asks_many}
+use Rattle.vp_args.specs.Args.{ParsedArgs, serves, check_app, decode_app, encode_app, faults_of, info_app, picture_app, serve_app, vp8_app, Gains, IsFlag, IsForMemory, IsNoNaming, IsTaskFor, is_equals, is_parted, program, required_if, with_rules, with_service, asks_many}
 
 -- ---- the commands
 
@@ -43,6 +45,16 @@ gains_one old rules mid a r new h adds local is = (
   adds.shape local ∙ (ap (λ x. with_rule (app_of mid) x) is ∙ (ap (λ x. with_rule x r) h.0 ∙ sym (with_one_more (app_of old) rules r))),
   adds.globals ∙ (globals_stay (fields_of mid).has_globals a.global local ∙ h.1),
 )
+
+-- a name and a form are a word
+forms_rule : (must : Bool) (form : Form) (name : Text) → formed_rule form name (required_if must (new_rule name)) ≡ required_if must (form_rule form name)
+forms_rule must Flag name = refl
+forms_rule must (Setting value) name = refl
+forms_rule must Operand name = refl
+forms_rule must Operands name = refl
+
+pub forms_name : (many : Bool) (w : Word) (named formed : Rule) → formed ≡ formed_rule w.form w.name.now named → named ≡ named_rule many w → formed ≡ word_rule many w
+forms_name many w named formed e f = e ∙ (ap (formed_rule w.form w.name.now) f ∙ forms_rule (is_required many w.need) w.form w.name.now)
 
 -- one more word of a table
 pub gains_word : (many : Bool) (old mid new : Command) (words : List Word) (i : ℕ) (d : Word) (a : Arg) → i < length words → Gains old (map (word_rule many) (take i words)) mid

@@ -49,6 +49,10 @@ flag_rule name = record (new_rule name) { long = Some name; action = Some SetTru
 abbrev pub operand_rule : Text → Rule
 operand_rule name = record (new_rule name) { required = true; action = Some Set }
 
+-- an argument that must be present, or need not be
+abbrev pub required_if : Bool → Rule → Rule
+required_if must r = record r { required = must }
+
 -- an operand that takes one value or more
 abbrev pub operands_rule : Text → Rule
 operands_rule name =
@@ -71,17 +75,17 @@ Gains old rules new = (app_of new ≡ with_rules (app_of old) rules)
 abbrev pub picture_rules : List Rule
 picture_rules =
     flag_rule (codes "y4m") ∷ setting_rule (codes "frame")
-    ∷ setting_rule (codes "frames") ∷ flag_rule (codes "md5") ∷ []
+    ∷ setting_rule (codes "frames") ∷ flag_rule (codes "md5") ∷ flag_rule (codes "md5-each") ∷ []
 
 -- the flag for long work, and the limits on files
 abbrev pub reading_rules : List Rule
 reading_rules = flag_rule (codes "progress") ∷ setting_rule (codes "max-packets") ∷ setting_rule (codes "max-pixels") ∷ []
 
--- vp8 decode [--y4m] [--frame N | --frames A-B] [--md5] [reading] IN OUT
+-- vp8 decode [--y4m] [--frame N | --frames A-B] [--md5] [--md5-each] [reading] IN [OUT]
 abbrev pub decode_app : App
 decode_app =
     with_rules (with_rules (with_rules (new_app (codes "decode")) picture_rules) reading_rules) (operand_rule (codes "IN")
-    ∷ operand_rule (codes "OUT") ∷ [])
+    ∷ required_if false (operand_rule (codes "OUT")) ∷ [])
 
 -- the options for coding and filtering macroblocks
 abbrev pub macroblock_rules : List Rule
@@ -125,10 +129,6 @@ picture_app =
 -- an argument that must be present
 abbrev pub required : Rule → Rule
 required r = record r { required = true }
-
--- an argument that must be present, or need not be
-abbrev pub required_if : Bool → Rule → Rule
-required_if must r = record r { required = must }
 
 -- the options of `serve`; the number of connections may be left out if many are served at once
 abbrev pub service_rules : Bool → List Rule
@@ -222,10 +222,21 @@ abbrev pub with_operands : (Text → Text → ParsedArgs) → Option Text → Op
 with_operands ask (Some input) (Some output) = ask input output
 with_operands ask _ _ = nothing
 
+-- the file of pictures; `-` if it is not named
+abbrev pub named_output : Option Text → Text
+named_output None = codes "-"
+named_output (Some output) = output
+
 -- the pictures that `decode` is to write: all, or those of a range if an option says which
 abbrev pub decoding_of : List Row → Option Text → Option Text → Text → Text → ParsedArgs
 decoding_of rows None None = decodes rows
 decoding_of rows _ _ = decodes_range rows
+
+-- the task of `decode`, if there is a file of packets
+abbrev pub decoding_at : List Row → Option Text → Option Text → ParsedArgs
+decoding_at rows None output = nothing
+decoding_at rows (Some input) output =
+    decoding_of rows (first_of (codes "frame") rows) (first_of (codes "frames") rows) input (named_output output)
 
 -- the task of `info` or `check`, if there are files
 abbrev pub with_files : (List Text → ParsedArgs) → Option (List Text) → ParsedArgs
@@ -257,21 +268,28 @@ abbrev pub service_of : List Row → Option Text → ParsedArgs
 service_of rows None = turns_of rows
 service_of rows (Some most) = many_of rows
 
+-- the task of `picture` or `serve`, given the name and the arguments
+abbrev pub serving_at : Text → List Row → ParsedArgs
+serving_at name rows =
+    if bytes_eq name (codes "picture") then with_operands (pictures rows) (first_of (codes "IN") rows)
+    (first_of (codes "OUT") rows)
+    else (if bytes_eq name (codes "serve") then service_of rows (first_of (codes "max-connections") rows) else nothing)
+
+-- the task of `info` or `check`, or of these
+abbrev pub listing_at : Text → List Row → ParsedArgs
+listing_at name rows =
+    if bytes_eq name (codes "info") then with_files (tells rows) (all_of (codes "IN") rows)
+    else (if bytes_eq name (codes "check") then with_files (checks rows) (all_of (codes "IN") rows)
+    else serving_at name rows)
+
 -- the task, given a subcommand's name and its arguments
 abbrev pub asked_at : Text → List Row → ParsedArgs
 asked_at name rows =
     if bytes_eq name (codes "decode")
-    then with_operands (decoding_of rows (first_of (codes "frame") rows) (first_of (codes "frames") rows))
-    (first_of (codes "IN") rows) (first_of (codes "OUT") rows)
+    then decoding_at rows (first_of (codes "IN") rows) (first_of (codes "OUT") rows)
     else (if bytes_eq name (codes "encode") then with_operands (encodes rows) (first_of (codes "IN") rows)
     (first_of (codes "OUT") rows)
-    else (if bytes_eq name (codes "info") then with_files (tells rows) (all_of (codes "IN") rows)
-    else (if bytes_eq name (codes "check") then with_files (checks rows) (all_of (codes "IN") rows)
-    else (if bytes_eq name (codes "picture") then with_operands (pictures rows) (first_of (codes "IN") rows)
-    (first_of (codes "OUT") rows)
-    else (if bytes_eq name (codes "serve")
-    then service_of rows (first_of (codes "max-connections") rows)
-    else nothing)))))
+    else listing_at name rows)
 
 -- the task, given a subcommand, if there is one
 abbrev pub parsed_command : Option (Text × List Row) → ParsedArgs
@@ -322,10 +340,16 @@ pub record AreFileLimits (rows : List Row) (l : FileLimits) : Type 0 where
   pub packets_are : IsNumber (first_of (codes "max-packets") rows) 1048576 l.packets
   pub pixels_are : IsNumber (first_of (codes "max-pixels") rows) 16777216 l.pixels
 
+-- the sums that `decode` prints; if it prints none, the file of pictures is named
+pub record AreSums (rows : List Row) (md5 each : Bool) : Type 0 where
+  pub md5_is : IsFlag (one_of (codes "md5") rows) md5
+  pub each_is : IsFlag (one_of (codes "md5-each") rows) each
+  pub named : md5 ≡ false → each ≡ false → first_of (codes "OUT") rows ≢ None
+
 -- what `decode` makes of the pictures, and the files
 pub record IsDecodeFor (rows : List Row) (from to : Text) (d : DecodeArgs) : Type 0 where
   pub y4m_is : IsFlag (one_of (codes "y4m") rows) d.y4m
-  pub md5_is : IsFlag (one_of (codes "md5") rows) d.md5
+  pub sums_are : AreSums rows d.md5 d.md5_each
   pub progress_is : IsFlag (one_of (codes "progress") rows) d.progress
   pub limits_are : AreFileLimits rows d.limits
   pub input_is : d.input.now ≡ from
@@ -493,6 +517,15 @@ abbrev pub AreNoFileLimits : List Row → Type 0
 AreNoFileLimits rows =
     IsOutside 16777216 (first_of (codes "max-packets") rows) ⊎ IsOutside 268402689 (first_of (codes "max-pixels") rows)
 
+-- the file of pictures is not named, and no sum is asked for
+abbrev pub HasNoOutput : List Row → Type 0
+HasNoOutput rows = (first_of (codes "OUT") rows ≡ None) × IsFlag (one_of (codes "md5") rows) false
+    × IsFlag (one_of (codes "md5-each") rows) false
+
+-- a limit on files is refused, or there is nothing to write
+abbrev pub IsNoDecoding : List Row → Type 0
+IsNoDecoding rows = AreNoFileLimits rows ⊎ HasNoOutput rows
+
 -- the number of cached pictures is not from 1 to 4096
 abbrev pub IsNoCache : Option Text → Type 0
 IsNoCache None = ⊥
@@ -536,9 +569,9 @@ IsNoPicture rows to =
 
 -- some value is refused
 abbrev pub HasInvalidValue : ParsedArgs → Type 0
-HasInvalidValue (decodes rows from to) = AreNoFileLimits rows
+HasInvalidValue (decodes rows from to) = IsNoDecoding rows
 HasInvalidValue (decodes_range rows from to) =
-    AreMiswanted (first_of (codes "frame") rows) (first_of (codes "frames") rows) ⊎ AreNoFileLimits rows
+    AreMiswanted (first_of (codes "frame") rows) (first_of (codes "frames") rows) ⊎ IsNoDecoding rows
 HasInvalidValue (tells rows files) = AreNoFileLimits rows
 HasInvalidValue (checks rows files) = AreNoFileLimits rows
 HasInvalidValue (encodes rows from to) = AreNoSettings rows

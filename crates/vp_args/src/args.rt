@@ -5,9 +5,9 @@ ghost use Rattle.clap.specs.Words.{found_of, rows_of, subcommand_rows_of};
 ghost use Rattle.clap.specs.Kinds.{HasKind};
 ghost use Rattle.clap.specs.Simple.{subcommand_of};
 ghost use Rattle.clap.specs.Walk.{all_of, first_of, one_of, texts};
-ghost use Rattle.vp_args.specs.Args.{asked_at, asks_many, encodes, faults_of, parsed_args, parsed_command, program};
-ghost use Rattle.vp_args.specs.Args.{serves, turns_of, AreNamed, AreNoSettings, AreSettings, IsFlag, IsNoNaming};
-ghost use Rattle.vp_args.specs.Args.{IsNoPlanFor, IsOfValue, IsRefusalFor, IsTaskFor};
+ghost use Rattle.vp_args.specs.Args.{asked_at, asks_many, encodes, faults_of, listing_at, parsed_args};
+ghost use Rattle.vp_args.specs.Args.{parsed_command, program, serves, serving_at, turns_of, AreNamed, AreNoSettings};
+ghost use Rattle.vp_args.specs.Args.{AreSettings, IsFlag, IsNoNaming, IsNoPlanFor, IsOfValue, IsRefusalFor, IsTaskFor};
 
 use crate::check_args::{CheckArgs, check_task};
 use crate::decode_args::{DecodeArgs, DecodeRangeArgs};
@@ -100,12 +100,44 @@ fn read_matches<'a>(alloc: Global, matches: &ArgMatches<'a>) -> Result<Task<'a>,
     ensures refusal { IfErr result (IsNoPlanFor (parsed_command (subcommand_rows_of matches.now))) }
 {
     match matches.subcommand() {
-        Some(("decode", found)) => decode_task(found),
-        Some(("encode", found)) => encode_task(found),
-        Some(("info", found)) => info_task(alloc, found),
-        Some(("check", found)) => check_task(alloc, found),
-        Some(("picture", found)) => picture_task(found),
-        Some(("serve", found)) => serve_task(alloc, found),
+        Some((name, found)) => named_task(alloc, name, found),
+        None => Ok(Task::Nothing),
+    }
+}
+
+// Converts the arguments of a subcommand into a task. The subcommands are divided among three functions, as the proof
+// of one with many calls that may fail is dear.
+fn named_task<'a>(alloc: Global, name: &str, found: &ArgMatches<'a>) -> Result<Task<'a>, Refusal>
+    ensures plan { IfOk result (IsTaskFor (asked_at name.now (rows_of (found_of found.now)))) }
+    ensures refusal { IfErr result (IsNoPlanFor (asked_at name.now (rows_of (found_of found.now)))) }
+{
+    match name {
+        "decode" => decode_task(found),
+        "encode" => encode_task(found),
+        _ => listing_task(alloc, name, found),
+    }
+}
+
+// The same of `info`, `check` and the ones behind them.
+fn listing_task<'a>(alloc: Global, name: &str, found: &ArgMatches<'a>) -> Result<Task<'a>, Refusal>
+    ensures plan { IfOk result (IsTaskFor (listing_at name.now (rows_of (found_of found.now)))) }
+    ensures refusal { IfErr result (IsNoPlanFor (listing_at name.now (rows_of (found_of found.now)))) }
+{
+    match name {
+        "info" => info_task(alloc, found),
+        "check" => check_task(alloc, found),
+        _ => serving_task(alloc, name, found),
+    }
+}
+
+// The same of `picture` and `serve`.
+fn serving_task<'a>(alloc: Global, name: &str, found: &ArgMatches<'a>) -> Result<Task<'a>, Refusal>
+    ensures plan { IfOk result (IsTaskFor (serving_at name.now (rows_of (found_of found.now)))) }
+    ensures refusal { IfErr result (IsNoPlanFor (serving_at name.now (rows_of (found_of found.now)))) }
+{
+    match name {
+        "picture" => picture_task(found),
+        "serve" => serve_task(alloc, found),
         _ => Ok(Task::Nothing),
     }
 }

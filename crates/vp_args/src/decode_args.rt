@@ -11,13 +11,15 @@ pub struct DecodeArgs<'a> {
     pub y4m: bool,
     /// Whether the MD5 sum of what would be written is printed instead.
     pub md5: bool,
+    /// Whether the MD5 sum of each picture is printed too, and nothing is written.
+    pub md5_each: bool,
     /// Whether progress is reported.
     pub progress: bool,
     /// The greatest files that are read.
     pub limits: FileLimits,
     /// The file of packets.
     pub input: &'a str,
-    /// The file of pictures.
+    /// The file of pictures; `-` if it is not named, which needs one of the flags for sums.
     pub output: &'a str,
 }
 

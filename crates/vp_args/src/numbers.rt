@@ -195,7 +195,7 @@ pub(crate) fn kept_pictures(found: &ArgMatches<'_>) -> Result<u32, Refusal>
     ensures refusal { IfErr result (λ r. IsOfValue r × IsNoCache
         (first_of (codes "cache") (rows_of (found_of found.now)))) }
 {
-    let cache = count(found, "cache", 16, "--cache is a decimal number")?;
+    let cache = count(found, "cache", 16, "--cache is a number from 1 to 4096")?;
     if cache == 0 || cache > 4096 {
         return Err(Refusal::Value("--cache is a number from 1 to 4096"));
     }

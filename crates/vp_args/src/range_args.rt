@@ -3,8 +3,9 @@
 ghost use Rattle.std.specs.Prelude.{◌≡◌, ◌≤◌, ◌^◌, IfErr, IfOk, IfSome, None, Ok, codes};
 ghost use Rattle.clap.specs.Words.{found_of, rows_of};
 ghost use Rattle.clap.specs.Walk.{first_of};
-ghost use Rattle.vp_args.specs.Args.{asked_at, decoding_of, AreMiswanted, AreNoFileLimits, AreWanted, IsDecimal};
-ghost use Rattle.vp_args.specs.Args.{IsDecodeFor, IsNoDecimal, IsNoPlanFor, IsNoSpan, IsOfValue, IsSpan, IsTaskFor};
+ghost use Rattle.vp_args.specs.Args.{asked_at, decoding_of, named_output, AreMiswanted, AreSums, AreWanted};
+ghost use Rattle.vp_args.specs.Args.{HasNoOutput, IsDecimal, IsDecodeFor, IsNoDecimal, IsNoDecoding, IsNoPlanFor};
+ghost use Rattle.vp_args.specs.Args.{IsNoSpan, IsOfValue, IsSpan, IsTaskFor};
 
 use crate::args::{Refusal, Task, is_set, text_of};
 use crate::decode_args::{DecodeArgs, DecodeRangeArgs};
@@ -16,9 +17,19 @@ pub(crate) fn decode_task<'a>(found: &ArgMatches<'a>) -> Result<Task<'a>, Refusa
     ensures plan { IfOk result (IsTaskFor (asked_at (codes "decode") (rows_of (found_of found.now)))) }
     ensures refusal { IfErr result (IsNoPlanFor (asked_at (codes "decode") (rows_of (found_of found.now)))) }
 {
-    match (text_of(found, "IN"), text_of(found, "OUT")) {
-        (Some(input), Some(output)) => decode_task_args(found, input, output),
-        _ => Ok(Task::Nothing),
+    match text_of(found, "IN") {
+        Some(input) => decode_task_args(found, input, output_of(found)),
+        None => Ok(Task::Nothing),
+    }
+}
+
+// Returns the file of pictures; `-` if it is not named.
+fn output_of<'a>(found: &ArgMatches<'a>) -> &'a str
+    ensures { result.now ≡ named_output (first_of (codes "OUT") (rows_of (found_of found.now))) }
+{
+    match text_of(found, "OUT") {
+        Some(output) => output,
+        None => "-",
     }
 }
 
@@ -53,17 +64,32 @@ fn decode_args<'a>(
     output: &'a str,
 ) -> Result<DecodeArgs<'a>, Refusal>
     ensures decoding { IfOk result (IsDecodeFor (rows_of (found_of found.now)) input.entry.now output.entry.now) }
-    ensures refusal { IfErr result (λ r. IsOfValue r × AreNoFileLimits (rows_of (found_of found.now))) }
+    ensures refusal { IfErr result (λ r. IsOfValue r × IsNoDecoding (rows_of (found_of found.now))) }
 {
     let limits = file_limits(found)?;
+    let (md5, md5_each) = sums(found)?;
     Ok(DecodeArgs {
         y4m: is_set(found, "y4m"),
-        md5: is_set(found, "md5"),
+        md5,
+        md5_each,
         progress: is_set(found, "progress"),
         limits,
         input,
         output,
     })
+}
+
+// Returns which sums are printed. If none is, the file of pictures has to be named.
+fn sums(found: &ArgMatches<'_>) -> Result<(bool, bool), Refusal>
+    ensures sums { IfOk result (λ s. AreSums (rows_of (found_of found.now)) s.0 s.1) }
+    ensures refusal { IfErr result (λ r. IsOfValue r × HasNoOutput (rows_of (found_of found.now))) }
+{
+    let (md5, md5_each) = (is_set(found, "md5"), is_set(found, "md5-each"));
+    if md5 || md5_each || text_of(found, "OUT").is_some() {
+        Ok((md5, md5_each))
+    } else {
+        Err(Refusal::Value("give OUT, or --md5 for the sum of the pictures"))
+    }
 }
 
 // Returns the first and the last of the packets that an option names, if one does.

@@ -4,7 +4,7 @@ ghost use Rattle.std.specs.Prelude.{◌≡◌, IfOk, false, map};
 ghost use Rattle.clap.specs.Words.{app_of, rule_of};
 ghost use Rattle.clap.specs.declared.builder.command.Command.TheViews.{out-Command as fields_of};
 ghost use Rattle.vp_args.specs.Args.{Gains, program, vp8_app};
-ghost use Rattle.vp_args.specs.Tables.{is_required, part_app, with_parts, word_rule};
+ghost use Rattle.vp_args.specs.Tables.{formed_rule, is_required, named_rule, part_app, with_parts, word_rule};
 
 use clap::{Arg, ArgAction, Command};
 use std::alloc::{AllocError, Global};
@@ -71,7 +71,7 @@ const PARTS: [Part; 6] = [
         examples: "Examples:\n\
         \x20 vp8 decode film.ivf film.i420\n\
         \x20 vp8 decode --y4m film.ivf - | ffmpeg -i - film.mp4\n\
-        \x20 vp8 decode --md5 film.ivf -",
+        \x20 vp8 decode --md5-each film.ivf",
         words: &DECODE_WORDS,
     },
     Part {
@@ -110,7 +110,7 @@ const PARTS: [Part; 6] = [
     },
 ];
 
-const DECODE_WORDS: [Word; 9] = [
+const DECODE_WORDS: [Word; 10] = [
     Word {
         name: "y4m",
         form: Form::Flag,
@@ -137,7 +137,14 @@ const DECODE_WORDS: [Word; 9] = [
         form: Form::Flag,
         need: Need::Never,
         group: None,
-        help: "Prints the MD5 sum of what OUT would hold, and does not write OUT",
+        help: "Prints the MD5 sum of what OUT would hold, and does not write OUT, which may be left out",
+    },
+    Word {
+        name: "md5-each",
+        form: Form::Flag,
+        need: Need::Never,
+        group: None,
+        help: "Prints the MD5 sum of each picture, counted from 0, and then that of --md5",
     },
     Word {
         name: "progress",
@@ -170,7 +177,7 @@ const DECODE_WORDS: [Word; 9] = [
     Word {
         name: "OUT",
         form: Form::Operand,
-        need: Need::Always,
+        need: Need::Never,
         group: None,
         help: "The file of pictures, or - for standard output",
     },
@@ -544,10 +551,25 @@ fn argument<'a>(alloc: Global, many: bool, word: &Word) -> Arg<'a>
     ensures rule { rule_of result ≡ word_rule many word.now }
     ensures local { result.global ≡ false }
 {
+    formed(named(alloc, many, word), word)
+}
+
+// An argument with a word's name, help and group.
+fn named<'a>(alloc: Global, many: bool, word: &Word) -> Arg<'a>
+    ensures rule { rule_of result ≡ named_rule many word.now }
+    ensures local { result.global ≡ false }
+{
     let arg = Arg::new(alloc, word.name)
         .help(word.help)
         .required(is_required(many, &word.need));
-    let arg = grouped(arg, word.group);
+    grouped(arg, word.group)
+}
+
+// Gives an argument a word's form.
+fn formed<'a>(arg: Arg<'a>, word: &Word) -> Arg<'a>
+    ensures rule { rule_of result ≡ formed_rule word.now.form word.now.name.now (rule_of arg.entry) }
+    ensures local { result.global ≡ arg.entry.global }
+{
     match word.form {
         Form::Flag => arg.long(word.name).action(ArgAction::SetTrue),
         Form::Setting(value) => arg.long(word.name).value_name(value).action(ArgAction::Set),

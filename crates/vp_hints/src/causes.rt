@@ -3,7 +3,7 @@
 use std::io::Write;
 use std::{fmt, io};
 
-/// Why the system refused a call, in a person's words.
+/// Why the system refused a call, in a person's words; where there are none, the error's own text.
 #[derive(Clone, Copy)]
 pub struct Cause(pub io::Error);
 
@@ -11,7 +11,10 @@ impl fmt::Display for Cause {
     fn fmt<W: fmt::Write>(&self, f: &mut fmt::Formatter<W>) -> fmt::Result {
         match known_cause(self.0.kind()) {
             Some(words) => f.write_str(words),
-            None => write_unknown(self.0, f),
+            None => {
+                let error = self.0;
+                write!(f, "{error}")
+            }
         }
     }
 }
@@ -35,17 +38,6 @@ fn known_cause(kind: io::ErrorKind) -> Option<&'static str> {
         io::ErrorKind::WriteZero => Some("no more bytes are taken"),
         io::ErrorKind::OutOfMemory => Some("out of memory"),
         _ => None,
-    }
-}
-
-// Writes the system's number of an error, or else its kind.
-fn write_unknown<W: fmt::Write>(error: io::Error, f: &mut fmt::Formatter<W>) -> fmt::Result {
-    let kind = error.kind();
-    match error.raw_os_error() {
-        Some(number) if kind == io::ErrorKind::Uncategorized => {
-            write!(f, "error {number} of the system")
-        }
-        _ => write!(f, "{kind}"),
     }
 }
 

@@ -25,8 +25,23 @@ impl fmt::Display for Hexadecimal<'_> {
     }
 }
 
+// The number of packets that something was done to, as `1 packet was decoded`.
+#[derive(Clone, Copy)]
+struct Done<'a>(u64, &'a str);
+
+impl fmt::Display for Done<'_> {
+    fn fmt<W: fmt::Write>(&self, f: &mut fmt::Formatter<W>) -> fmt::Result {
+        let Done(number, done) = *self;
+        if number == 1 {
+            write!(f, "1 packet was {done}")
+        } else {
+            write!(f, "{number} packets were {done}")
+        }
+    }
+}
+
 /// Prints what is wrong with an IVF file, and what to do. `done` says what happened to its whole packets, as
-/// `were decoded`.
+/// `decoded`.
 pub fn hint_file<W: Write>(
     fault: FileFault,
     name: &str,
@@ -36,16 +51,17 @@ pub fn hint_file<W: Write>(
 ) -> io::Result<()> {
     let file = Printable(name);
     let number = seen.packets().whole;
+    let done = Done(number, done);
     match fault {
         FileFault::Signature => hint_not_ivf(name, seen, output),
-        FileFault::Codec => hint_codec(file, seen.head(), output),
+        FileFault::Codec => hint_codec(name, seen.head(), output),
         FileFault::TooMany => writeln!(
             output,
             "  {file}: more packets than the limit. Try: a greater --max-packets, up to 16777216"
         ),
         FileFault::PacketTooLarge => writeln!(
             output,
-            "  {file}: packet {number} has over 16,777,216 bytes; {number} packets {done}"
+            "  {file}: packet {number} has over 16,777,216 bytes; {done}"
         ),
         FileFault::Torn => hint_torn(file, seen, done, output),
         FileFault::Ended => Ok(()),
@@ -56,7 +72,7 @@ pub fn hint_file<W: Write>(
 fn hint_torn<W: Write>(
     file: Printable<'_>,
     seen: &Seen,
-    done: &str,
+    done: Done<'_>,
     output: &mut W,
 ) -> io::Result<()> {
     let (bytes, packets) = (seen.bytes(), seen.packets());
@@ -67,10 +83,7 @@ fn hint_torn<W: Write>(
             output,
             "  {file} ends inside its head, after {bytes} of 32 bytes"
         ),
-        _ => writeln!(
-            output,
-            "  {file} ends inside packet {number}; {number} packets {done}"
-        ),
+        _ => writeln!(output, "  {file} ends inside packet {number}; {done}"),
     }
 }
 
@@ -95,14 +108,17 @@ pub fn hint_stream_file<W: Write>(
     }
 }
 
-// Prints the codec of a file that isn't VP8.
-fn hint_codec<W: Write>(file: Printable<'_>, head: &[u8], output: &mut W) -> io::Result<()> {
+// Prints the codec of a file that isn't VP8, and how to encode those that ffmpeg decodes.
+fn hint_codec<W: Write>(name: &str, head: &[u8], output: &mut W) -> io::Result<()> {
+    let file = Printable(name);
     match head {
         [_, _, _, _, _, _, _, _, b'V', b'P', b'9', b'0', ..] => {
-            writeln!(output, "  {file}: VP9, not VP8")
+            write!(output, "  {file}: VP9, not VP8")?;
+            hint_pipe(ShellWord(name, ""), made_of(name), output)
         }
         [_, _, _, _, _, _, _, _, b'A', b'V', b'0', b'1', ..] => {
-            writeln!(output, "  {file}: AV1, not VP8")
+            write!(output, "  {file}: AV1, not VP8")?;
+            hint_pipe(ShellWord(name, ""), made_of(name), output)
         }
         [_, _, _, _, _, _, _, _, codec @ ..] => {
             let bytes = Hexadecimal(codec);
@@ -120,7 +136,7 @@ pub fn hint_not_ivf<W: Write>(name: &str, seen: &Seen, output: &mut W) -> io::Re
     match kind {
         FileKind::Empty => writeln!(output),
         FileKind::Unknown => writeln!(output, "; it begins with {start}"),
-        FileKind::WebM | FileKind::Avi | FileKind::Ogg => writeln!(
+        FileKind::WebM | FileKind::Avi => writeln!(
             output,
             " but {kind} ({start}). Try: ffmpeg -i {word} -c copy -r 30 {made}"
         ),
@@ -128,7 +144,14 @@ pub fn hint_not_ivf<W: Write>(name: &str, seen: &Seen, output: &mut W) -> io::Re
             output,
             " but {kind} ({start}). Try: vp8 encode {word} {made}"
         ),
-        FileKind::Mp4 | FileKind::H264 => {
+        FileKind::WebP => {
+            let picture = picture_of(name);
+            writeln!(
+                output,
+                " but {kind} ({start}). Try: vp8 picture {word} {picture}"
+            )
+        }
+        FileKind::Mp4 | FileKind::H264 | FileKind::Ogg => {
             write!(output, " but {kind} ({start})")?;
             hint_pipe(word, made, output)
         }
@@ -144,5 +167,15 @@ fn made_of(name: &str) -> ShellWord<'_> {
             ShellWord(stem, ".ivf")
         }
         _ => ShellWord(name, ".ivf"),
+    }
+}
+
+// Returns the name of the PPM file that is made of a file.
+fn picture_of(name: &str) -> ShellWord<'_> {
+    match name.rsplit_once('.') {
+        Some((stem, ending)) if !stem.is_empty() && !ending.contains('/') => {
+            ShellWord(stem, ".ppm")
+        }
+        _ => ShellWord(name, ".ppm"),
     }
 }

@@ -3,6 +3,7 @@
 
 mod causes;
 mod file_hints;
+mod film;
 mod kinds;
 mod meter;
 mod metered;
@@ -19,13 +20,14 @@ mod y4m_hints;
 
 pub use causes::{Cause, hint_stream};
 pub use file_hints::{hint_file, hint_not_ivf, hint_stream_file};
+pub use film::{BitRate, Film, Ratio, decibels, plane_samples};
 pub use kinds::{FileKind, kind_of};
 pub use meter::{Meter, Unit};
 pub use metered::Metered;
 pub use names::{Printable, ShellWord};
 pub use numbers::Grouped;
 pub use overwrite::{Overwrite, open_to_overwrite};
-pub use packet_hints::hint_packets;
+pub use packet_hints::{hint_packets, meaning_of};
 pub use packets::{PacketCount, Place};
 pub use pipes::{Muted, Outlet};
 pub use seen::{Seen, head_fault};

@@ -1,5 +1,6 @@
 //! Progress of long work, told on standard error by a clock.
 
+use crate::film::{BitRate, Film, Ratio};
 use crate::numbers::Grouped;
 use crate::seen::Seen;
 use std::cell::Cell;
@@ -34,6 +35,7 @@ pub struct Meter<'a, H> {
     unit: Cell<Option<Unit>>,
     size: Cell<Option<u64>>,
     read: Cell<u64>,
+    film: Cell<Option<Film>>,
     times: Cell<Option<(Instant, Instant)>>,
 }
 
@@ -45,6 +47,7 @@ impl<'a, H> Meter<'a, H> {
             unit: Cell::new(None),
             size: Cell::new(None),
             read: Cell::new(0),
+            film: Cell::new(None),
             times: Cell::new(None),
         }
     }
@@ -58,7 +61,13 @@ impl<'a, H> Meter<'a, H> {
     pub fn begin(&self, size: Option<u64>) {
         self.size.set(size);
         self.read.set(0);
+        self.film.set(None);
         self.times.set(None);
+    }
+
+    /// Takes what was seen of the film that is written.
+    pub fn has_written(&self, seen: &Seen) {
+        self.film.set(Some(Film::of(seen)));
     }
 }
 
@@ -67,19 +76,20 @@ impl<H: Clock + Eprint> Meter<'_, H> {
     pub fn has_read(&self, seen: &Seen) {
         self.read.set(seen.bytes());
         if self.unit.get() == Some(Unit::Packets) {
-            self.tell(Unit::Packets, seen.packets().whole);
+            self.tell(Unit::Packets, seen.packets().whole, None);
         }
     }
 
-    /// Tells the number of frames that were made, if frames are counted.
-    pub fn has_made(&self, frames: u32) {
+    /// Tells the number of frames that were made, if frames are counted, and the sum of their squared errors, if that
+    /// is known.
+    pub fn has_made(&self, frames: u32, error: Option<u128>) {
         if self.unit.get() == Some(Unit::Frames) {
-            self.tell(Unit::Frames, u64::from(frames));
+            self.tell(Unit::Frames, u64::from(frames), error);
         }
     }
 
     // Prints how far the work is, not oftener than twice a second.
-    fn tell(&self, unit: Unit, count: u64) {
+    fn tell(&self, unit: Unit, count: u64, error: Option<u128>) {
         let Ok(now) = Instant::now(self.system) else {
             return;
         };
@@ -98,6 +108,8 @@ impl<H: Clock + Eprint> Meter<'_, H> {
             millis: millis(start, now),
             read: self.read.get(),
             size: self.size.get(),
+            film: self.film.get(),
+            error,
         });
     }
 }
@@ -119,26 +131,64 @@ struct Standing {
     millis: u64,
     read: u64,
     size: Option<u64>,
+    film: Option<Film>,
+    error: Option<u128>,
 }
 
-/// Writes `1,234 packets, 40 %, 812.5 a second, 0:12 left`; without the share and the rest if the size isn't known.
+/// Writes `1,234 packets, 40 %, 812.5 a second, 0:12 left`; without the share and the rest if the size isn't known. Of
+/// a film that is written as it is encoded, ` 96.0 kbit/s, PSNR 38.2 dB,` stands before the rest.
 impl fmt::Display for Standing {
     fn fmt<W: fmt::Write>(&self, f: &mut fmt::Formatter<W>) -> fmt::Result {
         let (count, unit) = (Grouped(self.count), self.unit);
+        write!(f, "  {count} {unit}")?;
+        if let Some(size) = self.size {
+            let percent = share(self.read.saturating_mul(100), size).min(100);
+            write!(f, ", {percent} %")?;
+        }
         let tenths = share(self.count.saturating_mul(10_000), self.millis);
         let (pace, tenth) = (Grouped(tenths / 10), tenths % 10);
-        let Some(size) = self.size else {
-            return write!(f, "  {count} {unit}, {pace}.{tenth} a second");
-        };
-        let percent = share(self.read.saturating_mul(100), size).min(100);
-        let rest = share(size.saturating_sub(self.read), 1_000);
-        let left = share(self.millis.saturating_mul(rest), self.read);
-        let (minutes, seconds) = (left / 60, left % 60);
-        write!(
-            f,
-            "  {count} {unit}, {percent} %, {pace}.{tenth} a second, {minutes}:{seconds:02} left"
-        )
+        write!(f, ", {pace}.{tenth} a second")?;
+        if let Some(film) = self.film {
+            write_quality(film, self.count, self.error, f)?;
+        }
+        match self.size {
+            Some(size) => write_rest(self.millis, self.read, size, f),
+            None => Ok(()),
+        }
     }
+}
+
+// Writes the bits a second and the peak signal-to-noise ratio of a film, as far as they are known.
+fn write_quality<W: fmt::Write>(
+    film: Film,
+    frames: u64,
+    error: Option<u128>,
+    f: &mut fmt::Formatter<W>,
+) -> fmt::Result {
+    if let Some(bits) = film.bits_a_second(frames) {
+        let rate = BitRate(bits);
+        write!(f, ", {rate}")?;
+    }
+    match error {
+        Some(error) => {
+            let ratio = Ratio(film.samples(frames), error);
+            write!(f, ", {ratio}")
+        }
+        None => Ok(()),
+    }
+}
+
+// Writes the time that is left, if a part of a size was read in so many milliseconds.
+fn write_rest<W: fmt::Write>(
+    millis: u64,
+    read: u64,
+    size: u64,
+    f: &mut fmt::Formatter<W>,
+) -> fmt::Result {
+    let rest = share(size.saturating_sub(read), 1_000);
+    let left = share(millis.saturating_mul(rest), read);
+    let (minutes, seconds) = (left / 60, left % 60);
+    write!(f, ", {minutes}:{seconds:02} left")
 }
 
 // A quotient; 0 if there is none.

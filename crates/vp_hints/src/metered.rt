@@ -1,9 +1,11 @@
 //! Readers that tell a meter how far they are.
 
-ghost use Rattle.std.specs.Prelude.{◌≡◌};
+ghost use Rattle.std.specs.Prelude.{◌≡◌, None, Some, IfErr, IfOk, take};
 ghost use Rattle.std.specs.Io.{ReadsAtMost};
 ghost use Rattle.std.specs.Io.KnownBytes.{ReadConsumes};
 ghost use Rattle.vp_hints.specs.Metered.{metered_remaining, metered_witness};
+ghost use Rattle.vp_hints.specs.Seen.{more_seen, nothing_seen};
+ghost use Rattle.vp_hints.specs.Witness.{witness_error, witness_inner, witness_sight};
 
 use crate::meter::Meter;
 use crate::witness::Witness;
@@ -20,7 +22,11 @@ pub struct Metered<'a, R, H> {
 
 impl<'a, R, H> Metered<'a, R, H> {
     /// Wraps a reader.
-    pub fn new(reader: R, meter: &'a Meter<'a, H>) -> Metered<'a, R, H> {
+    pub fn new(reader: R, meter: &'a Meter<'a, H>) -> Metered<'a, R, H>
+        ensures inner { witness_inner (metered_witness result) ≡ reader }
+        ensures sight { witness_sight (metered_witness result) ≡ nothing_seen }
+        ensures error { witness_error (metered_witness result) ≡ None }
+    {
         Metered {
             witness: Witness::new(reader),
             meter,
@@ -28,7 +34,9 @@ impl<'a, R, H> Metered<'a, R, H> {
     }
 
     /// The error of the last call that failed.
-    pub fn error(&self) -> Option<io::Error> {
+    pub fn error(&self) -> Option<io::Error>
+        ensures { result ≡ witness_error (metered_witness self.now) }
+    {
         self.witness.error()
     }
 
@@ -48,6 +56,9 @@ impl<R: Read, H: Clock + Eprint> Read for Metered<'_, R, H> {
         ensures bound { ReadsAtMost result buf.new }
         ensures bytes { ReadConsumes (metered_remaining R.remaining self.old)
             (metered_remaining R.remaining self.new) result buf.new }
+        ensures seen { IfOk result (λ n. witness_sight (metered_witness self.new)
+            ≡ more_seen (witness_sight (metered_witness self.old)) (take n buf.new)) }
+        ensures failed { IfErr result (λ error. witness_error (metered_witness self.new) ≡ Some error) }
     {
         let result = self.witness.read(buf);
         self.meter.has_read(self.witness.seen());

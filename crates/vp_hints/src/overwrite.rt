@@ -10,7 +10,7 @@ use std::io;
 use std::io::Write;
 use std::rt::Files;
 
-/// A file that is overwritten: what it held before stays until the first byte is written, or until `finish`.
+/// A file that is overwritten: what it held before stays until the first write, also one that fails, or until `finish`.
 #[derive(Drop)]
 pub struct Overwrite<F> {
     file: F,

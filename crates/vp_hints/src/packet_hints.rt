@@ -47,8 +47,8 @@ impl fmt::Display for Run {
     }
 }
 
-// Returns what a fault means.
-fn meaning_of(fault: PacketFault) -> &'static str {
+/// Returns what a packet's fault means.
+pub fn meaning_of(fault: PacketFault) -> &'static str {
     match fault {
         PacketFault::Truncated => "fewer than 3 bytes, or than the 10 of a key frame's start",
         PacketFault::Version => "a version above 3, so damaged or not VP8",

@@ -1,8 +1,0 @@
-use Rattle.std.proofs.Common.{take}
-use Rattle.std.specs.Io.KnownBytes.{Appends}
-use Rattle.vp_app.specs.CheckLines.{json_text}
-use Rattle.vp_app.proofs.lines.print_json_text.Given as goal
-
-abbrev pub invariant-loop-byte : goal.invariant-loop-byte
-invariant-loop-byte g l =
-    Appends (g.W.Write.contents l.fn.output) (g.W.Write.contents l.output) (json_text (take l.byte-index l.text))

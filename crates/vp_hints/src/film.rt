@@ -1,0 +1,106 @@
+//! The bits a second and the distance from its source of a film that is encoded.
+
+use crate::seen::Seen;
+use std::fmt;
+use std::num::nearest_u64_to_f64;
+
+/// What is known of an IVF file that is written: its size in pixels, the frames a second, and its bytes so far.
+#[derive(Clone, Copy, Drop)]
+pub struct Film {
+    width: u64,
+    height: u64,
+    rate: u64,
+    scale: u64,
+    bytes: u64,
+}
+
+impl Film {
+    /// Takes it from what was seen of the file.
+    pub fn of(seen: &Seen) -> Film {
+        let head = seen.head();
+        Film {
+            width: number_at(head, 12, 2),
+            height: number_at(head, 14, 2),
+            rate: number_at(head, 16, 4),
+            scale: number_at(head, 20, 4),
+            bytes: seen.bytes(),
+        }
+    }
+
+    /// The frames in so many seconds: the file's rate, and its scale.
+    pub fn rate(&self) -> (u64, u64) {
+        (self.rate, self.scale)
+    }
+
+    /// The bits a second of so many frames, at the file's rate.
+    pub fn bits_a_second(&self, frames: u64) -> Option<f64> {
+        if frames == 0 || self.rate == 0 || self.scale == 0 {
+            return None;
+        }
+        let seconds = nearest_u64_to_f64(frames) * nearest_u64_to_f64(self.scale)
+            / nearest_u64_to_f64(self.rate);
+        Some(nearest_u64_to_f64(self.bytes) * 8.0 / seconds)
+    }
+
+    /// The samples of Y, U and V of so many frames; saturates.
+    pub fn samples(&self, frames: u64) -> u64 {
+        plane_samples(self.width, self.height).saturating_mul(frames)
+    }
+}
+
+/// Bits a second, written as `96.0 kbit/s`.
+#[derive(Clone, Copy)]
+pub struct BitRate(pub f64);
+
+impl fmt::Display for BitRate {
+    fn fmt<W: fmt::Write>(&self, f: &mut fmt::Formatter<W>) -> fmt::Result {
+        if self.0 < 1_000_000.0 {
+            let pace = self.0 / 1_000.0;
+            write!(f, "{pace:.1} kbit/s")
+        } else {
+            let pace = self.0 / 1_000_000.0;
+            write!(f, "{pace:.1} Mbit/s")
+        }
+    }
+}
+
+/// The peak signal-to-noise ratio of so many samples, by the sum of their squared differences: `PSNR 38.2 dB`, or
+/// `no difference`.
+#[derive(Clone, Copy)]
+pub struct Ratio(pub u64, pub u128);
+
+impl fmt::Display for Ratio {
+    fn fmt<W: fmt::Write>(&self, f: &mut fmt::Formatter<W>) -> fmt::Result {
+        let error = u64::try_from(self.1).unwrap_or(u64::MAX);
+        if error == 0 {
+            return f.write_str("no difference");
+        }
+        let ratio = decibels(self.0, error);
+        write!(f, "PSNR {ratio:.1} dB")
+    }
+}
+
+// A number of some bytes at a place, little endian; bytes that are missing count as 0.
+fn number_at(head: &[u8], place: usize, bytes: usize) -> u64 {
+    let mut number: u64 = 0;
+    for back in 0..bytes {
+        let index = place.saturating_add(bytes - 1 - back);
+        let byte = head.get(index).copied().unwrap_or(0);
+        number = number.saturating_mul(256).saturating_add(u64::from(byte));
+    }
+    number
+}
+
+/// The samples of Y, U and V of a picture with these sides.
+pub fn plane_samples(width: u64, height: u64) -> u64 {
+    let chroma = width.div_ceil(2).saturating_mul(height.div_ceil(2));
+    width
+        .saturating_mul(height)
+        .saturating_add(chroma.saturating_mul(2))
+}
+
+/// The peak signal-to-noise ratio in decibels of so many samples, by the sum of their squared differences.
+pub fn decibels(samples: u64, error: u64) -> f64 {
+    let peak = 65_025.0 * nearest_u64_to_f64(samples);
+    10.0 * (peak / nearest_u64_to_f64(error)).log10()
+}

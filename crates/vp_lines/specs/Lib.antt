@@ -1,0 +1,4 @@
+pub mod FaultLines
+pub mod Listing
+pub mod CheckLines
+pub mod Sums

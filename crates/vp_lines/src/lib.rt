@@ -1,0 +1,17 @@
+//! The lines that `vp8` prints of files, of their packets and of sums.
+#![tactic(auto)]
+
+mod counts;
+mod files;
+mod lines;
+mod listing;
+mod styles;
+mod summer;
+mod sums;
+
+pub use counts::Counts;
+pub use files::{has_total, is_well, put_done, put_total};
+pub use listing::{print_faults, print_survey, report_fault};
+pub use styles::LineStyle;
+pub use summer::Summer;
+pub use sums::print_sums;
