@@ -1,8 +1,9 @@
 //! The transcript commands for the command line. `vp8 WORD.. [< NAME] [> NAME] [2> NAME]` runs the program over named
 //! bytes. It prints the exit status, the number of unread input bytes, and the output and errors that aren't redirected
-//! to a name; the hints under faults are left out. `limited WORD.. < NAME` encodes a source with arguments of `encode`,
-//! under the limits that `limits PIXELS BYTES PACKETS CACHE` sets. `plan WORD..` prints the task of `encode` or `serve`
-//! arguments, `read PATH [> NAME]` the contents of a file, `show TEXT` the bytes of a text, and `sum TEXT` their MD5.
+//! to a name; the hints under faults are left out. `hinted vp8 WORD..` does the same with the hints. `limited WORD..
+//! < NAME` encodes a source with arguments of `encode`, under the limits that `limits PIXELS BYTES PACKETS CACHE` sets.
+//! `plan WORD..` prints the task of `encode` or `serve` arguments, `read PATH [> NAME]` the contents of a file,
+//! `show TEXT` the bytes of a text, and `sum TEXT` their MD5.
 
 use crate::text::{Names, limits, malformed};
 use crate::transcript::{Found, Script};
@@ -18,6 +19,13 @@ use vp_encode::{EncodeAllFault, EncodeReport, Settings, encode_all};
 pub(crate) struct Commands {
     alloc: Global,
     limits: Limits,
+}
+
+/// Whether the hints under faults are printed.
+#[derive(Clone, Copy)]
+enum Hints {
+    Shown,
+    LeftOut,
 }
 
 /// Splits a line at a redirection sign that is followed by a name. Returns the line before it, and the name.
@@ -107,6 +115,7 @@ impl Commands {
         &self,
         rt: &HostRuntime,
         line: &str,
+        hints: Hints,
         names: &mut Names,
         found: &mut Found,
     ) -> io::Result<()> {
@@ -115,13 +124,20 @@ impl Commands {
         let (line, input) = cut(line, " < ");
         let words: Vec<&str> = line.split(' ').collect(self.alloc)?;
         let done = run_over(rt, &words, input_of(names, input)?);
-        self.tell_done(&done, (output, errors), names, found)
+        match hints {
+            Hints::Shown => self.tell_done(&done, &done.errors, (output, errors), names, found),
+            Hints::LeftOut => {
+                let lines = without_hints(self.alloc, &done.errors)?;
+                self.tell_done(&done, &lines, (output, errors), names, found)
+            }
+        }
     }
 
-    /// Prints the result of a run, or stores its output and errors under these names.
+    /// Prints the result of a run, or stores its output and these lines under these names.
     fn tell_done(
         &self,
         done: &Done,
+        lines: &[u8],
         (output, errors): (Option<&str>, Option<&str>),
         names: &mut Names,
         found: &mut Found,
@@ -129,8 +145,7 @@ impl Commands {
         found.line(format!(in self.alloc; "status {}", done.status)?)?;
         found.count_if_any("left", done.left as u64)?;
         tell("output", &done.output, output, names, found)?;
-        let lines = without_hints(self.alloc, &done.errors)?;
-        tell("errors", &lines, errors, names, found)
+        tell("errors", lines, errors, names, found)
     }
 }
 
@@ -231,7 +246,8 @@ impl Script for Commands {
         found: &mut Found,
     ) -> io::Result<()> {
         match line.split_once(' ') {
-            Some(("vp8", _)) => self.run(rt, line, names, found),
+            Some(("vp8", _)) => self.run(rt, line, Hints::LeftOut, names, found),
+            Some(("hinted", line)) => self.run(rt, line, Hints::Shown, names, found),
             Some(("plan", words)) => tell_plan(self.alloc, words, found),
             Some(("read", line)) => read(rt, line, names, found),
             Some(("show", text)) => Ok(found.bytes("bytes", &names.read(text)?)?),
