@@ -1,7 +1,6 @@
 -- The frame header is read as bools.
-use Rattle.std.proofs.Common.{ℕ, Bool, true, false, cond, List, Option, Some, None}
+use Rattle.std.proofs.Common.{ℕ, Bool, true, false, List}
 use Rattle.std.specs.Prelude.{ℤ, is_some}
-use Rattle.vp_bool.specs.Reader.{Reader}
 use Rattle.vp_head.specs.Rows.{magnitude, optional_signed, renewed, four_signed}
 use Rattle.vp_head.specs.Probabilities.{entry_at, context_at, band_at, type_at, context_rows, band_rows, type_rows, token_probability_updates, luma_mode_probabilities, chroma, vector_renewed, vector_entry_at, component_rows, component_at, vectors}
 use Rattle.vp_head.specs.Saved.{defaults}

@@ -1,7 +1,6 @@
 -- A frame is corrupt exactly if one of its partitions is read past its end.
-use Rattle.std.proofs.Common.{◌≡◌, ◌∙◌, ℕ, zero, suc, ◌+◌, ◌%◌, ◌<◌, ◌≤◌, Bool, true, false, cond, List, [], ◌∷◌, length, drop, Ok, Err, inl, inr, refl, sym, ap, subst, arith}
-use Rattle.std.specs.Prelude.{◌||◌, ◌⊎◌, Option, Result, map, nat_lt, slice_index_or, slice_set}
-use Rattle.std.specs.List.{list_any}
+use Rattle.std.proofs.Common.{◌≡◌, ◌∙◌, ℕ, zero, suc, ◌+◌, ◌%◌, ◌<◌, ◌≤◌, Bool, true, false, cond, List, [], ◌∷◌, length, drop, Ok, Err, inl, inr, sym, ap, subst, arith}
+use Rattle.std.specs.Prelude.{Option, Result, map, nat_lt, slice_index_or, slice_set}
 use Rattle.std.proofs.Math.Dec.{ltb}
 use Rattle.std.proofs.lemmas.Bool.{cases_Bool, cases_lt, lt-ltb, le-ltb, or_left, or_right, or_parts}
 use Rattle.vp_bool.specs.Bools.{State, initial_state, after_bools}
@@ -9,43 +8,49 @@ use Rattle.vp_bool.specs.Laws.{PastIsBits, bits_after_first, bits_shifted}
 use Rattle.vp_base.specs.declared.limits.Limits.{Limits}
 use Rattle.vp_base.proofs.OverLemmas.{over-holds}
 use Rattle.vp_head.specs.declared.fields.Tag.{Tag}
-use Rattle.vp_head.specs.declared.fields.Header.{Header}
-use Rattle.vp_head.specs.declared.fields.Saved.{Saved}
 use Rattle.vp_head.specs.declared.fault.PacketFault.{PacketFault}
 use Rattle.vp_head.specs.declared.fault.PacketFault.TheVariants.{FirstPartition}
 use Rattle.vp_head.specs.Tag.{tag_of}
 use Rattle.vp_head.specs.Header.{header}
 use Rattle.vp_tokens.specs.Partitions.{cut_of}
-use Rattle.vp_decode.specs.Frame.{FrameInfo, Readings, row_seen, row_partition, token_row, nothing_read, readings}
+use Rattle.vp_decode.specs.Frame.{FrameInfo, Readings, row_partition, token_row, nothing_read, readings}
 use Rattle.vp_decode.specs.Step.{DecoderState, FrameContext, ParsedPacket, tag_length, first_part, count_of, ◌>>=◌, context_of, parsed_in_context, parsed, maps_before, frame_info_of}
 use Rattle.vp_decode.specs.Corrupt.{first_after, tokens_after, any_past, is_corrupt, corrupt_in, corrupt}
-use Rattle.vp_decode.specs.PastEnd.{IsPastEnd, IsWithin, token_part, token_reader, IsTokenPartPast, HasPartPast, AreAllPartsWithin}
+use Rattle.vp_decode.specs.PastEnd.{IsPastEnd, IsWithin, HasPartPast, AreAllPartsWithin}
 use Rattle.vp_decode.proofs.CutLemmas.{opened-is}
-use Rattle.vp_decode.proofs.RunLemmas.{IsRun, ReadsBools, run-none, run-join}
+use Rattle.vp_decode.proofs.RunLemmas.{IsRun, run-none, run-join}
 use Rattle.vp_decode.proofs.HeaderRuns.{by_header}
 use Rattle.vp_decode.proofs.MacroblockRuns.{by_maps_read}
 use Rattle.vp_decode.proofs.TokenRuns.{by_row_seen}
 
 -- ---- one partition
 
+past_bits : PastIsBits → (bytes : List ℕ) (s : State) → s.past ≡ true → (ps : List ℕ) → s ≡ after_bools ps (initial_state bytes)
+    → bits_after_first bytes < bits_shifted ps (initial_state bytes)
+past_bits law bytes s e ps h =
+    let bits : s.past ≡ ltb (bits_after_first bytes) (bits_shifted ps (initial_state bytes)) = ap (λ (t : State). t.past) h ∙ law bytes ps in
+    elim (cases_lt (bits_after_first bytes) (bits_shifted ps (initial_state bytes))) [
+      | inl less ↦ less
+      | inr most ↦ let no : ltb (bits_after_first bytes) (bits_shifted ps (initial_state bytes)) ≡ false = le-ltb _ _ most in absurd cc
+    ]
+
 past_end : PastIsBits → (bytes : List ℕ) (s : State) → IsRun (initial_state bytes) s → s.past ≡ true → IsPastEnd bytes s
-past_end law bytes s r e =
-    let bits : s.past ≡ ltb (bits_after_first bytes) (bits_shifted r.probabilities (initial_state bytes)) = ap (λ (t : State). t.past) r.after ∙ law bytes r.probabilities in
-    elim (cases_lt (bits_after_first bytes) (bits_shifted r.probabilities (initial_state bytes))) [
-      | inl less ↦ record { probabilities = r.probabilities; read = r.after; past = less }
-      | inr most ↦ let no : ltb (bits_after_first bytes) (bits_shifted r.probabilities (initial_state bytes)) ≡ false = le-ltb _ _ most in absurd cc
+past_end law bytes s r e = record { probabilities = r.probabilities; read = r.after; past = past_bits law bytes s e }
+
+within_bits : PastIsBits → (bytes : List ℕ) (s : State) → s.past ≡ false → (ps : List ℕ) → s ≡ after_bools ps (initial_state bytes)
+    → bits_shifted ps (initial_state bytes) ≤ bits_after_first bytes
+within_bits law bytes s e ps h =
+    let bits : s.past ≡ ltb (bits_after_first bytes) (bits_shifted ps (initial_state bytes)) = ap (λ (t : State). t.past) h ∙ law bytes ps in
+    elim (cases_lt (bits_after_first bytes) (bits_shifted ps (initial_state bytes))) [
+      | inl less ↦ let yes : ltb (bits_after_first bytes) (bits_shifted ps (initial_state bytes)) ≡ true = lt-ltb _ _ less in absurd cc
+      | inr most ↦ most
     ]
 
 within_end : PastIsBits → (bytes : List ℕ) (s : State) → IsRun (initial_state bytes) s → s.past ≡ false → IsWithin bytes s
-within_end law bytes s r e =
-    let bits : s.past ≡ ltb (bits_after_first bytes) (bits_shifted r.probabilities (initial_state bytes)) = ap (λ (t : State). t.past) r.after ∙ law bytes r.probabilities in
-    elim (cases_lt (bits_after_first bytes) (bits_shifted r.probabilities (initial_state bytes))) [
-      | inl less ↦ let yes : ltb (bits_after_first bytes) (bits_shifted r.probabilities (initial_state bytes)) ≡ true = lt-ltb _ _ less in absurd cc
-      | inr most ↦ record { probabilities = r.probabilities; read = r.after; enough = most }
-    ]
+within_end law bytes s r e = record { probabilities = r.probabilities; read = r.after; enough = within_bits law bytes s e }
 
 is_past : PastIsBits → (bytes : List ℕ) (s : State) → IsPastEnd bytes s → s.past ≡ true
-is_past law bytes s p = ap (λ (t : State). t.past) p.read ∙ law bytes p.probabilities ∙ lt-ltb _ _ p.past
+is_past law bytes s p = ap (λ (t : State). t.past) p.read ∙ law bytes p.probabilities ∙ lt-ltb _ _ (p.past p.probabilities p.read)
 
 -- ---- the first partition
 

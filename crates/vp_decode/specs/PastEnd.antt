@@ -1,24 +1,24 @@
 -- The statement of the law `corrupt_is_read_past_the_end`: which frames are corrupt, by the bits that are read and the
 -- lengths of the partitions (RFC 6386, chapter 7.3). A bool decoder shifts a bit into its value at each doubling. The
 -- bits of a partition's first byte are there from the start.
-use Rattle.std.specs.Prelude.{◌≡◌, ℕ, ◌<◌, ◌≤◌, ◌⊎◌, List, [], length, map, slice_index_or}
+use Rattle.std.specs.Prelude.{ℕ, ◌<◌, ◌≤◌, ◌⊎◌, List, [], length, map, slice_index_or}
 use Rattle.vp_bool.specs.Bools.{State, initial_state}
 use Rattle.vp_bool.specs.Laws.{HasReadBools, bits_after_first, bits_shifted}
 use Rattle.vp_decode.specs.Step.{ParsedPacket, first_part, frame_info_of}
 use Rattle.vp_decode.specs.Corrupt.{first_after, tokens_after}
 
--- s is the state after bools that are read from the start of a partition, and more bits were shifted in for them than
--- follow its first byte
+-- s is the state after bools that are read from the start of a partition; for them, and for all bools that lead to s,
+-- more bits are shifted in than follow its first byte
 pub record IsPastEnd (bytes : List ℕ) (s : State) : Type 0 where
   pub probabilities : List ℕ
   pub read : HasReadBools bytes probabilities s
-  pub past : bits_after_first bytes < bits_shifted probabilities (initial_state bytes)
+  pub past : (ps : List ℕ) → HasReadBools bytes ps s → bits_after_first bytes < bits_shifted ps (initial_state bytes)
 
--- the same, where the bits that follow the first byte were enough
+-- the same, where the bits that follow the first byte are enough
 pub record IsWithin (bytes : List ℕ) (s : State) : Type 0 where
   pub probabilities : List ℕ
   pub read : HasReadBools bytes probabilities s
-  pub enough : bits_shifted probabilities (initial_state bytes) ≤ bits_after_first bytes
+  pub enough : (ps : List ℕ) → HasReadBools bytes ps s → bits_shifted ps (initial_state bytes) ≤ bits_after_first bytes
 
 -- the bytes of token partition i of a frame
 abbrev pub token_part : ParsedPacket → ℕ → List ℕ

@@ -33,8 +33,8 @@ pub struct FrameFacts {
     pub refreshes_alt: bool,
     /// Whether a partition was read past its end, where zeros are read. That tells no other damage: a partition that
     /// was cut short or changed may be read within its bytes. Nor is it always damage: zeros at the end of a partition
-    /// may be left out, and the picture is then the same. A partition that begins with 255, as no encoder's does, counts
-    /// as one byte.
+    /// may be left out, and the picture is then the same. A partition that begins with 255, as no encoder's does,
+    /// counts as one byte.
     pub corrupt: bool,
 }
 
