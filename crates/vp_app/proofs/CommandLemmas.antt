@@ -38,7 +38,7 @@ use Rattle.vp_app.specs.declared.service.ServiceFault.{ServiceFault}
 use Rattle.vp_args.specs.declared.args.Task.{Task}
 use Rattle.vp_args.specs.declared.args.Task.TheVariants.{Check, Decode, DecodeRange, Encode, Info, Picture, Serve, ServeMany, Nothing}
 use Rattle.vp_args.specs.declared.args.Refusal.{Refusal}
-use Rattle.vp_args.specs.declared.args.Refusal.TheVariants.{Words, Value}
+use Rattle.vp_args.specs.declared.args.Refusal.TheVariants.{ClapError, Value}
 use Rattle.vp_app.specs.Status.{status_of}
 use Rattle.vp_args.specs.declared.serve_args.ServeManyArgs.{ServeManyArgs}
 use Rattle.vp_app.specs.declared.many.ManyFault.{ManyFault}
@@ -46,7 +46,7 @@ use Rattle.vp_app.specs.declared.picture.MadePicture.{MadePicture}
 use Rattle.vp_app.specs.declared.picture_fault.PictureFault.{PictureFault}
 use Rattle.vp_args.specs.declared.picture_args.PictureArgs.{PictureArgs}
 use Rattle.vp_app.specs.Many.{ServesMany, status_by_many}
-use Rattle.vp_args.specs.Args.{ParsedArgs, checks, decodes, decodes_range, encodes, tells, pictures, serves, serves_many, nothing, parsed_args, faults_of, IsForMemory, IsOfValue, IsTaskFor, IsMistake, IsRefusalFor, HasInvalidValue, AreMistaken, IsFlag}
+use Rattle.vp_args.specs.Args.{ParsedArgs, checks, decodes, decodes_range, encodes, tells, pictures, serves, serves_many, nothing, parsed_args, faults_of, IsForMemory, IsInvalidValue, IsTaskFor, IsMistake, IsRefusalFor, HasInvalidValue, AreMistaken, IsFlag}
 use Rattle.vp_app.specs.Commands.{DecodesFile, DecodesInto, DecodesRange, DecodesRangeInto, Does, EncodesFile, EncodesInto, IsFileDecoded, IsFileEncoded, IsFileRangeDecoded, IsUnbegun, IsUnopened, IsUsageFault, SurveysFile, SurveysInput, Over, ServesConnections, Side, PrintsSurvey, Encoding, encoding_of, is_stream, is_y4m, status_by_picture, status_by_range, status_by_report, status_by_service, IsMadeInput, DoesCheck, DoesDecode, DoesDecodeRange, DoesInfo}
 
 pub over_stream : (name : List ℕ) (Work : Side → Side → Type 0) (old new : Side) → is_stream name ≡ true → Work old new → Over name Work old new
@@ -319,9 +319,9 @@ for_memory e [] none (inr h) = absurd h
 for_memory e (k ∷ ks) none h = cc
 
 pub does_refused : (words : List Text) (refusal : Refusal) (status : ℕ) (i o o' : Side) → IsRefusalFor words refusal
-    → (IsForMemory refusal → (status ≡ 1) × (o' ≡ o)) → (IsOfValue refusal → (status ≡ 2) × (o' ≡ o)) → faults_of words ≡ []
+    → (IsForMemory refusal → (status ≡ 1) × (o' ≡ o)) → (IsInvalidValue refusal → (status ≡ 2) × (o' ≡ o)) → faults_of words ≡ []
     → Does (parsed_args words) status i i o o'
-does_refused words (Words e) status i o o' h memory value none =
+does_refused words (ClapError e) status i o o' h memory value none =
     let m = memory (for_memory e (faults_of words) none h) in unbegun (parsed_args words) status i i o o' (m.0, refl, m.1)
 does_refused words (Value t) status i o o' h memory value none =
     let v = value tt in misused (parsed_args words) status i i o o' h.1 (v.0, refl, v.1)
@@ -374,8 +374,8 @@ is_session number s (inr h) = h
 
 -- the error of mistaken words is for want of memory, or a mistake
 pub mistaken_words : (words : List Text) (refusal : Refusal) → IsRefusalFor words refusal → AreMistaken words → IsForMemory refusal ⊎ IsMistake refusal
-mistaken_words words (Words e) (inl memory) m = inl memory
-mistaken_words words (Words e) (inr among) m =
+mistaken_words words (ClapError e) (inl memory) m = inl memory
+mistaken_words words (ClapError e) (inr among) m =
     inr (λ k. m.no_help (subst (λ x. IsAmong x (faults_of words)) k among), λ k. m.no_version (subst (λ x. IsAmong x (faults_of words)) k among))
 mistaken_words words (Value t) h m = absurd (m.some h.0)
 

@@ -17,7 +17,7 @@ ghost use Rattle.vp_app.specs.Commands.{ListsFile, PrintsSurvey, SurveysFile, Su
 ghost use Rattle.vp_app.specs.Commands.{WritesRange};
 ghost use Rattle.vp_app.specs.Many.{status_by_many};
 ghost use Rattle.vp_app.specs.Status.{status_of};
-ghost use Rattle.vp_args.specs.Args.{parsed_args, faults_of, AreMistaken, ParsedArgs, IsForMemory, IsMistake, IsOfValue};
+ghost use Rattle.vp_args.specs.Args.{parsed_args, faults_of, AreMistaken, ParsedArgs, IsForMemory, IsMistake, IsInvalidValue};
 ghost use Rattle.vp_args.specs.Args.{IsTaskFor};
 
 use crate::check::{CheckWork, check_files};
@@ -400,11 +400,11 @@ fn reject<W: Write, E: Write>(
     ensures usage { result ≡ 2 → output.new ≡ output.old }
     ensures memory { IsForMemory refusal.now → (result ≡ 1) × (output.new ≡ output.old) }
     ensures mistake { IsMistake refusal.now → (result ≡ 2) ⊎ ((result ≡ 1) × (output.new ≡ output.old)) }
-    ensures value { IsOfValue refusal.now → (result ≡ 2) × (output.new ≡ output.old) }
+    ensures value { IsInvalidValue refusal.now → (result ≡ 2) × (output.new ≡ output.old) }
 {
     match refusal {
         Refusal::Value(text) => report_usage_error(text, errors),
-        Refusal::Words(error) => report_args_error(error, output, errors),
+        Refusal::ClapError(error) => report_args_error(error, output, errors),
     }
 }
 

@@ -23,7 +23,7 @@ use Rattle.vp_args.specs.declared.words.Part.{Part}
 use Rattle.vp_args.specs.declared.words.Word.{Word}
 use Rattle.vp_args.specs.declared.args.Task.TheVariants.{Nothing}
 use Rattle.vp_args.specs.declared.args.Refusal.{Refusal}
-use Rattle.vp_args.specs.declared.args.Refusal.TheVariants.{Words, Value}
+use Rattle.vp_args.specs.declared.args.Refusal.TheVariants.{ClapError, Value}
 use Rattle.vp_args.specs.Args.{ParsedArgs, serves, check_app, decode_app, encode_app, faults_of, info_app, picture_app, serve_app, vp8_app, Gains, IsFlag, IsForMemory, IsNoNaming, IsTaskFor, is_equals, is_parted, program, required_if, with_rules, with_service, asks_many}
 
 -- ---- the commands
@@ -144,5 +144,5 @@ no_naming (x ∷ xs) (suc i) d lt e = still (is_parted x.now) (list_all is_parte
     still false b e = refl
 
 pub naming_memory : (operands : List Text) (r : Refusal) → IsForMemory r → IsNoNaming operands r
-naming_memory operands (Words e) h = h
+naming_memory operands (ClapError e) h = h
 naming_memory operands (Value t) h = absurd h

@@ -31,7 +31,7 @@ use Rattle.vp_args.specs.declared.serve_args.ServeArgs.{ServeArgs}
 use Rattle.vp_args.specs.declared.serve_args.ServeManyArgs.{ServeManyArgs}
 use Rattle.vp_args.specs.declared.args.Task.{Task}
 use Rattle.vp_args.specs.declared.args.Refusal.{Refusal}
-use Rattle.vp_args.specs.declared.args.Refusal.TheVariants.{Words, Value}
+use Rattle.vp_args.specs.declared.args.Refusal.TheVariants.{ClapError, Value}
 use Rattle.vp_args.specs.declared.args.Task.TheVariants.{Check, Decode, DecodeRange, Encode, Info, Picture}
 use Rattle.vp_args.specs.declared.args.Task.TheVariants.{Serve, ServeMany, Nothing}
 
@@ -581,33 +581,33 @@ HasInvalidValue (serves_many rows address operands) = IsNoServiceOfMany rows ope
 HasInvalidValue _ = ⊥
 
 -- a refusal after clap accepted the arguments: out of memory, or a refused value
-abbrev pub IsNoPlanFor : ParsedArgs → Refusal → Type 0
-IsNoPlanFor asked (Words e) = kind_of e ≡ OutOfMemory
-IsNoPlanFor asked (Value text) = HasInvalidValue asked
+abbrev pub IsRefusal : ParsedArgs → Refusal → Type 0
+IsRefusal asked (ClapError e) = kind_of e ≡ OutOfMemory
+IsRefusal asked (Value text) = HasInvalidValue asked
 
 -- memory runs out, or an operand has no `=`
 abbrev pub IsNoNaming : List Text → Refusal → Type 0
-IsNoNaming operands (Words e) = kind_of e ≡ OutOfMemory
+IsNoNaming operands (ClapError e) = kind_of e ≡ OutOfMemory
 IsNoNaming operands (Value text) = list_all is_parted operands ≡ false
 
 -- the refusal is about a value
-abbrev pub IsOfValue : Refusal → Type 0
-IsOfValue (Words e) = ⊥
-IsOfValue (Value text) = Unit {0}
+abbrev pub IsInvalidValue : Refusal → Type 0
+IsInvalidValue (ClapError e) = ⊥
+IsInvalidValue (Value text) = Unit {0}
 
 -- the refusal is because memory ran out
 abbrev pub IsForMemory : Refusal → Type 0
-IsForMemory (Words e) = kind_of e ≡ OutOfMemory
+IsForMemory (ClapError e) = kind_of e ≡ OutOfMemory
 IsForMemory (Value text) = ⊥
 
 -- the error is neither a request for help nor for the version
 abbrev pub IsMistake : Refusal → Type 0
-IsMistake (Words e) = (kind_of e ≢ DisplayHelp) × (kind_of e ≢ DisplayVersion)
+IsMistake (ClapError e) = (kind_of e ≢ DisplayHelp) × (kind_of e ≢ DisplayVersion)
 IsMistake (Value text) = Unit {0}
 
 -- clap refuses the arguments; or it accepts them, and a value is refused
 abbrev pub IsRefusalFor : List Text → Refusal → Type 0
-IsRefusalFor words (Words e) = HasKind (faults_of words) e
+IsRefusalFor words (ClapError e) = HasKind (faults_of words) e
 IsRefusalFor words (Value text) = (faults_of words ≡ []) × HasInvalidValue (parsed_args words)
 
 -- the argument is not a flag, not an option, and not `--`

@@ -10,7 +10,7 @@ use Rattle.clap.specs.Simple.{App, new_app, new_rule, with_subcommand}
 use Rattle.clap.specs.declared.builder.action.ArgAction.TheVariants.{Set, Append, SetTrue}
 use Rattle.clap.specs.declared.error.kind.ErrorKind.TheVariants.{OutOfMemory}
 use Rattle.vp_args.specs.declared.args.Refusal.{Refusal}
-use Rattle.vp_args.specs.declared.args.Refusal.TheVariants.{Words, Value}
+use Rattle.vp_args.specs.declared.args.Refusal.TheVariants.{ClapError, Value}
 use Rattle.vp_args.specs.declared.numbers.Number.{Number}
 use Rattle.vp_args.specs.declared.serve_args.NamedFile.{NamedFile}
 use Rattle.vp_args.specs.declared.words.Word.{Word}
@@ -85,6 +85,6 @@ AreMissed rows (option ∷ table) = IsMissed option (first_of option.name.now ro
 
 -- memory runs out, an operand has no `=`, or standard input is followed
 abbrev pub IsNoFollowing : Bool → List Text → Refusal → Type 0
-IsNoFollowing follow operands (Words e) = kind_of e ≡ OutOfMemory
+IsNoFollowing follow operands (ClapError e) = kind_of e ≡ OutOfMemory
 IsNoFollowing follow operands (Value text) = (list_all is_parted operands ≡ false)
     ⊎ ((follow ≡ true) × ((streams : List NamedFile) × AreNamed operands streams × (list_any is_input streams ≡ true)))

@@ -7,7 +7,7 @@ ghost use Rattle.clap.specs.Simple.{subcommand_of};
 ghost use Rattle.clap.specs.Walk.{all_of, first_of, one_of, texts};
 ghost use Rattle.vp_args.specs.Args.{asked_at, asks_many, encodes, faults_of, listing_at, parsed_args};
 ghost use Rattle.vp_args.specs.Args.{parsed_command, program, serves, serving_at, turns_of, AreNamed, AreNoSettings};
-ghost use Rattle.vp_args.specs.Args.{AreSettings, IsFlag, IsNoNaming, IsNoPlanFor, IsOfValue, IsRefusalFor, IsTaskFor};
+ghost use Rattle.vp_args.specs.Args.{AreSettings, IsFlag, IsNoNaming, IsRefusal, IsInvalidValue, IsRefusalFor, IsTaskFor};
 
 use crate::check_args::{CheckArgs, check_task};
 use crate::decode_args::{DecodeArgs, DecodeRangeArgs};
@@ -50,7 +50,7 @@ pub enum Task<'a> {
 #[derive(Drop)]
 pub enum Refusal {
     /// The error has a message, or is a request for help or the version.
-    Words(Error),
+    ClapError(Error),
     /// An operand, or the value of an option, is invalid. The text says what is expected.
     Value(&'static str),
 }
@@ -59,10 +59,10 @@ impl From<Error> for Refusal {
     ghost use Rattle.std.specs.Prelude.{◌≡◌};
     ghost use Rattle.vp_args.specs.declared.args.Refusal.{Refusal};
 
-    ghost from_gives = { λ error refusal. refusal ≡ Refusal.Words error };
+    ghost from_gives = { λ error refusal. refusal ≡ Refusal.ClapError error };
 
     fn from(error: Error) -> Refusal {
-        Refusal::Words(error)
+        Refusal::ClapError(error)
     }
 }
 
@@ -72,7 +72,7 @@ impl From<AllocError> for Refusal {
     ghost from_gives = { λ _ refusal. IsForMemory refusal };
 
     fn from(error: AllocError) -> Refusal {
-        Refusal::Words(Error::from(error))
+        Refusal::ClapError(Error::from(error))
     }
 }
 
@@ -97,7 +97,7 @@ fn parse_args<'a>(alloc: Global, words: &'a [&'a str]) -> Result<ArgMatches<'a>,
 // Converts parsed arguments into a task.
 fn read_matches<'a>(alloc: Global, matches: &ArgMatches<'a>) -> Result<Task<'a>, Refusal>
     ensures plan { IfOk result (IsTaskFor (parsed_command (subcommand_rows_of matches.now))) }
-    ensures refusal { IfErr result (IsNoPlanFor (parsed_command (subcommand_rows_of matches.now))) }
+    ensures refusal { IfErr result (IsRefusal (parsed_command (subcommand_rows_of matches.now))) }
 {
     match matches.subcommand() {
         Some((name, found)) => named_task(alloc, name, found),
@@ -109,7 +109,7 @@ fn read_matches<'a>(alloc: Global, matches: &ArgMatches<'a>) -> Result<Task<'a>,
 // of one with many calls that may fail is dear.
 fn named_task<'a>(alloc: Global, name: &str, found: &ArgMatches<'a>) -> Result<Task<'a>, Refusal>
     ensures plan { IfOk result (IsTaskFor (asked_at name.now (rows_of (found_of found.now)))) }
-    ensures refusal { IfErr result (IsNoPlanFor (asked_at name.now (rows_of (found_of found.now)))) }
+    ensures refusal { IfErr result (IsRefusal (asked_at name.now (rows_of (found_of found.now)))) }
 {
     match name {
         "decode" => decode_task(found),
@@ -121,7 +121,7 @@ fn named_task<'a>(alloc: Global, name: &str, found: &ArgMatches<'a>) -> Result<T
 // The same of `info`, `check` and the ones behind them.
 fn listing_task<'a>(alloc: Global, name: &str, found: &ArgMatches<'a>) -> Result<Task<'a>, Refusal>
     ensures plan { IfOk result (IsTaskFor (listing_at name.now (rows_of (found_of found.now)))) }
-    ensures refusal { IfErr result (IsNoPlanFor (listing_at name.now (rows_of (found_of found.now)))) }
+    ensures refusal { IfErr result (IsRefusal (listing_at name.now (rows_of (found_of found.now)))) }
 {
     match name {
         "info" => info_task(alloc, found),
@@ -133,7 +133,7 @@ fn listing_task<'a>(alloc: Global, name: &str, found: &ArgMatches<'a>) -> Result
 // The same of `picture` and `serve`.
 fn serving_task<'a>(alloc: Global, name: &str, found: &ArgMatches<'a>) -> Result<Task<'a>, Refusal>
     ensures plan { IfOk result (IsTaskFor (serving_at name.now (rows_of (found_of found.now)))) }
-    ensures refusal { IfErr result (IsNoPlanFor (serving_at name.now (rows_of (found_of found.now)))) }
+    ensures refusal { IfErr result (IsRefusal (serving_at name.now (rows_of (found_of found.now)))) }
 {
     match name {
         "picture" => picture_task(found),
@@ -165,7 +165,7 @@ pub(crate) fn is_set(found: &ArgMatches<'_>, name: &str) -> bool
 
 fn encode_task<'a>(found: &ArgMatches<'a>) -> Result<Task<'a>, Refusal>
     ensures plan { IfOk result (IsTaskFor (asked_at (codes "encode") (rows_of (found_of found.now)))) }
-    ensures refusal { IfErr result (IsNoPlanFor (asked_at (codes "encode") (rows_of (found_of found.now)))) }
+    ensures refusal { IfErr result (IsRefusal (asked_at (codes "encode") (rows_of (found_of found.now)))) }
 {
     match (text_of(found, "IN"), text_of(found, "OUT")) {
         (Some(input), Some(output)) => encode_task_args(found, input, output),
@@ -179,7 +179,7 @@ fn encode_task_args<'a>(
     output: &'a str,
 ) -> Result<Task<'a>, Refusal>
     ensures plan { IfOk result (IsTaskFor (encodes (rows_of (found_of found.now)) input.entry.now output.entry.now)) }
-    ensures refusal { IfErr result (IsNoPlanFor (encodes (rows_of
+    ensures refusal { IfErr result (IsRefusal (encodes (rows_of
         (found_of found.now)) input.entry.now output.entry.now)) }
 {
     Ok(Task::Encode(EncodeArgs {
@@ -193,7 +193,7 @@ fn encode_task_args<'a>(
 
 fn encode_options(found: &ArgMatches<'_>) -> Result<EncodeOptions, Refusal>
     ensures settings { IfOk result (AreSettings (rows_of (found_of found.now))) }
-    ensures refusal { IfErr result (λ r. IsOfValue r × AreNoSettings (rows_of (found_of found.now))) }
+    ensures refusal { IfErr result (λ r. IsInvalidValue r × AreNoSettings (rows_of (found_of found.now))) }
 {
     let [
         qi,
@@ -219,7 +219,7 @@ fn encode_options(found: &ArgMatches<'_>) -> Result<EncodeOptions, Refusal>
 
 fn serve_task<'a>(alloc: Global, found: &ArgMatches<'a>) -> Result<Task<'a>, Refusal>
     ensures plan { IfOk result (IsTaskFor (asked_at (codes "serve") (rows_of (found_of found.now)))) }
-    ensures refusal { IfErr result (IsNoPlanFor (asked_at (codes "serve") (rows_of (found_of found.now)))) }
+    ensures refusal { IfErr result (IsRefusal (asked_at (codes "serve") (rows_of (found_of found.now)))) }
 {
     match text_of(found, "max-connections") {
         Some(_) => serve_many_task(alloc, found),
@@ -230,7 +230,7 @@ fn serve_task<'a>(alloc: Global, found: &ArgMatches<'a>) -> Result<Task<'a>, Ref
 // The task of serving one connection after another.
 fn serve_turns_task<'a>(alloc: Global, found: &ArgMatches<'a>) -> Result<Task<'a>, Refusal>
     ensures plan { IfOk result (IsTaskFor (turns_of (rows_of (found_of found.now)))) }
-    ensures refusal { IfErr result (IsNoPlanFor (turns_of (rows_of (found_of found.now)))) }
+    ensures refusal { IfErr result (IsRefusal (turns_of (rows_of (found_of found.now)))) }
 {
     match (
         text_of(found, "listen"),
@@ -253,7 +253,7 @@ fn serve_task_args<'a>(
 ) -> Result<Task<'a>, Refusal>
     ensures plan { IfOk result (IsTaskFor (serves (rows_of (found_of found.now)) listen.entry.now connections.now
         (texts operands.now))) }
-    ensures refusal { IfErr result (IsNoPlanFor (serves (rows_of (found_of found.now)) listen.entry.now connections.now
+    ensures refusal { IfErr result (IsRefusal (serves (rows_of (found_of found.now)) listen.entry.now connections.now
         (texts operands.now))) }
 {
     let Some(connections) = decimal(connections) else {

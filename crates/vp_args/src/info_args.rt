@@ -2,7 +2,7 @@
 
 ghost use Rattle.std.specs.Prelude.{IfErr, IfOk, codes};
 ghost use Rattle.clap.specs.Words.{found_of, rows_of};
-ghost use Rattle.vp_args.specs.Args.{asked_at, IsNoPlanFor, IsTaskFor};
+ghost use Rattle.vp_args.specs.Args.{asked_at, IsRefusal, IsTaskFor};
 
 use crate::args::{Refusal, Task, is_set, texts_of};
 use crate::file_limits::FileLimits;
@@ -28,7 +28,7 @@ pub struct InfoArgs<'a> {
 /// The task of listing files.
 pub(crate) fn info_task<'a>(alloc: Global, found: &ArgMatches<'a>) -> Result<Task<'a>, Refusal>
     ensures plan { IfOk result (IsTaskFor (asked_at (codes "info") (rows_of (found_of found.now)))) }
-    ensures refusal { IfErr result (IsNoPlanFor (asked_at (codes "info") (rows_of (found_of found.now)))) }
+    ensures refusal { IfErr result (IsRefusal (asked_at (codes "info") (rows_of (found_of found.now)))) }
 {
     let Some(files) = texts_of(found, "IN") else {
         return Ok(Task::Nothing);

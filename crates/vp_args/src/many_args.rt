@@ -5,7 +5,7 @@ ghost use Rattle.std.specs.List.{before_first, list_any};
 ghost use Rattle.clap.specs.Words.{found_of, rows_of};
 ghost use Rattle.clap.specs.Walk.{texts};
 ghost use Rattle.vp_args.specs.Args.{asks_many, is_equals, is_input, is_many_option, many_of, serves_many, AreNamed};
-ghost use Rattle.vp_args.specs.Args.{IsNoPlanFor, IsTaskFor};
+ghost use Rattle.vp_args.specs.Args.{IsRefusal, IsTaskFor};
 ghost use Rattle.vp_args.specs.Tables.{IsNoFollowing};
 
 use crate::args::{Refusal, Task, is_set, named_files, text_of, texts_of};
@@ -59,7 +59,7 @@ pub(crate) fn serve_many_task<'a>(
     found: &ArgMatches<'a>,
 ) -> Result<Task<'a>, Refusal>
     ensures plan { IfOk result (IsTaskFor (many_of (rows_of (found_of found.now)))) }
-    ensures refusal { IfErr result (IsNoPlanFor (many_of (rows_of (found_of found.now)))) }
+    ensures refusal { IfErr result (IsRefusal (many_of (rows_of (found_of found.now)))) }
 {
     match (text_of(found, "listen"), texts_of(found, "NAME=FILE")) {
         (Some(listen), Some(operands)) => serve_many_args(alloc, found, listen, operands),
@@ -75,7 +75,7 @@ fn serve_many_args<'a>(
 ) -> Result<Task<'a>, Refusal>
     ensures plan { IfOk result (IsTaskFor (serves_many (rows_of (found_of found.now)) listen.entry.now
         (texts operands.now))) }
-    ensures refusal { IfErr result (IsNoPlanFor (serves_many (rows_of (found_of found.now)) listen.entry.now
+    ensures refusal { IfErr result (IsRefusal (serves_many (rows_of (found_of found.now)) listen.entry.now
         (texts operands.now))) }
 {
     let [

@@ -4,7 +4,7 @@ ghost use Rattle.std.specs.Prelude.{◌≡◌, ◌≤◌, ◌<◌, ◌^◌, IfEr
 ghost use Rattle.clap.specs.Words.{found_of, rows_of};
 ghost use Rattle.clap.specs.Walk.{first_of};
 ghost use Rattle.vp_args.specs.Args.{AreFileLimits, AreNoFileLimits, IsDecimal, IsMisnumbered, IsNoCache, IsNoDecimal};
-ghost use Rattle.vp_args.specs.Args.{IsNumber, IsOfValue};
+ghost use Rattle.vp_args.specs.Args.{IsNumber, IsInvalidValue};
 ghost use Rattle.vp_args.specs.Tables.{AreMissed, AreNumbers, IsMissed, IsNumberOf};
 
 use crate::args::{Refusal, text_of};
@@ -146,7 +146,7 @@ pub(crate) fn numbers<const N: usize>(
 ) -> Result<[u32; N], Refusal>
     requires { length table.now ≡ N }
     ensures numbers { IfOk result (λ all. AreNumbers (rows_of (found_of found.now)) table.now all 0) }
-    ensures refusal { IfErr result (λ r. IsOfValue r × AreMissed (rows_of (found_of found.now)) table.now) }
+    ensures refusal { IfErr result (λ r. IsInvalidValue r × AreMissed (rows_of (found_of found.now)) table.now) }
 {
     let mut all = [0; N];
     for i in 0..N {
@@ -158,7 +158,7 @@ pub(crate) fn numbers<const N: usize>(
 // Returns the number of an option, or its default.
 fn number_of(found: &ArgMatches<'_>, option: &Number) -> Result<u32, Refusal>
     ensures number { IfOk result (IsNumberOf (rows_of (found_of found.now)) option.now) }
-    ensures refusal { IfErr result (λ r. IsOfValue r
+    ensures refusal { IfErr result (λ r. IsInvalidValue r
         × IsMissed option.now (first_of option.now.name.now (rows_of (found_of found.now)))) }
 {
     let number = count(found, option.name, option.usual, option.refusal)?;
@@ -176,7 +176,7 @@ pub(crate) fn count(
     refusal: &'static str,
 ) -> Result<u32, Refusal>
     ensures number { IfOk result (IsNumber (first_of option.now (rows_of (found_of found.now))) usual) }
-    ensures refusal { IfErr result (λ r. IsOfValue r × IsMisnumbered (2 ^ 32)
+    ensures refusal { IfErr result (λ r. IsInvalidValue r × IsMisnumbered (2 ^ 32)
         (first_of option.now (rows_of (found_of found.now)))) }
 {
     let Some(text) = text_of(found, option) else {
@@ -192,7 +192,7 @@ pub(crate) fn count(
 pub(crate) fn kept_pictures(found: &ArgMatches<'_>) -> Result<u32, Refusal>
     ensures number { IfOk result (λ n. IsNumber (first_of (codes "cache") (rows_of (found_of found.now))) 16 n × (0 < n)
         × (n ≤ 4096)) }
-    ensures refusal { IfErr result (λ r. IsOfValue r × IsNoCache
+    ensures refusal { IfErr result (λ r. IsInvalidValue r × IsNoCache
         (first_of (codes "cache") (rows_of (found_of found.now)))) }
 {
     let cache = count(found, "cache", 16, "--cache is a number from 1 to 4096")?;
@@ -205,7 +205,7 @@ pub(crate) fn kept_pictures(found: &ArgMatches<'_>) -> Result<u32, Refusal>
 /// Returns the limits that `--max-packets` and `--max-pixels` give.
 pub(crate) fn file_limits(found: &ArgMatches<'_>) -> Result<FileLimits, Refusal>
     ensures limits { IfOk result (AreFileLimits (rows_of (found_of found.now))) }
-    ensures refusal { IfErr result (λ r. IsOfValue r × AreNoFileLimits (rows_of (found_of found.now))) }
+    ensures refusal { IfErr result (λ r. IsInvalidValue r × AreNoFileLimits (rows_of (found_of found.now))) }
 {
     let [packets, pixels] = numbers::<2>(found, LIMIT_NUMBERS.as_slice())?;
     Ok(FileLimits { packets, pixels })

@@ -4,8 +4,8 @@ ghost use Rattle.std.specs.Prelude.{◌≡◌, ◌^◌, IfErr, IfOk, Some, None,
 ghost use Rattle.clap.specs.Words.{found_of, rows_of};
 ghost use Rattle.clap.specs.Walk.{first_of};
 ghost use Rattle.vp_scale.specs.Scale.{factor_of};
-ghost use Rattle.vp_args.specs.Args.{asked_at, form_by_name, has_end, pictures, IsMisnumbered, IsNoPlanFor};
-ghost use Rattle.vp_args.specs.Args.{IsNoScale, IsNumber, IsOfValue, IsPacket, IsTaskFor};
+ghost use Rattle.vp_args.specs.Args.{asked_at, form_by_name, has_end, pictures, IsMisnumbered, IsRefusal};
+ghost use Rattle.vp_args.specs.Args.{IsNoScale, IsNumber, IsInvalidValue, IsPacket, IsTaskFor};
 
 use crate::args::{Refusal, Task, text_of};
 use crate::numbers::{PICTURE_NUMBERS, count, decimal, numbers};
@@ -16,7 +16,7 @@ use vp_scale::Scale;
 /// The task of writing a picture.
 pub(crate) fn picture_task<'a>(found: &ArgMatches<'a>) -> Result<Task<'a>, Refusal>
     ensures plan { IfOk result (IsTaskFor (asked_at (codes "picture") (rows_of (found_of found.now)))) }
-    ensures refusal { IfErr result (IsNoPlanFor (asked_at (codes "picture") (rows_of (found_of found.now)))) }
+    ensures refusal { IfErr result (IsRefusal (asked_at (codes "picture") (rows_of (found_of found.now)))) }
 {
     match (text_of(found, "IN"), text_of(found, "OUT")) {
         (Some(input), Some(output)) => picture_task_args(found, input, output),
@@ -30,7 +30,7 @@ fn picture_task_args<'a>(
     output: &'a str,
 ) -> Result<Task<'a>, Refusal>
     ensures plan { IfOk result (IsTaskFor (pictures (rows_of (found_of found.now)) input.entry.now output.entry.now)) }
-    ensures refusal { IfErr result (IsNoPlanFor (pictures (rows_of
+    ensures refusal { IfErr result (IsRefusal (pictures (rows_of
         (found_of found.now)) input.entry.now output.entry.now)) }
 {
     let packet = packet(found)?;
@@ -50,7 +50,7 @@ fn picture_task_args<'a>(
 // Returns the number of the wanted packet, if one is given.
 fn packet(found: &ArgMatches<'_>) -> Result<Option<u32>, Refusal>
     ensures number { IfOk result (IsPacket (first_of (codes "packet") (rows_of (found_of found.now)))) }
-    ensures refusal { IfErr result (λ r. IsOfValue r
+    ensures refusal { IfErr result (λ r. IsInvalidValue r
         × IsMisnumbered (2 ^ 32) (first_of (codes "packet") (rows_of (found_of found.now)))) }
 {
     let Some(text) = text_of(found, "packet") else {
@@ -66,7 +66,7 @@ fn packet(found: &ArgMatches<'_>) -> Result<Option<u32>, Refusal>
 fn scale(found: &ArgMatches<'_>) -> Result<Scale, Refusal>
     ensures factor { IfOk result (λ scale. IsNumber (first_of (codes "scale") (rows_of (found_of found.now))) 1
         (factor_of scale)) }
-    ensures refusal { IfErr result (λ r. IsOfValue r
+    ensures refusal { IfErr result (λ r. IsInvalidValue r
         × IsNoScale (first_of (codes "scale") (rows_of (found_of found.now)))) }
 {
     match count(found, "scale", 1, "--scale is 1, 2, 4 or 8")? {
@@ -81,7 +81,7 @@ fn scale(found: &ArgMatches<'_>) -> Result<Scale, Refusal>
 // Returns the form of a file by its name.
 fn form(output: &str) -> Result<StillForm, Refusal>
     ensures form { IfOk result (λ form. form_by_name output.now ≡ Some form) }
-    ensures refusal { IfErr result (λ r. IsOfValue r × (form_by_name output.now ≡ None)) }
+    ensures refusal { IfErr result (λ r. IsInvalidValue r × (form_by_name output.now ≡ None)) }
 {
     match form_by_name(output) {
         Some(form) => Ok(form),

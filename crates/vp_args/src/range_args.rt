@@ -4,8 +4,8 @@ ghost use Rattle.std.specs.Prelude.{◌≡◌, ◌≤◌, ◌^◌, IfErr, IfOk, 
 ghost use Rattle.clap.specs.Words.{found_of, rows_of};
 ghost use Rattle.clap.specs.Walk.{first_of};
 ghost use Rattle.vp_args.specs.Args.{asked_at, decoding_of, named_output, AreMiswanted, AreSums, AreWanted};
-ghost use Rattle.vp_args.specs.Args.{HasNoOutput, IsDecimal, IsDecodeFor, IsNoDecimal, IsNoDecoding, IsNoPlanFor};
-ghost use Rattle.vp_args.specs.Args.{IsNoSpan, IsOfValue, IsSpan, IsTaskFor};
+ghost use Rattle.vp_args.specs.Args.{HasNoOutput, IsDecimal, IsDecodeFor, IsNoDecimal, IsNoDecoding, IsRefusal};
+ghost use Rattle.vp_args.specs.Args.{IsNoSpan, IsInvalidValue, IsSpan, IsTaskFor};
 
 use crate::args::{Refusal, Task, is_set, text_of};
 use crate::decode_args::{DecodeArgs, DecodeRangeArgs};
@@ -15,7 +15,7 @@ use clap::ArgMatches;
 /// The task of decoding a file: all its pictures, or those of a range of packets.
 pub(crate) fn decode_task<'a>(found: &ArgMatches<'a>) -> Result<Task<'a>, Refusal>
     ensures plan { IfOk result (IsTaskFor (asked_at (codes "decode") (rows_of (found_of found.now)))) }
-    ensures refusal { IfErr result (IsNoPlanFor (asked_at (codes "decode") (rows_of (found_of found.now)))) }
+    ensures refusal { IfErr result (IsRefusal (asked_at (codes "decode") (rows_of (found_of found.now)))) }
 {
     match text_of(found, "IN") {
         Some(input) => decode_task_args(found, input, output_of(found)),
@@ -41,7 +41,7 @@ fn decode_task_args<'a>(
     ensures plan { IfOk result (IsTaskFor (decoding_of (rows_of (found_of found.now))
         (first_of (codes "frame") (rows_of (found_of found.now)))
         (first_of (codes "frames") (rows_of (found_of found.now))) input.entry.now output.entry.now)) }
-    ensures refusal { IfErr result (IsNoPlanFor (decoding_of (rows_of (found_of found.now))
+    ensures refusal { IfErr result (IsRefusal (decoding_of (rows_of (found_of found.now))
         (first_of (codes "frame") (rows_of (found_of found.now)))
         (first_of (codes "frames") (rows_of (found_of found.now))) input.entry.now output.entry.now)) }
 {
@@ -64,7 +64,7 @@ fn decode_args<'a>(
     output: &'a str,
 ) -> Result<DecodeArgs<'a>, Refusal>
     ensures decoding { IfOk result (IsDecodeFor (rows_of (found_of found.now)) input.entry.now output.entry.now) }
-    ensures refusal { IfErr result (λ r. IsOfValue r × IsNoDecoding (rows_of (found_of found.now))) }
+    ensures refusal { IfErr result (λ r. IsInvalidValue r × IsNoDecoding (rows_of (found_of found.now))) }
 {
     let limits = file_limits(found)?;
     let (md5, md5_each) = sums(found)?;
@@ -82,7 +82,7 @@ fn decode_args<'a>(
 // Returns which sums are printed. If none is, the file of pictures has to be named.
 fn sums(found: &ArgMatches<'_>) -> Result<(bool, bool), Refusal>
     ensures sums { IfOk result (λ s. AreSums (rows_of (found_of found.now)) s.0 s.1) }
-    ensures refusal { IfErr result (λ r. IsOfValue r × HasNoOutput (rows_of (found_of found.now))) }
+    ensures refusal { IfErr result (λ r. IsInvalidValue r × HasNoOutput (rows_of (found_of found.now))) }
 {
     let (md5, md5_each) = (is_set(found, "md5"), is_set(found, "md5-each"));
     if md5 || md5_each || text_of(found, "OUT").is_some() {
@@ -99,7 +99,7 @@ fn wanted(found: &ArgMatches<'_>) -> Result<Option<(u32, u32)>, Refusal>
         (first_of (codes "frames") (rows_of (found_of found.now))) ends.0 ends.1 × (ends.0 ≤ ends.1))) }
     ensures none { result ≡ Ok None → (first_of (codes "frame") (rows_of (found_of found.now)) ≡ None)
         × (first_of (codes "frames") (rows_of (found_of found.now)) ≡ None) }
-    ensures refusal { IfErr result (λ r. IsOfValue r
+    ensures refusal { IfErr result (λ r. IsInvalidValue r
         × AreMiswanted (first_of (codes "frame") (rows_of (found_of found.now)))
         (first_of (codes "frames") (rows_of (found_of found.now)))) }
 {
@@ -114,7 +114,7 @@ fn wanted(found: &ArgMatches<'_>) -> Result<Option<(u32, u32)>, Refusal>
 // Parses the number of a packet, which is the first and the last.
 fn one_packet(frame: &str) -> Result<(u32, u32), Refusal>
     ensures ends { IfOk result (λ ends. IsDecimal frame.now ends.0 × (ends.1 ≡ ends.0)) }
-    ensures refusal { IfErr result (λ r. IsOfValue r × IsNoDecimal (2 ^ 32) frame.now) }
+    ensures refusal { IfErr result (λ r. IsInvalidValue r × IsNoDecimal (2 ^ 32) frame.now) }
 {
     match decimal(frame) {
         Some(number) => Ok((number, number)),
@@ -125,7 +125,7 @@ fn one_packet(frame: &str) -> Result<(u32, u32), Refusal>
 // Parses the numbers of the first and the last packet.
 fn some_packets(frames: &str) -> Result<(u32, u32), Refusal>
     ensures ends { IfOk result (λ ends. IsSpan frames.now ends.0 ends.1) }
-    ensures refusal { IfErr result (λ r. IsOfValue r × IsNoSpan frames.now) }
+    ensures refusal { IfErr result (λ r. IsInvalidValue r × IsNoSpan frames.now) }
 {
     match span(frames) {
         Some(ends) => Ok(ends),

@@ -3,7 +3,7 @@ use Rattle.std.proofs.Common.{◌≡◌, ℕ, zero, suc, ◌≤◌, ◌<◌, ◌
 use Rattle.std.specs.Prelude.{IsSome, IsNone}
 use Rattle.vp_bool.specs.Bools.{State, read, literal}
 use Rattle.vp_bool.specs.Reader.{Reader, bind, when}
-use Rattle.vp_head.specs.Bounds.{IsInRange, AreBounded, AreInRange}
+use Rattle.vp_head.specs.Bounds.{IsHeaderInRange, AreBounded, AreFilterValuesInRange}
 use Rattle.vp_head.specs.Rows.{magnitude, optional_signed, four_signed}
 use Rattle.vp_head.specs.Saved.{defaults}
 use Rattle.vp_head.specs.Header.{segment_values, segmentation, filter, all_deltas, level_deltas, quantiser_indices, frame, frame_and_kept, header}
@@ -102,14 +102,14 @@ level_deltas-within : (kept : LevelDeltas) (s : State) → AreDeltasWithin kept 
 unfolding level_deltas bind
 level_deltas-within kept s h = asked_deltas-within _ kept _ h
 
-signed_in_range : (key : Bool) (kept : Saved) (s : State) → AreInRange kept.segments kept.deltas → AreInRange (frame key kept s).0.segmentation.values (frame key kept s).0.deltas
+signed_in_range : (key : Bool) (kept : Saved) (s : State) → AreFilterValuesInRange kept.segments kept.deltas → AreFilterValuesInRange (frame key kept s).0.segmentation.values (frame key kept s).0.deltas
 unfolding frame bind
 signed_in_range key kept s h =
     let segments = segmentation-within kept.segments _ (record { quantisers = h.quantisers; levels = h.levels }) in
     let deltas = level_deltas-within kept.deltas _ (record { reference = h.reference; mode = h.mode }) in
     record { quantisers = segments.quantisers; levels = segments.levels; reference = deltas.reference; mode = deltas.mode }
 
-pub defaults_in_range : AreInRange defaults.segments defaults.deltas
+pub defaults_in_range : AreFilterValuesInRange defaults.segments defaults.deltas
 unfolding defaults
 defaults_in_range =
     let zeros : AreBounded 63 (pos 0 ∷ pos 0 ∷ pos 0 ∷ pos 0 ∷ []) = four-within 63 _ _ _ _ (omega arith) (omega arith) (omega arith) (omega arith) in
@@ -122,7 +122,7 @@ defaults_in_range =
 
 -- ---- every header
 
-frame_in_range : (key : Bool) (kept : Saved) (s : State) → IsInRange (frame key kept s).0
+frame_in_range : (key : Bool) (kept : Saved) (s : State) → IsHeaderInRange (frame key kept s).0
 unfolding frame bind filter quantiser_indices
 frame_in_range key kept s = record {
   log2_partitions = two_bits _;
@@ -144,24 +144,24 @@ of_either : (P : Header × Saved → Type 0) (b : Bool) (m n : Reader (Header ×
 of_either P true m n s x y = x
 of_either P false m n s x y = y
 
-pub read_in_range : (key : Bool) (kept : Saved) (s : State) → IsInRange (frame_and_kept key kept s).0.0
+pub read_in_range : (key : Bool) (kept : Saved) (s : State) → IsHeaderInRange (frame_and_kept key kept s).0.0
 unfolding frame_and_kept bind
 read_in_range key kept s = frame_in_range key kept s
 
-pub read-signed_in_range : (key : Bool) (kept : Saved) (s : State) → AreInRange kept.segments kept.deltas
-    → AreInRange (frame_and_kept key kept s).0.0.segmentation.values (frame_and_kept key kept s).0.0.deltas
+pub read-signed_in_range : (key : Bool) (kept : Saved) (s : State) → AreFilterValuesInRange kept.segments kept.deltas
+    → AreFilterValuesInRange (frame_and_kept key kept s).0.0.segmentation.values (frame_and_kept key kept s).0.0.deltas
 unfolding frame_and_kept bind
 read-signed_in_range key kept s h = signed_in_range key kept s h
 
-pub read-kept_in_range : (key : Bool) (kept : Saved) (s : State) → AreInRange kept.segments kept.deltas
-    → AreInRange (frame_and_kept key kept s).0.1.segments (frame_and_kept key kept s).0.1.deltas
+pub read-kept_in_range : (key : Bool) (kept : Saved) (s : State) → AreFilterValuesInRange kept.segments kept.deltas
+    → AreFilterValuesInRange (frame_and_kept key kept s).0.1.segments (frame_and_kept key kept s).0.1.deltas
 unfolding frame_and_kept bind
 read-kept_in_range key kept s h = signed_in_range key kept s h
 
-pub header_in_range : (saved : Saved) (tag : Tag) (s : State) → IsInRange (header saved tag s).0.0
+pub header_in_range : (saved : Saved) (tag : Tag) (s : State) → IsHeaderInRange (header saved tag s).0.0
 unfolding header frame_and_kept bind
 header_in_range saved tag s =
-    of_either (λ r. IsInRange r.0) (is_some tag.key) (frame_and_kept true defaults) (frame_and_kept false saved) s (frame_in_range true defaults s) (frame_in_range false saved s)
+    of_either (λ r. IsHeaderInRange r.0) (is_some tag.key) (frame_and_kept true defaults) (frame_and_kept false saved) s (frame_in_range true defaults s) (frame_in_range false saved s)
 
 pub header-key : (saved : Saved) (tag : Tag) (s : State) → (header saved tag s).0.0.key ≡ is_some tag.key
 unfolding header frame_and_kept bind

@@ -21,7 +21,7 @@ pub record IsTagInRange (limits : Limits) (tag : Tag) : Type 0 where
   pub key : IfSome tag.key (IsKeyInRange limits)
 
 -- the ranges of the fields of a header
-pub record IsInRange (h : Header) : Type 0 where
+pub record IsHeaderInRange (h : Header) : Type 0 where
   pub log2_partitions : h.log2_partitions ≤ 3
   pub level : h.filter.level ≤ 63
   pub sharpness : h.filter.sharpness ≤ 7
@@ -39,7 +39,7 @@ abbrev pub AreBounded : ℕ → List ℤ → Type 0
 AreBounded b xs = (i : ℕ) → unsigned_abs (slice_index_or xs i (pos 0)) ≤ b
 
 -- the segment values and the filter level deltas are in range
-pub record AreInRange (values : SegmentValues) (deltas : LevelDeltas) : Type 0 where
+pub record AreFilterValuesInRange (values : SegmentValues) (deltas : LevelDeltas) : Type 0 where
   pub quantisers : AreBounded 127 values.quantisers
   pub levels : AreBounded 63 values.levels
   pub reference : AreBounded 63 deltas.reference

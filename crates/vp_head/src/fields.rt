@@ -58,7 +58,7 @@ pub struct Segmentation {
 pub struct Filter {
     /// Whether the simple filter is used instead of the normal one.
     pub simple: bool,
-    /// The filter level, 0 to 63; 0 disables the filter.
+    /// The filter level (`loop_filter_level`), 0 to 63; 0 disables the filter.
     pub level: u8,
     /// The sharpness, 0 to 7.
     pub sharpness: u8,
@@ -176,7 +176,7 @@ pub struct ReferenceProbabilities {
 /// The frame header, with the values in force for the frame (chapters 9 and 19.2).
 #[derive(Clone, Copy)]
 pub struct Header {
-    /// Whether this is a key frame.
+    /// Whether this is a key frame (keyframe, `key_frame`).
     pub key: bool,
     /// The color space bit of a key frame; false for an inter frame.
     pub color_space: bool,
@@ -202,7 +202,8 @@ pub struct Header {
     pub refresh_entropy: bool,
     /// The probabilities in force for this frame.
     pub probabilities: Probabilities,
-    /// The probability that a macroblock is not skipped. None if skipping is not coded: then none is skipped.
+    /// The probability that a macroblock is not skipped (`prob_skip_false`). None if skipping is not coded: then none is
+    /// skipped.
     pub skip: Option<u8>,
     /// The probabilities of reference frames; all 0 for a key frame.
     pub references: ReferenceProbabilities,

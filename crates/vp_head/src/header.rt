@@ -3,7 +3,7 @@
 ghost use Rattle.std.specs.Prelude.{◌≡◌, ◌⊎◌, is_some, IsSome};
 ghost use Rattle.vp_head.specs.Saved.{defaults, kept_after};
 ghost use Rattle.vp_head.specs.Header.{frame, frame_and_kept, header};
-ghost use Rattle.vp_head.specs.Bounds.{IsInRange, AreInRange};
+ghost use Rattle.vp_head.specs.Bounds.{IsHeaderInRange, AreFilterValuesInRange};
 
 use crate::fields::{Header, LevelDeltas, Probabilities, Saved, SegmentValues, SignBiases, Tag};
 use crate::probabilities::{read_chroma_if, read_coefficients, read_luma_if, read_vectors_if};
@@ -61,13 +61,13 @@ impl Header {
     pub fn read(saved: &Saved, tag: &Tag, d: &mut BoolDecoder) -> (Header, Saved)
         ensures value { result ≡ (header saved.now tag.now d.old).0 }
         ensures rest { d.new ≡ (header saved.now tag.now d.old).1 }
-        ensures bounds { IsInRange result.0 }
+        ensures bounds { IsHeaderInRange result.0 }
         ensures kind { result.0.key ≡ is_some tag.now.key }
         // The signed values are in range in a key frame; in an inter frame, if the saved ones are.
-        ensures signed { IsSome tag.now.key ⊎ AreInRange saved.now.segments saved.now.deltas
-            → AreInRange result.0.segmentation.values result.0.deltas }
-        ensures kept { IsSome tag.now.key ⊎ AreInRange saved.now.segments saved.now.deltas
-            → AreInRange result.1.segments result.1.deltas }
+        ensures signed { IsSome tag.now.key ⊎ AreFilterValuesInRange saved.now.segments saved.now.deltas
+            → AreFilterValuesInRange result.0.segmentation.values result.0.deltas }
+        ensures kept { IsSome tag.now.key ⊎ AreFilterValuesInRange saved.now.segments saved.now.deltas
+            → AreFilterValuesInRange result.1.segments result.1.deltas }
     {
         if tag.key.is_some() {
             read_with_kept(true, defaults(), d)

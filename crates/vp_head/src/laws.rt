@@ -8,7 +8,7 @@ ghost use Rattle.vp_head.specs.declared.fields.Saved.{Saved};
 ghost use Rattle.vp_head.specs.Tag.{tag_of, IsKeyPacket, IsInterPacket};
 ghost use Rattle.vp_head.specs.Saved.{defaults};
 ghost use Rattle.vp_head.specs.Header.{header};
-ghost use Rattle.vp_head.specs.Bounds.{IsTagInRange, IsInRange, AreInRange};
+ghost use Rattle.vp_head.specs.Bounds.{IsTagInRange, IsHeaderInRange, AreFilterValuesInRange};
 ghost use Rattle.vp_head.specs.Spelled.{IsWritableInPacket};
 
 /// The first byte determines whether a packet of at least three bytes is a key packet: if its tag can be read, the tag
@@ -28,9 +28,9 @@ pub fn key_header_resets()
 /// Tags and headers are in range, whatever the bytes, and so are the defaults of a key frame.
 pub fn numbers_are_in_range()
     ensures tags { (limits : Limits) (packet : List ℕ) → IfOk (tag_of limits packet) (IsTagInRange limits) }
-    ensures headers { (saved : Saved) (tag : Tag) (s : State) → IsInRange (header saved tag s).0.0 }
+    ensures headers { (saved : Saved) (tag : Tag) (s : State) → IsHeaderInRange (header saved tag s).0.0 }
     // So by induction the saved signed values are in range after every header.
-    ensures defaults { AreInRange defaults.segments defaults.deltas }
+    ensures defaults { AreFilterValuesInRange defaults.segments defaults.deltas }
     ensures kinds { (saved : Saved) (tag : Tag) (s : State) → (header saved tag s).0.0.key ≡ is_some tag.key }
 {}
 

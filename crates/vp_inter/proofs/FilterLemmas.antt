@@ -1,7 +1,7 @@
 -- Lemmas on the filters.
 use Rattle.std.proofs.Common.{◌≡◌, ◌∙◌, ℕ, ◌+◌, ◌-◌, ◌*◌, ◌/◌, ◌<◌, ◌≤◌, lit<, Bool, true, false, cond, nat_eq, ℤ, pos, ◌+ℤ◌, List, [], ◌∷◌, refl, ap, arith}
 use Rattle.std.proofs.lemmas.Int.{ints, clamps}
-use lib.Signed.{shr_z}
+use lib.Signed.{shr_z as floor_div}
 use Rattle.vp_tables.specs.Tables.{six_taps}
 use Rattle.vp_inter.specs.Filter.{taps, clamp_to_pixel, weighed, filtered_pixel, filter_six}
 
@@ -25,7 +25,7 @@ held_bound z = omega (arith, ints, clamps)
 
 pub filtered_bound : (weights : List ℤ) (a b c d e f : ℕ) → filtered_pixel weights a b c d e f ≤ 255
 unfolding filtered_pixel
-filtered_bound weights a b c d e f = held_bound (shr_z (weighed weights a b c d e f +ℤ pos 64) 128)
+filtered_bound weights a b c d e f = held_bound (floor_div (weighed weights a b c d e f +ℤ pos 64) 128)
 
 filtered-still : (a b c d e f : ℕ) → c ≤ 255 → filtered_pixel still a b c d e f ≡ c
 unfolding filtered_pixel

@@ -2,7 +2,7 @@
 use Rattle.std.proofs.Common.{◌≡◌, ◌∙◌, ℕ, ◌+◌, ◌*◌, ◌/◌, ◌%◌, ◌<◌, ◌≤◌, ℤ, pos, negsuc, ◌+ℤ◌, ◌*ℤ◌, ◌≤ℤ◌, List, get_or, ap, sym, arith, refl}
 use Rattle.std.proofs.lemmas.Int.{ints, int_rem_euclid_is}
 use Rattle.std.specs.Prelude.{unsigned_abs}
-use lib.Signed.{shr_z}
+use lib.Signed.{shr_z as floor_div}
 use Rattle.vp_base.specs.Raster.{Raster}
 use Rattle.vp_inter.specs.declared.vector.PlaneVector.{PlaneVector}
 use Rattle.vp_inter.specs.Vectors.{whole_pixels, fraction, first_tap}
@@ -12,7 +12,7 @@ use Rattle.vp_inter.specs.Filtered.{ArePaired, AreFiltered}
 use Rattle.vp_inter.proofs.FilterLemmas.{filter_six-same, filter_six-whole_pixels}
 use Rattle.vp_inter.proofs.PassLemmas.{inter_passes, across_bound}
 
-eighth : (z : ℤ) → ((pos 8 *ℤ shr_z z 8) ≤ℤ z) × (z ≤ℤ (pos 8 *ℤ shr_z z 8 +ℤ pos 7))
+eighth : (z : ℤ) → ((pos 8 *ℤ floor_div z 8) ≤ℤ z) × (z ≤ℤ (pos 8 *ℤ floor_div z 8 +ℤ pos 7))
 eighth (pos n) = (omega (arith, ints), omega (arith, ints))
 eighth (negsuc n) = (omega (arith, ints), omega (arith, ints))
 

@@ -1,7 +1,7 @@
 -- Weighed sums that an i16 holds.
 use Rattle.std.proofs.Common.{◌≡◌, ◌∙◌, ℕ, zero, suc, ◌*◌, ◌<◌, ◌≤◌, ap, arith, ℤ, pos, negsuc, ◌+ℤ◌, ◌-ℤ◌, ◌*ℤ◌, ◌≤ℤ◌, List, refl}
 use Rattle.std.proofs.lemmas.Int.{ints, clamps}
-use lib.Signed.{shr_z}
+use lib.Signed.{shr_z as floor_div}
 use Rattle.std.specs.Prelude.{unsigned_abs}
 use Rattle.std.specs.Int.{int_min, int_max}
 use Rattle.vp_lanes.specs.Lane.{clamp_to_byte}
@@ -112,43 +112,43 @@ ended_byte z = (omega (arith, ints, clamps), omega (arith, ints, clamps))
 pub ended_is : (z : ℤ) → unsigned_abs (int_min (pos 127) (int_max (negsuc 127) z) +ℤ pos 128) ≡ clamp_to_byte (z +ℤ pos 128)
 ended_is z = omega (arith, ints, clamps)
 
-floor : (z : ℤ) → ((pos 128 *ℤ shr_z z 128) ≤ℤ z) × (z ≤ℤ (pos 128 *ℤ shr_z z 128 +ℤ pos 127))
+floor : (z : ℤ) → ((pos 128 *ℤ floor_div z 128) ≤ℤ z) × (z ≤ℤ (pos 128 *ℤ floor_div z 128 +ℤ pos 127))
 floor (pos n) = (omega (arith, ints), omega (arith, ints))
 floor (negsuc n) = (omega (arith, ints), omega (arith, ints))
 
 -- 16384 that was taken away before the shift is 128 after it
-pub put_back : (z y : ℤ) → y ≡ z +ℤ pos 16384 → shr_z z 128 +ℤ pos 128 ≡ shr_z y 128
+pub put_back : (z y : ℤ) → y ≡ z +ℤ pos 16384 → floor_div z 128 +ℤ pos 128 ≡ floor_div y 128
 put_back z y e = let p = floor z in let q = floor y in omega (arith, ints)
 
 pub held_is : (z : ℤ) → clamp_to_byte z ≡ clamp_to_pixel z
 held_is z = omega (arith, ints, clamps)
 
 pub whole_is : (weights : List ℤ) (a b c d e f : ℕ)
-    → clamp_to_byte (shr_z (pair c d (weight weights 2) (weight weights 3) -ℤ pos 16320 +ℤ pair b e (weight weights 1) (weight weights 4) +ℤ pair a f (weight weights 0) (weight weights 5)) 128 +ℤ pos 128)
+    → clamp_to_byte (floor_div (pair c d (weight weights 2) (weight weights 3) -ℤ pos 16320 +ℤ pair b e (weight weights 1) (weight weights 4) +ℤ pair a f (weight weights 0) (weight weights 5)) 128 +ℤ pos 128)
     ≡ filtered_pixel weights a b c d e f
 unfolding filtered_pixel
 whole_is weights a b c d e f =
     let s : ℤ = pair c d (weight weights 2) (weight weights 3) -ℤ pos 16320 +ℤ pair b e (weight weights 1) (weight weights 4) +ℤ pair a f (weight weights 0) (weight weights 5) in
     ap clamp_to_byte (put_back s (weighed weights a b c d e f +ℤ pos 64) (omega (arith, ints)))
-    ∙ held_is (shr_z (weighed weights a b c d e f +ℤ pos 64) 128)
+    ∙ held_is (floor_div (weighed weights a b c d e f +ℤ pos 64) 128)
 
 pub inner_is : (weights : List ℤ) (a b c d e f : ℕ) → weight weights 0 ≡ pos 0 → weight weights 5 ≡ pos 0
-    → clamp_to_byte (shr_z (pair c d (weight weights 2) (weight weights 3) -ℤ pos 16320 +ℤ pair b e (weight weights 1) (weight weights 4)) 128 +ℤ pos 128)
+    → clamp_to_byte (floor_div (pair c d (weight weights 2) (weight weights 3) -ℤ pos 16320 +ℤ pair b e (weight weights 1) (weight weights 4)) 128 +ℤ pos 128)
     ≡ filtered_pixel weights a b c d e f
 inner_is weights a b c d e f first last =
     let s : ℤ = pair c d (weight weights 2) (weight weights 3) -ℤ pos 16320 +ℤ pair b e (weight weights 1) (weight weights 4) in
     let none : pair a f (weight weights 0) (weight weights 5) ≡ pos 0 = pair_same a f a f _ _ (pos 0) (pos 0) refl refl first last ∙ (let z : pair a f (pos 0) (pos 0) ≡ pos 0 = omega (arith, ints) in z) in
     let same : s ≡ s +ℤ pair a f (weight weights 0) (weight weights 5) = omega (arith, ints) in
-    ap (λ (z : ℤ). clamp_to_byte (shr_z z 128 +ℤ pos 128)) same ∙ whole_is weights a b c d e f
+    ap (λ (z : ℤ). clamp_to_byte (floor_div z 128 +ℤ pos 128)) same ∙ whole_is weights a b c d e f
 
 pub middle_is : (weights : List ℤ) (a b c d e f : ℕ) → weight weights 0 ≡ pos 0 → weight weights 1 ≡ pos 0 → weight weights 4 ≡ pos 0 → weight weights 5 ≡ pos 0
-    → clamp_to_byte (shr_z (pair c d (weight weights 2) (weight weights 3) -ℤ pos 16320) 128 +ℤ pos 128)
+    → clamp_to_byte (floor_div (pair c d (weight weights 2) (weight weights 3) -ℤ pos 16320) 128 +ℤ pos 128)
     ≡ filtered_pixel weights a b c d e f
 middle_is weights a b c d e f first second fifth last =
     let s : ℤ = pair c d (weight weights 2) (weight weights 3) -ℤ pos 16320 in
     let none : pair b e (weight weights 1) (weight weights 4) ≡ pos 0 = pair_same b e b e _ _ (pos 0) (pos 0) refl refl second fifth ∙ (let z : pair b e (pos 0) (pos 0) ≡ pos 0 = omega (arith, ints) in z) in
     let same : s ≡ s +ℤ pair b e (weight weights 1) (weight weights 4) = omega (arith, ints) in
-    ap (λ (z : ℤ). clamp_to_byte (shr_z z 128 +ℤ pos 128)) same ∙ inner_is weights a b c d e f first last
+    ap (λ (z : ℤ). clamp_to_byte (floor_div z 128 +ℤ pos 128)) same ∙ inner_is weights a b c d e f first last
 
 -- ---- the weights of the table
 pub six_taps-gentle : (eighths : ℕ) → 0 < eighths → eighths < 8 → SumsFitI16 (six_taps eighths)

@@ -3,7 +3,7 @@
 use Rattle.std.specs.Prelude.{ℕ, ℤ, pos, ◌-◌, ◌*◌, ◌+ℤ◌, ◌*ℤ◌, ◌==◌, List, [], ◌∷◌, slice_index_or, unsigned_abs}
 use Rattle.std.specs.Prelude.{if◌then◌else◌}
 use Rattle.std.specs.Int.{int_min, int_max}
-use lib.Signed.{shr_z}
+use lib.Signed.{shr_z as floor_div}
 use Rattle.vp_tables.specs.Tables.{six_taps}
 
 -- filter weights of the pixels at offsets -2 to 3, by version and eighths of a pixel: version 0 has six taps, the
@@ -26,7 +26,7 @@ weighed weights a b c d e f =
 
 -- the filtered pixel: 128ths of the weighted sum, rounded to the nearest, halves up, and clamped
 unfoldable pub filtered_pixel : List ℤ → ℕ → ℕ → ℕ → ℕ → ℕ → ℕ → ℕ
-filtered_pixel weights a b c d e f = clamp_to_pixel (shr_z (weighed weights a b c d e f +ℤ pos 64) 128)
+filtered_pixel weights a b c d e f = clamp_to_pixel (floor_div (weighed weights a b c d e f +ℤ pos 64) 128)
 
 -- the filtered pixel of pixel 0 to pixel 5
 abbrev pub filter_six : List ℤ → (ℕ → ℕ) → ℕ

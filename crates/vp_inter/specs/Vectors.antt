@@ -4,12 +4,12 @@ use Rattle.std.specs.Prelude.{ℕ, ◌==◌, ℤ, pos, negsuc, ◌+ℤ◌, ◌-�
 use Rattle.std.specs.Prelude.{if◌then◌else◌}
 use Rattle.std.specs.Int.{int_rem_euclid}
 use Rattle.std.specs.Int.RustNames.{int_div}
-use lib.Signed.{shr_z, lt_z}
+use lib.Signed.{shr_z as floor_div, lt_z}
 use Rattle.vp_inter.specs.declared.vector.PlaneVector.{PlaneVector}
 
 -- the whole pixels of a number of eighths, rounded down, and the remaining eighths, 0 to 7
 unfoldable pub whole_pixels : ℤ → ℤ
-whole_pixels eighths = shr_z eighths 8
+whole_pixels eighths = floor_div eighths 8
 
 unfoldable pub fraction : ℤ → ℕ
 fraction eighths = unsigned_abs (int_rem_euclid eighths (pos 8))

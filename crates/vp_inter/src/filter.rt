@@ -2,7 +2,7 @@
 
 ghost use Rattle.std.specs.Prelude.{◌≡◌, ℕ, ℤ, pos, negsuc, ◌+◌, ◌*◌, ◌<◌, ◌≤◌, ◌*ℤ◌, ◌+ℤ◌, ◌-ℤ◌, ◌≤ℤ◌, length};
 ghost use Rattle.std.specs.Prelude.{slice_index, IsTrue};
-ghost use lib.Signed.{shr_z};
+ghost use lib.Signed.{shr_z as floor_div};
 ghost use Rattle.vp_lanes.specs.Lane.{lane, clamp_to_byte};
 ghost use Rattle.vp_inter.specs.Filter.{taps, filter_six};
 ghost use Rattle.vp_inter.specs.Narrow.{IsFrom, IsShort, pair, sum_of_two, sum_of_four, sum_of_six, weight};
@@ -89,7 +89,7 @@ fn more<const N: usize>(
 /// The filtered pixels: 128ths of the sums, rounded down, with the bias restored, and clamped to 0 to 255.
 pub(crate) fn rounded_pixels<const N: usize>(sum: Simd<i16, N>) -> Simd<u8, N>
     requires { N ≤ 16 }
-    ensures { (j : ℕ) → j < N → slice_index result j ≡ clamp_to_byte (shr_z (lane sum.entry j) 128 +ℤ pos 128) }
+    ensures { (j : ℕ) → j < N → slice_index result j ≡ clamp_to_byte (floor_div (lane sum.entry j) 128 +ℤ pos 128) }
 {
     ((sum >> 7).simd_clamp(Simd::splat(-128), Simd::splat(127)) + Simd::splat(128)).cast::<u8>()
 }

@@ -35,12 +35,12 @@ unfoldable pub avg3 : ℕ → ℕ → ℕ → ℕ
 avg3 x y z = (x + 2 * y + z + 2) / 4
 
 -- the mean of pixels k and k + 1
-abbrev pub two : List ℕ → ℕ → ℕ
-two es k = avg2 (slice_index es k) (slice_index es (k + 1))
+abbrev pub avg2_at : List ℕ → ℕ → ℕ
+avg2_at es k = avg2 (slice_index es k) (slice_index es (k + 1))
 
 -- the weighted mean of pixels k - 1, k and k + 1
-abbrev pub about : List ℕ → ℕ → ℕ
-about es k = avg3 (slice_index es (k - 1)) (slice_index es k) (slice_index es (k + 1))
+abbrev pub avg3_at : List ℕ → ℕ → ℕ
+avg3_at es k = avg3 (slice_index es (k - 1)) (slice_index es k) (slice_index es (k + 1))
 
 -- the sixteen pixels of a subblock in raster order
 abbrev pub sixteen : (ℕ → ℕ → ℕ) → List ℕ
@@ -50,32 +50,32 @@ sixteen f = map (λ i. f (i / 4) (i % 4)) (range_with_len 0 16)
 abbrev pub predicted : SubMode → List ℕ → List ℕ
 predicted Dc es = replicate 16 ((sum (take 4 es) + sum (take 4 (drop 5 es)) + 4) / 8)
 predicted Tm es = sixteen (λ r c. clamped_pixel (slice_index es (3 - r)) (slice_index es (5 + c)) (slice_index es 4))
-predicted Ve es = sixteen (λ r c. about es (5 + c))
+predicted Ve es = sixteen (λ r c. avg3_at es (5 + c))
 predicted He es =
-    sixteen (λ r c. if r == 3 then avg3 (slice_index es 1) (slice_index es 0) (slice_index es 0) else about es (3 - r))
+    sixteen (λ r c. if r == 3 then avg3 (slice_index es 1) (slice_index es 0) (slice_index es 0) else avg3_at es (3 - r))
 predicted Ld es =
-    sixteen (λ r c. if r + c == 6 then avg3 (slice_index es 11) (slice_index es 12) (slice_index es 12) else about es (6
+    sixteen (λ r c. if r + c == 6 then avg3 (slice_index es 11) (slice_index es 12) (slice_index es 12) else avg3_at es (6
     + r + c))
-predicted Rd es = sixteen (λ r c. about es ((4 - r) + c))
+predicted Rd es = sixteen (λ r c. avg3_at es ((4 - r) + c))
 predicted Vr es =
-    two es 4 ∷ two es 5 ∷ two es 6 ∷ two es 7 ∷
-    about es 4 ∷ about es 5 ∷ about es 6 ∷ about es 7 ∷
-    about es 3 ∷ two es 4 ∷ two es 5 ∷ two es 6 ∷
-    about es 2 ∷ about es 4 ∷ about es 5 ∷ about es 6 ∷ []
+    avg2_at es 4 ∷ avg2_at es 5 ∷ avg2_at es 6 ∷ avg2_at es 7 ∷
+    avg3_at es 4 ∷ avg3_at es 5 ∷ avg3_at es 6 ∷ avg3_at es 7 ∷
+    avg3_at es 3 ∷ avg2_at es 4 ∷ avg2_at es 5 ∷ avg2_at es 6 ∷
+    avg3_at es 2 ∷ avg3_at es 4 ∷ avg3_at es 5 ∷ avg3_at es 6 ∷ []
 predicted Vl es =
-    two es 5 ∷ two es 6 ∷ two es 7 ∷ two es 8 ∷
-    about es 6 ∷ about es 7 ∷ about es 8 ∷ about es 9 ∷
-    two es 6 ∷ two es 7 ∷ two es 8 ∷ about es 10 ∷
-    about es 7 ∷ about es 8 ∷ about es 9 ∷ about es 11 ∷ []
+    avg2_at es 5 ∷ avg2_at es 6 ∷ avg2_at es 7 ∷ avg2_at es 8 ∷
+    avg3_at es 6 ∷ avg3_at es 7 ∷ avg3_at es 8 ∷ avg3_at es 9 ∷
+    avg2_at es 6 ∷ avg2_at es 7 ∷ avg2_at es 8 ∷ avg3_at es 10 ∷
+    avg3_at es 7 ∷ avg3_at es 8 ∷ avg3_at es 9 ∷ avg3_at es 11 ∷ []
 predicted Hd es =
-    two es 3 ∷ about es 4 ∷ about es 5 ∷ about es 6 ∷
-    two es 2 ∷ about es 3 ∷ two es 3 ∷ about es 4 ∷
-    two es 1 ∷ about es 2 ∷ two es 2 ∷ about es 3 ∷
-    two es 0 ∷ about es 1 ∷ two es 1 ∷ about es 2 ∷ []
+    avg2_at es 3 ∷ avg3_at es 4 ∷ avg3_at es 5 ∷ avg3_at es 6 ∷
+    avg2_at es 2 ∷ avg3_at es 3 ∷ avg2_at es 3 ∷ avg3_at es 4 ∷
+    avg2_at es 1 ∷ avg3_at es 2 ∷ avg2_at es 2 ∷ avg3_at es 3 ∷
+    avg2_at es 0 ∷ avg3_at es 1 ∷ avg2_at es 1 ∷ avg3_at es 2 ∷ []
 predicted Hu es =
-    two es 2 ∷ about es 2 ∷ two es 1 ∷ about es 1 ∷
-    two es 1 ∷ about es 1 ∷ two es 0 ∷ avg3 (slice_index es 1) (slice_index es 0) (slice_index es 0) ∷
-    two es 0 ∷ avg3 (slice_index es 1) (slice_index es 0) (slice_index es 0) ∷ slice_index es 0 ∷ slice_index es 0 ∷
+    avg2_at es 2 ∷ avg3_at es 2 ∷ avg2_at es 1 ∷ avg3_at es 1 ∷
+    avg2_at es 1 ∷ avg3_at es 1 ∷ avg2_at es 0 ∷ avg3 (slice_index es 1) (slice_index es 0) (slice_index es 0) ∷
+    avg2_at es 0 ∷ avg3 (slice_index es 1) (slice_index es 0) (slice_index es 0) ∷ slice_index es 0 ∷ slice_index es 0 ∷
     slice_index es 0 ∷ slice_index es 0 ∷ slice_index es 0 ∷ slice_index es 0 ∷ []
 
 -- the ten modes in order

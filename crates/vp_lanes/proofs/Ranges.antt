@@ -2,7 +2,7 @@
 use Rattle.std.proofs.Common.{◌≡◌, ◌*◌, ◌≤◌, arith, ℤ, pos, negsuc, ◌*ℤ◌, ◌≤ℤ◌, unsigned_abs}
 use Rattle.std.proofs.lemmas.Int.{ints, clamps, unsigned_abs-mul}
 use Rattle.std.proofs.Math.Nat.{mul-le-mul_left}
-use lib.Signed.{shr_z}
+use lib.Signed.{shr_z as floor_div}
 use Rattle.vp_lanes.specs.Lane.{clamp_to_i8}
 
 -- ---- ranges
@@ -12,7 +12,7 @@ InByte z = (negsuc 127 ≤ℤ z) × (z ≤ℤ pos 127)
 pub clamp8_in : (z : ℤ) → InByte (clamp_to_i8 z)
 clamp8_in z = (omega (arith, ints, clamps), omega (arith, ints, clamps))
 
-pub eighth_in : (z : ℤ) → InByte z → InByte (shr_z z 8)
+pub eighth_in : (z : ℤ) → InByte z → InByte (floor_div z 8)
 eighth_in (pos n) p = (omega (arith, ints), omega (arith, ints))
 eighth_in (negsuc n) p = (omega (arith, ints), omega (arith, ints))
 

@@ -2,7 +2,7 @@
 use Rattle.std.proofs.Common.{◌≡◌, ℕ, ◌+◌, ◌-◌, ◌*◌, ◌%◌, ◌^◌, ◌<◌, true, false, cond, List, map, length, get_or, replicate, refl, sym, ◌∙◌, subst, arith, ℤ, pos, negsuc, ◌+ℤ◌, ◌-ℤ◌, ◌*ℤ◌, ◌≤ℤ◌, to_z, of_z, Fits, w8, w32, FitsSigned}
 use Rattle.std.proofs.lemmas.Int.{ints, to_z-of_z, to_z_pos, wrapping_add-bits, wrapping_sub-bits, wrapping_mul-bits, int_wrap_fits}
 use lib.Lanes.{zip2, top, Each1}
-use lib.Signed.{lt_z, shr_z, mag_shr, mag}
+use lib.Signed.{lt_z, shr_z as floor_div, mag_shr, mag}
 use mir.Syntax.{signed, unsigned, shr, cast, wrap_add, wrap_sub, wrap_mul}
 use mir.Val.{Val, SFits}
 use mir.ValLaws.{of_z_fits, to_z-Fits}
@@ -56,14 +56,14 @@ module _ {m n : ℕ} {a b : ℤ} (p : Stands m a) (q : Stands n b) where
       let ea : to_z w32 m ≡ a = p.is in let eb : to_z w32 n ≡ b = q.is in
       rw (ea, eb) (elim (lt_z a b) as (λ t. top 31 (cond t 4294967295 0) ≡ t) [ true ↦ refl | false ↦ refl ])
 
-shr_fits : (z : ℤ) (k : ℕ) → SFits w32 z → SFits w32 (shr_z z k)
+shr_fits : (z : ℤ) (k : ℕ) → SFits w32 z → SFits w32 (floor_div z k)
 shr_fits z k p = let h : mag z < 2 ^ 31 = p.sfits in record { sfits = omega (arith, mag_shr z k) }
 
 pub sfits_from : (n : ℕ) (z : ℤ) → Stands n z → SFits w32 z
 sfits_from n z p = subst (SFits w32) p.is (to_z-Fits w32 n (record { fits = p.small }))
 
-pub stands_shr : (m : ℕ) (a : ℤ) (k : ℕ) → Stands m a → Stands (of_z w32 (shr_z (to_z w32 m) k)) (shr_z a k)
-stands_shr m a k p = let e : to_z w32 m ≡ a = p.is in rw e (stands_of (shr_z a k) (shr_fits a k (sfits_from m a p)))
+pub stands_shr : (m : ℕ) (a : ℤ) (k : ℕ) → Stands m a → Stands (of_z w32 (floor_div (to_z w32 m) k)) (floor_div a k)
+stands_shr m a k p = let e : to_z w32 m ≡ a = p.is in rw e (stands_of (floor_div a k) (shr_fits a k (sfits_from m a p)))
 
 -- ---- vectors
 pub record Signed (n : ℕ) (Z : ℕ → ℤ) (xs : List ℕ) : Type 0 where
@@ -100,8 +100,8 @@ module _ {n : ℕ} {Z Y : ℕ → ℤ} {xs ys : List ℕ} (p : Signed n Z xs) (q
 
 module _ {n : ℕ} {Z : ℕ → ℤ} {xs : List ℕ} (p : Signed n Z xs) where
   -- `>> k`
-  pub signed_shr : (k : ℕ) → Signed n (λ i. shr_z (Z i) (2 ^ k)) (zip2 (act2 (shr signed) (s_int w32) (s_int w32) (s_int w32)) xs (replicate n k))
-  signed_shr k = by_lanes (λ i. shr_z (Z i) (2 ^ k)) (zipped (act2 (shr signed) (s_int w32) (s_int w32) (s_int w32)) (lanes_of 0 n xs p.long) (splatted n k)) (λ j h. stands_shr (get_or xs j 0) (Z j) (2 ^ k) (p.at j h))
+  pub signed_shr : (k : ℕ) → Signed n (λ i. floor_div (Z i) (2 ^ k)) (zip2 (act2 (shr signed) (s_int w32) (s_int w32) (s_int w32)) xs (replicate n k))
+  signed_shr k = by_lanes (λ i. floor_div (Z i) (2 ^ k)) (zipped (act2 (shr signed) (s_int w32) (s_int w32) (s_int w32)) (lanes_of 0 n xs p.long) (splatted n k)) (λ j h. stands_shr (get_or xs j 0) (Z j) (2 ^ k) (p.at j h))
 
   -- the lanes as a caller sees them
   pub signed_out : (j : ℕ) → j < n → lane (map (to_z w32) xs) j ≡ Z j

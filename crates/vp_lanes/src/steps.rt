@@ -5,7 +5,7 @@
 ghost use Rattle.std.specs.Prelude.{◌≡◌, ℕ, ◌+◌, ◌-◌, ◌*◌, ◌/◌, ◌≤◌, ◌<◌, ◌+ℤ◌, ◌-ℤ◌, ◌*ℤ◌, ◌==◌, ◌&&◌, pos, cond};
 ghost use Rattle.std.specs.Prelude.{slice_index, nat_le, nat_lt, min, max};
 ghost use Rattle.std.specs.Int.{abs_diff};
-ghost use lib.Signed.{shr_z};
+ghost use lib.Signed.{shr_z as floor_div};
 ghost use Rattle.vp_lanes.specs.Lane.{biased, clamp_to_i8, clamp_to_byte};
 
 use std::simd::prelude::*;
@@ -65,7 +65,7 @@ pub fn filter_value(w: u8x16, x: u8x16, y: u8x16) -> u8x16
 /// `a + by` clamped to 127, then divided by 8, rounded down. `a` has bias 128, the result 16.
 pub fn eighth(a: u8x16, by: u8) -> u8x16
     requires { by ≤ 4 }
-    ensures value { (j : ℕ) → j < 16 → biased 16 result j ≡ shr_z (clamp_to_i8 (biased 128 a j +ℤ pos by)) 8 }
+    ensures value { (j : ℕ) → j < 16 → biased 16 result j ≡ floor_div (clamp_to_i8 (biased 128 a j +ℤ pos by)) 8 }
     ensures range { (j : ℕ) → j < 16 → slice_index result j < 32 }
 {
     saturating_sum(a, u8x16::splat(by)) >> 3
@@ -74,7 +74,7 @@ pub fn eighth(a: u8x16, by: u8) -> u8x16
 /// `(f + 1) / 2`, rounded down. `f` has bias 16, the result 8.
 pub fn half(f: u8x16) -> u8x16
     requires { (j : ℕ) → j < 16 → slice_index f j < 32 }
-    ensures { (j : ℕ) → j < 16 → biased 8 result j ≡ shr_z (biased 16 f j +ℤ pos 1) 2 }
+    ensures { (j : ℕ) → j < 16 → biased 8 result j ≡ floor_div (biased 16 f j +ℤ pos 1) 2 }
 {
     (f + u8x16::splat(1)) >> 1
 }
@@ -83,7 +83,7 @@ pub fn half(f: u8x16) -> u8x16
 /// has bias 128, the result `k`.
 pub fn weighted_filter_value(w: u8x16, k: u8) -> u8x16
     requires { k ≤ 27 }
-    ensures { (j : ℕ) → j < 16 → biased k result j ≡ clamp_to_i8 (shr_z (biased 128 w j *ℤ pos k +ℤ pos 63) 128) }
+    ensures { (j : ℕ) → j < 16 → biased k result j ≡ clamp_to_i8 (floor_div (biased 128 w j *ℤ pos k +ℤ pos 63) 128) }
 {
     ((w.cast::<u16>() * u16x16::splat(k as u16) + u16x16::splat(63)) >> 7).cast::<u8>()
 }

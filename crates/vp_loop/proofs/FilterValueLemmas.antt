@@ -3,7 +3,7 @@ use Rattle.std.proofs.Common.{◌≡◌, ℕ, ◌*◌, ◌<◌, ◌≤◌, ap, a
 use Rattle.std.proofs.lemmas.Int.{ints, unsigned_abs-mul}
 use Rattle.std.proofs.Math.Nat.{mul-le-mul_left}
 use mir.Val.{SFits}
-use lib.Signed.{shr_z}
+use lib.Signed.{shr_z as floor_div}
 use Rattle.vp_loop.specs.LineSteps.{signed, pixel_from}
 use Rattle.vp_lanes.proofs.Ranges.{InByte}
 use Rattle.vp_loop.proofs.Shift.{same, same_is, shift_is, fits_byte}
@@ -33,14 +33,14 @@ rounded_same z p q = omega (arith, ints)
 
 -- a weighted pull, as the code computes it
 pub shared : (w k : ℤ) → InByte w → pos 0 ≤ℤ k → k ≤ℤ pos 27
-    → same (shr_z (same (same (same w *ℤ same k) +ℤ pos 63)) 128) ≡ shr_z (w *ℤ k +ℤ pos 63) 128
+    → same (floor_div (same (same (same w *ℤ same k) +ℤ pos 63)) 128) ≡ floor_div (w *ℤ k +ℤ pos 63) 128
 shared w k p q r =
     let b = product_in w k p q r in
     let e : same w *ℤ same k ≡ w *ℤ k = ap₂ (λ x y. x *ℤ y) (same_is w p) (let z : same k ≡ k = omega (arith, ints) in z) in
     let s : same (same (same w *ℤ same k) +ℤ pos 63) ≡ w *ℤ k +ℤ pos 63 = ap (λ z. same (same z +ℤ pos 63)) e ∙ rounded_same (w *ℤ k) b.0 b.1 in
     let f : SFits w32 (w *ℤ k +ℤ pos 63) = fits_byte (w *ℤ k +ℤ pos 63) (omega (arith, ints, b.0)) (omega (arith, ints, b.1)) in
     let t : same (w *ℤ k +ℤ pos 63) ≡ w *ℤ k +ℤ pos 63 = rounded_once (w *ℤ k) b.0 b.1 in
-    ap (λ z. same (shr_z z 128)) (s ∙ sym t) ∙ shift_is (w *ℤ k +ℤ pos 63) 128 f
+    ap (λ z. same (floor_div z 128)) (s ∙ sym t) ∙ shift_is (w *ℤ k +ℤ pos 63) 128 f
   where
     rounded_once : (z : ℤ) → negsuc 3455 ≤ℤ z → z ≤ℤ pos 3456 → same (z +ℤ pos 63) ≡ z +ℤ pos 63
     rounded_once z p q = omega (arith, ints)

@@ -2,7 +2,7 @@
 use Rattle.std.proofs.Common.{◌≡◌, ℕ, ◌<◌, Bool, true, false, cond, ◌&&◌, ◌||◌, nat_le, nat_lt, max, refl, ap, ap₂, ◌∙◌, arith, ℤ, pos, ◌+ℤ◌, ◌-ℤ◌, ◌*ℤ◌, unsigned_abs}
 use Rattle.std.proofs.lemmas.Int.{ints, clamps}
 use Rattle.std.specs.Int.{int_min, int_max}
-use lib.Signed.{shr_z}
+use lib.Signed.{shr_z as floor_div}
 use Rattle.vp_lanes.specs.Lane.{clamp_to_byte}
 use Rattle.vp_loop.specs.declared.lines.Line.{Line}
 use Rattle.vp_loop.specs.LineSteps.{clamp8, signed, pixel_from, filter_value, eighth, outer_tap_adjustment, weighted_filter_value, common_adjusted, subblock_edge_filtered, macroblock_edge_filtered}
@@ -53,13 +53,13 @@ module _ (m outer : Bool) (l : Line) where
   lane_pull = cond m (clamp8 (cond outer (clamp8 (pos l.p1 -ℤ pos l.q1)) (pos 0) +ℤ pos 3 *ℤ (pos l.q0 -ℤ pos l.p0))) (pos 0)
 
   abbrev pub lane_eighth : ℤ → ℤ
-  lane_eighth k = shr_z (clamp8 (lane_pull +ℤ k)) 8
+  lane_eighth k = floor_div (clamp8 (lane_pull +ℤ k)) 8
 
   abbrev pub lane_half : ℤ
-  lane_half = cond outer (pos 0) (shr_z (lane_eighth (pos 4) +ℤ pos 1) 2)
+  lane_half = cond outer (pos 0) (floor_div (lane_eighth (pos 4) +ℤ pos 1) 2)
 
   abbrev pub lane_share : ℤ → ℤ
-  lane_share k = clamp8 (shr_z (lane_pull *ℤ k +ℤ pos 63) 128)
+  lane_share k = clamp8 (floor_div (lane_pull *ℤ k +ℤ pos 63) 128)
 
 pull_is : (outer : Bool) (l : Line) → lane_pull true outer l ≡ filter_value outer l
 pull_is outer l = ap₂ (λ x y. clamp8 (cond outer (clamp8 x) (pos 0) +ℤ pos 3 *ℤ y)) (apart_is l.p1 l.q1) (apart_is l.q0 l.p0)
@@ -68,14 +68,14 @@ eighth_is : (outer : Bool) (l : Line) (k : ℤ) → lane_eighth true outer l k �
 eighth_is outer l k = ap (λ a. eighth a k) (pull_is outer l)
 
 half_is : (outer : Bool) (l : Line) → lane_half true outer l ≡ outer_tap_adjustment outer l
-half_is outer l = ap (λ f. cond outer (pos 0) (shr_z (f +ℤ pos 1) 2)) (eighth_is outer l (pos 4))
+half_is outer l = ap (λ f. cond outer (pos 0) (floor_div (f +ℤ pos 1) 2)) (eighth_is outer l (pos 4))
 
 half_zero : (outer : Bool) (l : Line) → lane_half false outer l ≡ pos 0
 half_zero true l = refl
 half_zero false l = refl
 
 share_is : (l : Line) (k : ℤ) → lane_share true true l k ≡ weighted_filter_value k l
-share_is l k = ap (λ w. clamp8 (shr_z (w *ℤ k +ℤ pos 63) 128)) (pull_is true l)
+share_is l k = ap (λ w. clamp8 (floor_div (w *ℤ k +ℤ pos 63) 128)) (pull_is true l)
 
 -- the simple step
 abbrev pub lane_drawn : Bool → Line → Line

@@ -5,7 +5,7 @@ use Rattle.std.proofs.lemmas.Bool.{eqb-true}
 use Rattle.std.proofs.Math.Nat.{pow-succ'}
 use lib.Dec.{eqb}
 use lib.Lanes.{mask_l, zip2}
-use lib.Signed.{shr_z}
+use lib.Signed.{shr_z as floor_div}
 use Rattle.vp_lanes.specs.Lane.{clamp_to_byte}
 use Rattle.vp_lanes.proofs.Bytes.{splat_lane}
 use Rattle.vp_loop.specs.declared.lines.Line.{Line}
@@ -59,10 +59,10 @@ by_two P b c d e f (suc (suc (suc (suc zero)))) h = f
 by_two P b c d e f (suc (suc (suc (suc (suc k))))) h = absurd (omega arith)
 
 abbrev pub HasNoEighth : ℤ → Type 0
-HasNoEighth z = (shr_z (clamp8 (z +ℤ pos 3)) 8 ≡ pos 0) × (shr_z (clamp8 (z +ℤ pos 4)) 8 ≡ pos 0)
+HasNoEighth z = (floor_div (clamp8 (z +ℤ pos 3)) 8 ≡ pos 0) × (floor_div (clamp8 (z +ℤ pos 4)) 8 ≡ pos 0)
 
 abbrev share : ℤ → ℤ → ℤ
-share z k = clamp8 (shr_z (z *ℤ k +ℤ pos 63) 128)
+share z k = clamp8 (floor_div (z *ℤ k +ℤ pos 63) 128)
 
 abbrev pub HasNoShare : ℤ → Type 0
 HasNoShare z = (share z (pos 9) ≡ pos 0) × (share z (pos 18) ≡ pos 0) × (share z (pos 27) ≡ pos 0)
@@ -109,7 +109,7 @@ drawn_none m l b0 c0 none =
 
 pub inner_none : (m high : Bool) (l : Line) → l.p1 < 256 → l.p0 < 256 → l.q0 < 256 → l.q1 < 256 → HasNoEighth (lane_pull m high l) → l ≡ cond m (subblock_edge_filtered high l) l
 inner_none m high l b1 b0 c0 c1 none =
-    let half : lane_half m high l ≡ pos 0 = either_none high (pos 0) (shr_z (lane_eighth m high l (pos 4) +ℤ pos 1) 2) refl (ap (λ z. shr_z (z +ℤ pos 1) 2) none.1) in
+    let half : lane_half m high l ≡ pos 0 = either_none high (pos 0) (floor_div (lane_eighth m high l (pos 4) +ℤ pos 1) 2) refl (ap (λ z. floor_div (z +ℤ pos 1) 2) none.1) in
     let e1 = up_none l.p1 (lane_half m high l) b1 half in
     let e0 = up_none l.p0 (lane_eighth m high l (pos 3)) b0 none.0 in
     let f0 = down_none l.q0 (lane_eighth m high l (pos 4)) c0 none.1 in

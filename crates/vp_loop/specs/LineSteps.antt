@@ -4,7 +4,7 @@
 use Rattle.std.specs.Prelude.{ℕ, ℤ, pos, negsuc, Bool, cond, ◌+◌, ◌*◌, ◌/◌, ◌+ℤ◌, ◌-ℤ◌, ◌*ℤ◌, ◌&&◌, ◌||◌, nat_le}
 use Rattle.std.specs.Prelude.{nat_lt, unsigned_abs}
 use Rattle.std.specs.Int.{abs_diff, int_min, int_max}
-use lib.Signed.{shr_z}
+use lib.Signed.{shr_z as floor_div}
 use Rattle.vp_loop.specs.declared.lines.Line.{Line}
 use Rattle.vp_loop.specs.declared.lines.LineStep.{LineStep}
 use Rattle.vp_loop.specs.declared.lines.EdgeKind.TheVariants.{Simple, Inner, Macroblock}
@@ -42,7 +42,7 @@ filter_value outer l = clamp8 (cond outer (clamp8 (signed l.p1 -ℤ signed l.q1)
 
 -- (a + by) / 8, clamped before and rounded down
 abbrev pub eighth : ℤ → ℤ → ℤ
-eighth a by = shr_z (clamp8 (a +ℤ by)) 8
+eighth a by = floor_div (clamp8 (a +ℤ by)) 8
 
 -- p0 and q0 adjusted by an eighth of the filter value (`common_adjust`)
 abbrev pub common_adjusted : Bool → Line → Line
@@ -53,7 +53,7 @@ common_adjusted outer l = record l {
 
 -- the adjustment of p1 and q1 at a subblock edge: half of the adjustment of q0, or 0 if there is high edge variance
 abbrev pub outer_tap_adjustment : Bool → Line → ℤ
-outer_tap_adjustment high l = cond high (pos 0) (shr_z (eighth (filter_value high l) (pos 4) +ℤ pos 1) 2)
+outer_tap_adjustment high l = cond high (pos 0) (floor_div (eighth (filter_value high l) (pos 4) +ℤ pos 1) 2)
 
 -- a filtered line across a subblock edge (`subblock_filter`)
 abbrev pub subblock_edge_filtered : Bool → Line → Line
@@ -64,7 +64,7 @@ subblock_edge_filtered high l = record (common_adjusted high l) {
 
 -- k / 128 of the filter value, rounded to the nearest and clamped
 abbrev pub weighted_filter_value : ℤ → Line → ℤ
-weighted_filter_value k l = clamp8 (shr_z (filter_value Bool.true l *ℤ k +ℤ pos 63) 128)
+weighted_filter_value k l = clamp8 (floor_div (filter_value Bool.true l *ℤ k +ℤ pos 63) 128)
 
 -- a filtered line across a macroblock edge (`MBfilter`)
 abbrev pub macroblock_edge_filtered : Bool → Line → Line

@@ -3,7 +3,7 @@
 ghost use Rattle.std.specs.Prelude.{◌≡◌, ℕ, ℤ, ◌+◌, ◌*◌, ◌/◌, ◌≤◌, ◌≤ℤ◌, ◌+ℤ◌, ◌-ℤ◌, ◌*ℤ◌, pos, negsuc, cond, nat_le};
 ghost use Rattle.std.specs.Prelude.{nat_lt, ◌&&◌, ◌||◌, Bool, true};
 ghost use Rattle.std.specs.Int.{abs_diff};
-ghost use lib.Signed.{shr_z};
+ghost use lib.Signed.{shr_z as floor_div};
 ghost use Rattle.vp_loop.specs.LineSteps.{clamp8, signed, pixel_from, filter_value, eighth, common_adjusted};
 ghost use Rattle.vp_loop.specs.LineSteps.{outer_tap_adjustment, subblock_edge_filtered, weighted_filter_value};
 ghost use Rattle.vp_loop.specs.LineSteps.{macroblock_edge_filtered, is_small_step, is_smooth, is_high, is_changed};
@@ -90,7 +90,7 @@ fn eighth(x: i32, by: i32) -> i32
 /// Half of `x`, rounded up.
 fn half(x: i32) -> i32
     requires { (negsuc 127 ≤ℤ x) × (x ≤ℤ pos 127) }
-    ensures value { result ≡ shr_z (x +ℤ pos 1) 2 }
+    ensures value { result ≡ floor_div (x +ℤ pos 1) 2 }
     ensures range { (negsuc 127 ≤ℤ result) × (result ≤ℤ pos 127) }
 {
     (x + 1) >> 1
@@ -129,7 +129,7 @@ fn filter_value(outer: bool, line: Line) -> i32
 fn weighted_filter_value(weight: i32, w: i32) -> i32
     requires weight { (pos 0 ≤ℤ weight) × (weight ≤ℤ pos 27) }
     requires w { (negsuc 127 ≤ℤ w) × (w ≤ℤ pos 127) }
-    ensures value { result ≡ clamp8 (shr_z (w *ℤ weight +ℤ pos 63) 128) }
+    ensures value { result ≡ clamp8 (floor_div (w *ℤ weight +ℤ pos 63) 128) }
     ensures range { (negsuc 127 ≤ℤ result) × (result ≤ℤ pos 127) }
 {
     clamped((w * weight + 63) >> 7)

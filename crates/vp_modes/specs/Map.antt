@@ -22,16 +22,16 @@ abbrev pub of_segments : Grid ℕ → Grid Modes
 of_segments g = mapped plain_of g
 
 -- the subblock mode that a whole-block luma mode counts as (chapter 11.3)
-abbrev pub like : LumaMode → SubMode
-like luma_is.Dc = sub_is.Dc
-like luma_is.V = sub_is.Ve
-like luma_is.H = sub_is.He
-like luma_is.Tm = sub_is.Tm
-like luma_is.B = sub_is.Dc
+abbrev pub implied_submode : LumaMode → SubMode
+implied_submode luma_is.Dc = sub_is.Dc
+implied_submode luma_is.V = sub_is.Ve
+implied_submode luma_is.H = sub_is.He
+implied_submode luma_is.Tm = sub_is.Tm
+implied_submode luma_is.B = sub_is.Dc
 
 -- the mode of subblock k of a macroblock
 unfoldable pub sub_of : Modes → ℕ → SubMode
-sub_of m k = if is_by_subblocks m.luma then slice_index_or m.subs k sub_is.Dc else like m.luma
+sub_of m k = if is_by_subblocks m.luma then slice_index_or m.subs k sub_is.Dc else implied_submode m.luma
 
 -- The modes above subblock k of the macroblock at p, and to its left. found contains its subblock modes before k.
 -- Outside the frame the mode is DC.

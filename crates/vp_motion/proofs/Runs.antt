@@ -13,7 +13,7 @@ use Rattle.std.specs.Int.{from_bool}
 use Rattle.std.specs.Prelude.{nat_lt}
 use Rattle.vp_head.specs.Reference.{is_intra}
 use Rattle.vp_motion.specs.Map.{intra}
-use Rattle.vp_motion.specs.Near.{from_entries, from_two, first_candidate, weighted_at, clamped_vector, candidates, split_count, splits, same, same_number, still_weight, moving, onto, runs, neighbours, joined, total, nobody, weighted_neighbour, bias_corrected, AreHeavy, IsTally}
+use Rattle.vp_motion.specs.Near.{from_entries, from_two, first_candidate, weighted_at, clamped_vector, candidates, split_count, splits, same, same_number, still_weight, moving, onto, runs, neighbours, joined, total, nobody, weighted_neighbour, bias_corrected, HavePositiveWeights, CountsNeighbours}
 
 -- the last entry, and one more
 pub joined-last : (es : List Weighted) (n : ℕ) (w : Weighted) → length es ≡ n + 1 → same (get_or es n nobody).vector w.vector ≡ true
@@ -55,14 +55,14 @@ total-joined [] w = omega arith
 total-joined (e ∷ []) w = elim (cases_Bool (same e.vector w.vector)) [ inl t ↦ rw t (omega arith) | inr f ↦ rw f (omega arith) ]
 total-joined (e ∷ (f ∷ es)) w = omega (arith, total-joined (f ∷ es) w)
 
-pub heavy-joined : (es : List Weighted) (w : Weighted) → 0 < w.weight → AreHeavy es → AreHeavy (joined es w)
+pub heavy-joined : (es : List Weighted) (w : Weighted) → 0 < w.weight → HavePositiveWeights es → HavePositiveWeights (joined es w)
 unfolding joined
 heavy-joined [] w p h = (p, tt)
 heavy-joined (e ∷ []) w p h = elim (cases_Bool (same e.vector w.vector)) [ inl t ↦ rw t (let q : 0 < e.weight + w.weight = omega arith in (q, tt)) | inr f ↦ rw f (h.0, (p, tt)) ]
 heavy-joined (e ∷ (f ∷ es)) w p h = (h.0, heavy-joined (f ∷ es) w p h.1)
 
 -- Where three entries stand, the first is not all.
-pub first_light : (es : List Weighted) (n : ℕ) → total es ≤ n → AreHeavy es → 2 < length es → (get_or es 0 nobody).weight + 1 ≤ n
+pub first_light : (es : List Weighted) (n : ℕ) → total es ≤ n → HavePositiveWeights es → 2 < length es → (get_or es 0 nobody).weight + 1 ≤ n
 first_light [] n t h l = absurd (omega arith)
 first_light (e ∷ []) n t h l = absurd (omega arith)
 first_light (e ∷ (f ∷ es)) n t h l = let p : 0 < f.weight = h.1.0 in omega arith
@@ -113,12 +113,12 @@ moving-push (v ∷ ws) w = elim (cases_Bool (same v.vector zero_vector)) [
 ]
 
 pub tally-intra : (ws : List Weighted) (count : ℕ) (es : List Weighted) (r : Reference) (b : SignBiases) (n : ℕ) (e : MacroblockMotion) → is_intra e.reference ≡ true
-    → IsTally ws count es → IsTally (ws ++ weighted_neighbour r b n e) count es
+    → CountsNeighbours ws count es → CountsNeighbours (ws ++ weighted_neighbour r b n e) count es
 unfolding weighted_neighbour
 tally-intra ws count es r b n e h t = rw (h, append-nil ws) t
 
 pub tally-still : (ws : List Weighted) (count : ℕ) (es : List Weighted) (r : Reference) (b : SignBiases) (n : ℕ) (e : MacroblockMotion) → is_intra e.reference ≡ false
-    → same (bias_corrected r b e) zero_vector ≡ true → IsTally ws count es → IsTally (ws ++ weighted_neighbour r b n e) (count + n) es
+    → same (bias_corrected r b e) zero_vector ≡ true → CountsNeighbours ws count es → CountsNeighbours (ws ++ weighted_neighbour r b n e) (count + n) es
 unfolding weighted_neighbour
 tally-still ws count es r b n e h s t = rw h (let w : Weighted = record { vector = bias_corrected r b e; weight = n } in record {
   still_ones = ap (λ (k : ℕ). k + n) t.still_ones ∙ sym (still_weight-push ws w ∙ ap (λ (x : Bool). still_weight ws + cond x n 0) s);
@@ -126,20 +126,20 @@ tally-still ws count es r b n e h s t = rw h (let w : Weighted = record { vector
 })
 
 pub tally-moving : (ws : List Weighted) (count : ℕ) (es fs : List Weighted) (r : Reference) (b : SignBiases) (n : ℕ) (e : MacroblockMotion) → is_intra e.reference ≡ false
-    → same (bias_corrected r b e) zero_vector ≡ false → fs ≡ joined es (record { vector = bias_corrected r b e; weight = n }) → IsTally ws count es → IsTally (ws ++ weighted_neighbour r b n e) count fs
+    → same (bias_corrected r b e) zero_vector ≡ false → fs ≡ joined es (record { vector = bias_corrected r b e; weight = n }) → CountsNeighbours ws count es → CountsNeighbours (ws ++ weighted_neighbour r b n e) count fs
 unfolding weighted_neighbour
 tally-moving ws count es fs r b n e h s j t = rw h (let w : Weighted = record { vector = bias_corrected r b e; weight = n } in record {
   still_ones = t.still_ones ∙ sym (still_weight-push ws w ∙ ap (λ (x : Bool). still_weight ws + cond x n 0) s ∙ (let z : still_weight ws + 0 ≡ still_weight ws = omega arith in z));
   entries = j ∙ ap (λ (l : List Weighted). joined l w) t.entries ∙ sym (ap runs (moving-push ws w ∙ ap (λ (x : Bool). cond x (moving ws) (moving ws ++ w ∷ [])) s) ∙ runs-push (moving ws) w);
 })
 
-pub tally-none : IsTally [] 0 []
+pub tally-none : CountsNeighbours [] 0 []
 unfolding still_weight moving runs
 tally-none = record { still_ones = refl; entries = refl }
 
 pub near_is : (g : Grid MacroblockMotion) (place : Place) (r : Reference) (b : SignBiases) (a l k : MacroblockMotion) (count total_splits : ℕ) (es : List Weighted)
     → a ≡ look intra g (above place) → l ≡ look intra g (left place) → k ≡ look intra g (corner place) → total_splits ≡ 2 * from_bool (splits a) + 2 * from_bool (splits l) + from_bool (splits k)
-    → IsTally (([] ++ weighted_neighbour r b 2 a) ++ weighted_neighbour r b 2 l ++ weighted_neighbour r b 1 k) count es
+    → CountsNeighbours (([] ++ weighted_neighbour r b 2 a) ++ weighted_neighbour r b 2 l ++ weighted_neighbour r b 1 k) count es
     → from_entries (clamped_vector g place) count total_splits es ≡ candidates g place r b
 unfolding candidates neighbours split_count
 near_is g place r b a l k count total_splits es p q s n t =

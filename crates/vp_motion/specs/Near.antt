@@ -178,11 +178,11 @@ total [] = 0
 total (w ∷ ws) = w.weight + total ws
 
 -- each weight is at least 1
-abbrev pub AreHeavy : List Weighted → Type 0
-AreHeavy [] = Unit {0}
-AreHeavy (w ∷ ws) = (0 < w.weight) × AreHeavy ws
+abbrev pub HavePositiveWeights : List Weighted → Type 0
+HavePositiveWeights [] = Unit {0}
+HavePositiveWeights (w ∷ ws) = (0 < w.weight) × HavePositiveWeights ws
 
 -- the zero weight and the entries of the neighbours ws
-pub record IsTally (ws : List Weighted) (zeros : ℕ) (es : List Weighted) : Type 0 where
+pub record CountsNeighbours (ws : List Weighted) (zeros : ℕ) (es : List Weighted) : Type 0 where
   pub still_ones : zeros ≡ still_weight ws
   pub entries : es ≡ runs (moving ws)

@@ -6,7 +6,7 @@ ghost use Rattle.std.specs.Int.{from_bool};
 ghost use Rattle.vp_base.specs.Grid.{Has, look};
 ghost use Rattle.vp_motion.specs.Map.{intra};
 ghost use Rattle.vp_motion.specs.Vector.{IsWithin, Vector};
-ghost use Rattle.vp_motion.specs.Near.{AreHeavy, IsTally, bias_of, candidates, clamped, clamped_by, weighted_neighbour};
+ghost use Rattle.vp_motion.specs.Near.{HavePositiveWeights, CountsNeighbours, bias_of, candidates, clamped, clamped_by, weighted_neighbour};
 ghost use Rattle.vp_motion.specs.Near.{weighted_at, first_candidate, from_entries, from_two, joined, same};
 ghost use Rattle.vp_motion.specs.Near.{bias_corrected, splits, total, clamped_vector};
 
@@ -169,7 +169,7 @@ fn join(entries: &mut ArrayVec<Weighted, 3>, weighted: Weighted)
     ensures value { entries.new.items ≡ joined entries.old.items weighted }
     ensures len { length entries.new.items ≤ length entries.old.items + 1 }
     ensures weight { total entries.new.items ≡ total entries.old.items + weighted.weight }
-    ensures heavy { AreHeavy entries.old.items → AreHeavy entries.new.items }
+    ensures heavy { HavePositiveWeights entries.old.items → HavePositiveWeights entries.new.items }
 {
     put(entries, weighted);
 }
@@ -192,13 +192,13 @@ fn consider(
     requires room { length found.old.entries.items < 3 }
     requires light { total found.old.entries.items + found.old.zeros + weight ≤ 255 }
     requires heavy { 0 < weight }
-    ensures tally { (ws : List Weighted) → IsTally ws found.old.zeros found.old.entries.items
-        → IsTally (ws ++ weighted_neighbour reference biases weight neighbour.now) found.new.zeros
+    ensures tally { (ws : List Weighted) → CountsNeighbours ws found.old.zeros found.old.entries.items
+        → CountsNeighbours (ws ++ weighted_neighbour reference biases weight neighbour.now) found.new.zeros
         found.new.entries.items }
     ensures len { length found.new.entries.items ≤ length found.old.entries.items + 1 }
     ensures weight { total found.new.entries.items + found.new.zeros
         ≤ total found.old.entries.items + found.old.zeros + weight }
-    ensures heavy { AreHeavy found.old.entries.items → AreHeavy found.new.entries.items }
+    ensures heavy { HavePositiveWeights found.old.entries.items → HavePositiveWeights found.new.entries.items }
 {
     if !neighbour.reference.is_intra() {
         let vector = seen_vector(reference, biases, neighbour);
@@ -231,7 +231,7 @@ fn entry_at(entries: &ArrayVec<Weighted, 3>, k: usize) -> Weighted
 #[tactic(auto, unfolding(crate::specs::Near::first_candidate))]
 fn first_entry(entries: &ArrayVec<Weighted, 3>) -> Weighted
     requires light { total entries.now.items ≤ 5 }
-    requires heavy { AreHeavy entries.now.items }
+    requires heavy { HavePositiveWeights entries.now.items }
     ensures value { result ≡ first_candidate entries.now.items }
     ensures light { result.weight ≤ 5 }
 {
@@ -274,7 +274,7 @@ fn choose(zeros: u8, splits: u8, entries: &ArrayVec<Weighted, 3>) -> Nearby
     requires zeros { zeros ≤ 5 }
     requires splits { splits ≤ 5 }
     requires light { total entries.now.items ≤ 5 }
-    requires heavy { AreHeavy entries.now.items }
+    requires heavy { HavePositiveWeights entries.now.items }
     ensures value { (clamp : Vector → Vector) → clamped_by clamp result
         ≡ from_entries clamp zeros splits entries.now.items }
     ensures light { (k : ℕ) → slice_index result.counts k < 6 }

@@ -47,10 +47,10 @@ module _ (t : Tokens) (none : t.blocks ≡ no_blocks) (f : Factors) where
       ap (λ (zs : List ℤ). get_or zs i (pos 0)) (residue_none (1 + k) f.y_dc f.y_ac (omega arith)) ∙ get_or-replicate 16 i (pos 0) (pos 0) inside
   luma_nothing true k below i inside =
       let levels : List ℤ = (block_of t (1 + k)).levels in
-      let firsts : luma_firsts t f ≡ replicate 16 (pos 0) =
+      let dc_from_y2 : luma_firsts t f ≡ replicate 16 (pos 0) =
       ap (λ (b : Block). iwht (dequantised b.levels f.y2_dc f.y2_ac)) (block_none 0 (omega arith)) ∙ no_firsts no_tokens no_tokens_is f.y2_dc f.y2_ac refl in
       ap (λ (zs : List ℤ). get_or zs i (pos 0))
-      (ap (λ (zs : List ℤ). idct (set (dequantised levels f.y_dc f.y_ac) 0 (get_or zs k (pos 0)))) firsts
+      (ap (λ (zs : List ℤ). idct (set (dequantised levels f.y_dc f.y_ac) 0 (get_or zs k (pos 0)))) dc_from_y2
       ∙ ap (λ (z : ℤ). idct (set (dequantised levels f.y_dc f.y_ac) 0 z)) (get_or-replicate 16 k (pos 0) (pos 0) below)
       ∙ ap idct (no_first levels f.y_dc f.y_ac)
       ∙ residue_none (1 + k) 0 f.y_ac (omega arith))

@@ -15,7 +15,7 @@ use Rattle.vp_transform.specs.Transform.{idct}
 use Rattle.vp_transform.proofs.Bounds.{idct-within}
 use Rattle.vp_transform.proofs.Eights.{coded16, handed16, passed16, below_eight}
 use Rattle.vp_transform.proofs.Vectors.{short16_fits}
-use Rattle.vp_recon.specs.Rebuilt.{summed, to_byte}
+use Rattle.vp_recon.specs.Rebuilt.{summed, clamp_to_pixel}
 use Rattle.vp_recon.specs.Sums.{HasEqualSums}
 use Rattle.vp_recon.specs.Pairs.{with_added, with_both_added, row_lane, ArePairedRows, AreLow}
 use Rattle.vp_transform.proofs.Vectors.{below_four}
@@ -121,9 +121,9 @@ four_low row a b c d la lb lc ld ea eb ec ed = by_fours (λ i. unsigned_abs (lan
     small : (x z : ℤ) → unsigned_abs z ≤ 255 → x ≡ coded16 z → unsigned_abs x ≤ 8800
     small x z l e = subst (λ (y : ℤ). unsigned_abs y ≤ 8800) (sym (e ∙ short_coded z l)) (omega arith)
 
-to_byte-low : (z : ℤ) → z ≤ℤ pos 0 → to_byte z ≡ 0
-to_byte-low (pos n) low = let e : min n 255 ≡ 0 = omega (arith, ints) in e
-to_byte-low (negsuc n) low = refl
+clamp_to_pixel-low : (z : ℤ) → z ≤ℤ pos 0 → clamp_to_pixel z ≡ 0
+clamp_to_pixel-low (pos n) low = let e : min n 255 ≡ 0 = omega (arith, ints) in e
+clamp_to_pixel-low (negsuc n) low = refl
 
 pub held_sum : (p : ℕ) (y z : ℤ) → p ≤ 255 → y ≡ int_max (negsuc 254) (int_min z (pos 255)) → summed p y ≡ summed p z
 unfolding summed
@@ -135,7 +135,7 @@ held_sum p y (negsuc n) byte e = elim (cases_lt n 255) [
       ap (λ (v : ℤ). summed p v) (e ∙ (let g : int_max (negsuc 254) (int_min (negsuc n) (pos 255)) ≡ negsuc n = omega (arith, ints, clamps) in g))
   | inr far ↦
       ap (λ (v : ℤ). summed p v) (e ∙ (let g : int_max (negsuc 254) (int_min (negsuc n) (pos 255)) ≡ negsuc 254 = omega (arith, ints, clamps) in g))
-      ∙ to_byte-low (pos p +ℤ negsuc 254) (omega (arith, ints)) ∙ sym (to_byte-low (pos p +ℤ negsuc n) (omega (arith, ints)))
+      ∙ clamp_to_pixel-low (pos p +ℤ negsuc 254) (omega (arith, ints)) ∙ sym (clamp_to_pixel-low (pos p +ℤ negsuc n) (omega (arith, ints)))
 ]
 
 -- a number clamped to -255..255

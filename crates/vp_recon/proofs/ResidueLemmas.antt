@@ -94,7 +94,7 @@ pub not_above : (n : ℕ) → nat_lt 0 n ≡ false → n ≡ 0
 not_above n e = grind (arith, nat_tests)
 
 -- a subblock without tokens, whose first coefficient doesn't stand apart
-pub nothing_in : (r : Residues) (k : ℕ) (b : Block) → IsBlock b → b ≡ block_of r.tokens.now (r.first + k) → r.firsts ≡ None → b.tokens ≡ 0 → IsNothing (residue_in r k)
+pub nothing_in : (r : Residues) (k : ℕ) (b : Block) → IsBlock b → b ≡ block_of r.tokens.now (r.first + k) → r.dc_from_y2 ≡ None → b.tokens ≡ 0 → IsNothing (residue_in r k)
 nothing_in r k b is same apart none i below =
     ap (λ (o : Option (Bor (List ℤ))). get_or (idct (with_first o k (dequantised (block_of r.tokens.now (r.first + k)).levels r.dc r.ac))) i (pos 0)) apart
     ∙ ap (λ (a : Block). get_or (idct (dequantised a.levels r.dc r.ac)) i (pos 0)) (sym same)
@@ -119,9 +119,9 @@ module _ (t : Tokens) (f : Factors) where
   luma_plain y2 e k below = plain k ∙ ap (λ (b : Bool). luma_residue b t f k) (sym e)
 
   -- with one, which gives the first coefficients
-  pub luma_after : (y2 : Bool) → y2 ≡ true → (firsts : List ℤ) → firsts ≡ luma_firsts t f → (k : ℕ) → k < 16
-      → idct (set (dequantised (block_of t (1 + k)).levels 0 f.y_ac) 0 (get_or firsts k (pos 0))) ≡ luma_residue y2 t f k
-  luma_after y2 e firsts are k below =
+  pub luma_after : (y2 : Bool) → y2 ≡ true → (dc_from_y2 : List ℤ) → dc_from_y2 ≡ luma_firsts t f → (k : ℕ) → k < 16
+      → idct (set (dequantised (block_of t (1 + k)).levels 0 f.y_ac) 0 (get_or dc_from_y2 k (pos 0))) ≡ luma_residue y2 t f k
+  luma_after y2 e dc_from_y2 are k below =
       ap (λ (zs : List ℤ). idct (set (dequantised (block_of t (1 + k)).levels 0 f.y_ac) 0 (get_or zs k (pos 0)))) are
       ∙ after k ∙ ap (λ (b : Bool). luma_residue b t f k) (sym e)
 

@@ -9,20 +9,20 @@ use Rattle.vp_transform.proofs.Sizes.{fits-below}
 use Rattle.vp_transform.proofs.Words.{coded, read}
 use Rattle.vp_transform.specs.Transform.{idct}
 use Rattle.vp_transform.specs.Short.{cut}
-use Rattle.vp_recon.specs.Rebuilt.{summed, to_byte}
+use Rattle.vp_recon.specs.Rebuilt.{summed, clamp_to_pixel}
 use Rattle.vp_recon.specs.Sums.{HasEqualSums, IsNothing}
 
 pub summed-zero : (p : ℕ) → p ≤ 255 → summed p (pos 0) ≡ p
 unfolding summed
 summed-zero p fits = let e : min (p + 0) 255 ≡ p = omega arith in e
 
-to_byte-low : (z : ℤ) → z ≤ℤ pos 0 → to_byte z ≡ 0
-to_byte-low (pos n) low = let e : min n 255 ≡ 0 = omega (arith, ints) in e
-to_byte-low (negsuc n) low = refl
+clamp_to_pixel-low : (z : ℤ) → z ≤ℤ pos 0 → clamp_to_pixel z ≡ 0
+clamp_to_pixel-low (pos n) low = let e : min n 255 ≡ 0 = omega (arith, ints) in e
+clamp_to_pixel-low (negsuc n) low = refl
 
 summed-low : (p n : ℕ) → p ≤ n + 1 → summed p (negsuc n) ≡ 0
 unfolding summed
-summed-low p n below = to_byte-low (pos p +ℤ negsuc n) (omega (arith, ints))
+summed-low p n below = clamp_to_pixel-low (pos p +ℤ negsuc n) (omega (arith, ints))
 
 pub summed-cut : (p : ℕ) (z : ℤ) → p ≤ 255 → summed p (cut z) ≡ summed p z
 unfolding summed cut
@@ -33,7 +33,7 @@ summed-cut p (negsuc n) fits = elim (cases_lt n 32767) [
 ]
 
 -- ---- in lanes
-lanes_byte : (z : ℤ) → unsigned_abs (int_min (pos 255) (int_max (pos 0) z)) ≡ to_byte z
+lanes_byte : (z : ℤ) → unsigned_abs (int_min (pos 255) (int_max (pos 0) z)) ≡ clamp_to_pixel z
 lanes_byte (pos n) = let e : int_min (pos 255) (int_max (pos 0) (pos n)) ≡ pos (min n 255) = omega (arith, ints, clamps) in ap unsigned_abs e
 lanes_byte (negsuc n) = let e : int_min (pos 255) (int_max (pos 0) (negsuc n)) ≡ pos 0 = omega (arith, ints, clamps) in ap unsigned_abs e
 

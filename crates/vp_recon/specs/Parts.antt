@@ -11,11 +11,11 @@ use Rattle.vp_recon.specs.declared.residue.Residues.{Residues}
 -- the coefficients of subblock k, whose DC coefficient comes from the Y2 block if there is one
 abbrev pub with_first : Option (Bor (List ℤ)) → ℕ → List ℤ → List ℤ
 with_first None k own = own
-with_first (Some firsts) k own = slice_set own 0 (slice_index_or firsts.now k (pos 0))
+with_first (Some dc_from_y2) k own = slice_set own 0 (slice_index_or dc_from_y2.now k (pos 0))
 
 -- the coefficients of subblock k
 abbrev pub coefficients_in : Residues → ℕ → List ℤ
-coefficients_in r k = with_first r.firsts k (dequantised (block_of r.tokens.now (r.first + k)).levels r.dc r.ac)
+coefficients_in r k = with_first r.dc_from_y2 k (dequantised (block_of r.tokens.now (r.first + k)).levels r.dc r.ac)
 
 -- the residue of subblock k
 abbrev pub residue_in : Residues → ℕ → List ℤ
@@ -26,8 +26,8 @@ abbrev pub HasResidues : ℕ → Residues → (ℕ → List ℤ) → Type 0
 HasResidues n r residue = (k : ℕ) → k < n → residue_in r k ≡ residue k
 
 -- DC coefficients from a Y2 block are small enough for the inverse transform in 64 bits
-abbrev pub HasSmallFirsts : Residues → Type 0
-HasSmallFirsts r = (firsts : Bor (List ℤ)) → r.firsts ≡ Some firsts → EachWithin (2 ^ 40) firsts.now
+abbrev pub HasBoundedY2Dc : Residues → Type 0
+HasBoundedY2Dc r = (dc_from_y2 : Bor (List ℤ)) → r.dc_from_y2 ≡ Some dc_from_y2 → EachWithin (2 ^ 40) dc_from_y2.now
 
 -- the AC coefficients of subblock k are 0
 abbrev pub IsAlone : Residues → ℕ → Type 0

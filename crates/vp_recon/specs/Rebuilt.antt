@@ -15,13 +15,13 @@ use Rattle.vp_recon.specs.Prediction.{luma_prediction, chroma_prediction}
 -- ---- a pixel
 
 -- clamps to 0..255
-abbrev pub to_byte : ℤ → ℕ
-to_byte (pos n) = min n 255
-to_byte (negsuc _) = 0
+abbrev pub clamp_to_pixel : ℤ → ℕ
+clamp_to_pixel (pos n) = min n 255
+clamp_to_pixel (negsuc _) = 0
 
 -- a pixel: its prediction plus its residue, clamped
 unfoldable pub summed : ℕ → ℤ → ℕ
-summed prediction residue = to_byte (pos prediction +ℤ residue)
+summed prediction residue = clamp_to_pixel (pos prediction +ℤ residue)
 
 -- the residue at row r and column c of a block that is `across` subblocks wide; `residue k` is that of subblock k in
 -- raster order

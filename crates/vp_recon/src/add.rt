@@ -8,7 +8,7 @@ ghost use Rattle.vp_recon.specs.Residue.{luma_residue, chroma_residue};
 ghost use Rattle.vp_recon.specs.Rebuilt.{summed, residue_at};
 ghost use Rattle.vp_recon.specs.Sums.{ArePixelBytes};
 ghost use Rattle.vp_recon.specs.Pairs.{with_both_added, with_until};
-ghost use Rattle.vp_recon.specs.Parts.{HasSmallFirsts, HasResidues, IsAlone, residue_in};
+ghost use Rattle.vp_recon.specs.Parts.{HasBoundedY2Dc, HasResidues, IsAlone, residue_in};
 
 use crate::residue::{Residues, block_of, luma_firsts, residues_after_y2};
 use crate::rows::add_rows;
@@ -39,7 +39,7 @@ pub(crate) fn add_luma(
             first: 1,
             dc: factors.y_dc,
             ac: factors.y_ac,
-            firsts: None,
+            dc_from_y2: None,
         };
         return add_residues::<4>(picture, 0, x, y, &residues);
     }
@@ -50,12 +50,12 @@ pub(crate) fn add_luma(
             first: 1,
             dc: 0,
             ac: factors.y_ac,
-            firsts: None,
+            dc_from_y2: None,
         };
         return add_residues::<4>(picture, 0, x, y, &residues);
     }
-    let firsts = luma_firsts(tokens, factors);
-    let residues = residues_after_y2(tokens, factors.y_ac, &firsts);
+    let dc_from_y2 = luma_firsts(tokens, factors);
+    let residues = residues_after_y2(tokens, factors.y_ac, &dc_from_y2);
     add_residues::<4>(picture, 0, x, y, &residues);
 }
 
@@ -81,7 +81,7 @@ pub(crate) fn add_chroma(
         first: 13 + 4 * plane,
         dc: factors.uv_dc,
         ac: factors.uv_ac,
-        firsts: None,
+        dc_from_y2: None,
     };
     add_residues::<2>(picture, plane, x, y, &residues);
 }
@@ -100,7 +100,7 @@ fn add_residues<const ACROSS: usize>(
     requires size { ACROSS ≤ 4 }
     requires pairs { ACROSS % 2 ≡ 0 }
     requires blocks { residues.now.first + ACROSS * ACROSS ≤ 25 }
-    requires small { HasSmallFirsts residues.now }
+    requires small { HasBoundedY2Dc residues.now }
     requires columns { x + 4 * ACROSS ≤ (plane_of picture.old plane).width }
     requires rows { y + 4 * ACROSS ≤ (plane_of picture.old plane).height }
     requires bytes { ArePixelBytes (plane_of picture.old plane) x y (4 * ACROSS) }
@@ -136,7 +136,7 @@ fn add_by_fours<const ACROSS: usize>(
     requires start { k % 4 ≡ 0 }
     requires end { k + 3 < ACROSS * ACROSS }
     requires blocks { residues.now.first + ACROSS * ACROSS ≤ 25 }
-    requires small { HasSmallFirsts residues.now }
+    requires small { HasBoundedY2Dc residues.now }
     requires columns { x + 4 * ACROSS ≤ (plane_of picture.old plane).width }
     requires rows { y + 4 * ACROSS ≤ (plane_of picture.old plane).height }
     ensures step { (p : Image) (residue : ℕ → List ℤ) → HasResidues (ACROSS * ACROSS) residues.now residue
@@ -173,7 +173,7 @@ fn add_by_twos<const ACROSS: usize>(
     requires start { k % 2 ≡ 0 }
     requires end { k + 1 < ACROSS * ACROSS }
     requires blocks { residues.now.first + ACROSS * ACROSS ≤ 25 }
-    requires small { HasSmallFirsts residues.now }
+    requires small { HasBoundedY2Dc residues.now }
     requires columns { x + 4 * ACROSS ≤ (plane_of picture.old plane).width }
     requires rows { y + 4 * ACROSS ≤ (plane_of picture.old plane).height }
     ensures step { (p : Image) (residue : ℕ → List ℤ) → HasResidues (ACROSS * ACROSS) residues.now residue
@@ -201,7 +201,7 @@ fn add_four(picture: &mut Picture, plane: usize, x: usize, y: usize, residues: &
     requires rows { y + 4 ≤ (plane_of picture.old plane).height }
     requires subblocks { k + 3 < 16 }
     requires blocks { residues.now.first + k + 3 < 25 }
-    requires small { HasSmallFirsts residues.now }
+    requires small { HasBoundedY2Dc residues.now }
     requires first { IsAlone residues.now k }
     requires second { IsAlone residues.now (k + 1) }
     requires third { IsAlone residues.now (k + 2) }
@@ -222,7 +222,7 @@ fn add_two(picture: &mut Picture, plane: usize, x: usize, y: usize, residues: &R
     requires rows { y + 4 ≤ (plane_of picture.old plane).height }
     requires subblocks { k + 1 < 16 }
     requires blocks { residues.now.first + k + 1 < 25 }
-    requires small { HasSmallFirsts residues.now }
+    requires small { HasBoundedY2Dc residues.now }
     ensures { picture.new ≡ with_plane picture.old plane (with_both_added (plane_of picture.old plane) x y
         (residue_in residues.now k) (residue_in residues.now (k + 1))) }
 {

@@ -11,7 +11,7 @@ ghost use Rattle.vp_lanes.specs.Lane.{lane};
 ghost use Rattle.vp_recon.specs.Rebuilt.{summed};
 ghost use Rattle.vp_recon.specs.Residue.{residue, luma_firsts};
 ghost use Rattle.vp_recon.specs.Sums.{HasEqualSums, IsNothing};
-ghost use Rattle.vp_recon.specs.Parts.{HasSmallFirsts, HasResidues, IsAlone, coefficients_in, residue_in};
+ghost use Rattle.vp_recon.specs.Parts.{HasBoundedY2Dc, HasResidues, IsAlone, coefficients_in, residue_in};
 ghost use Rattle.vp_recon.specs.Pairs.{ArePairedRows, AreLow};
 
 use crate::rows::added;
@@ -30,7 +30,7 @@ pub(crate) fn block_of(tokens: &Tokens, n: usize) -> &Block
 }
 
 /// Returns the DC coefficient of a block, dequantised.
-fn first_of(levels: &[i16; 16], dc: u16) -> i64
+fn scaled_dc(levels: &[i16; 16], dc: u16) -> i64
     ensures value { result ≡ slice_index_or levels.now 0 (pos 0) *ℤ pos dc }
     ensures within { unsigned_abs result ≤ 2 ^ 31 }
 {
@@ -127,7 +127,7 @@ pub(crate) fn with_residue(prediction: u8x16, block: &Block, dc: u16, ac: u16) -
     if block.tokens == 0 {
         return prediction;
     }
-    let first = first_of(&block.levels, dc);
+    let first = scaled_dc(&block.levels, dc);
     added::<16>(
         prediction,
         i16x16::from_array(residue_with_first(block, first, ac)),
@@ -145,7 +145,7 @@ pub(crate) struct Residues<'a> {
     /// The factor of the AC levels.
     pub(crate) ac: u16,
     /// The DC coefficients, if a Y2 block gives them.
-    pub(crate) firsts: Option<&'a [i64; 16]>,
+    pub(crate) dc_from_y2: Option<&'a [i64; 16]>,
 }
 
 impl<'a> Residues<'a> {
@@ -164,7 +164,7 @@ impl<'a> Residues<'a> {
         ensures { result ≡ false → IsNothing (residue_in self.now k) }
     {
         let block = block_of(self.tokens, self.first + k);
-        match self.firsts {
+        match self.dc_from_y2 {
             None => block.tokens > 0,
             Some(_) => true,
         }
@@ -180,21 +180,21 @@ impl<'a> Residues<'a> {
         for k in 0..count {
             tokens |= block_of(self.tokens, self.first + k).tokens;
         }
-        tokens == 0 && self.firsts.is_none()
+        tokens == 0 && self.dc_from_y2.is_none()
     }
 
     /// Returns the DC coefficient of subblock `k`.
     fn first_coefficient(&self, k: usize) -> i64
         requires subblock { k < 16 }
         requires block { self.now.first + k < 25 }
-        requires small { HasSmallFirsts self.now }
+        requires small { HasBoundedY2Dc self.now }
         ensures value { slice_set (dequantised (block_of self.now.tokens.now (self.now.first
             + k)).levels 0 self.now.ac) 0 result ≡ coefficients_in self.now k }
         ensures within { unsigned_abs result ≤ 2 ^ 40 }
     {
-        match self.firsts {
-            None => first_of(&block_of(self.tokens, self.first + k).levels, self.dc),
-            Some(firsts) => firsts[k],
+        match self.dc_from_y2 {
+            None => scaled_dc(&block_of(self.tokens, self.first + k).levels, self.dc),
+            Some(dc_from_y2) => dc_from_y2[k],
         }
     }
 
@@ -216,7 +216,7 @@ impl<'a> Residues<'a> {
         ensures third { result ≡ true → IsAlone self.now (k + 2) }
         ensures fourth { result ≡ true → IsAlone self.now (k + 3) }
     {
-        if self.firsts.is_none() {
+        if self.dc_from_y2.is_none() {
             return false;
         }
         if self.has_others(k) || self.has_others(k + 1) {
@@ -230,7 +230,7 @@ impl<'a> Residues<'a> {
     fn small_coefficients(&self, k: usize) -> Option<[i16; 16]>
         requires subblock { k < 16 }
         requires block { self.now.first + k < 25 }
-        requires small { HasSmallFirsts self.now }
+        requires small { HasBoundedY2Dc self.now }
         ensures value { (zs : List ℤ) → result ≡ Some zs → zs ≡ coefficients_in self.now k }
         ensures small { (zs : List ℤ) → result ≡ Some zs → EachWithin 2200 zs }
     {
@@ -238,9 +238,9 @@ impl<'a> Residues<'a> {
         let Some(own) = dequant_short(block.levels, self.dc, self.ac) else {
             return None;
         };
-        match self.firsts {
+        match self.dc_from_y2 {
             None => Some(own),
-            Some(firsts) => with_small_first(own, firsts[k]),
+            Some(dc_from_y2) => with_small_first(own, dc_from_y2[k]),
         }
     }
 
@@ -248,7 +248,7 @@ impl<'a> Residues<'a> {
     fn kept(&self, k: usize) -> [i16; 16]
         requires subblock { k < 16 }
         requires block { self.now.first + k < 25 }
-        requires small { HasSmallFirsts self.now }
+        requires small { HasBoundedY2Dc self.now }
         ensures value { HasEqualSums result (residue_in self.now k) }
         ensures low { AreLow 16 result }
     {
@@ -260,7 +260,7 @@ impl<'a> Residues<'a> {
     pub(crate) fn rows_of_two(&self, k: usize) -> (i16x8, i16x8, i16x8, i16x8)
         requires subblocks { k + 1 < 16 }
         requires blocks { self.now.first + k + 1 < 25 }
-        requires small { HasSmallFirsts self.now }
+        requires small { HasBoundedY2Dc self.now }
         ensures value { ArePairedRows result.0 result.1 result.2 result.3 (residue_in self.now k)
             (residue_in self.now (k + 1)) }
         ensures first { AreLow 8 result.0 }
@@ -287,7 +287,7 @@ impl<'a> Residues<'a> {
     fn large_rows_of_two(&self, k: usize) -> (i16x8, i16x8, i16x8, i16x8)
         requires subblocks { k + 1 < 16 }
         requires blocks { self.now.first + k + 1 < 25 }
-        requires small { HasSmallFirsts self.now }
+        requires small { HasBoundedY2Dc self.now }
         ensures value { ArePairedRows result.0 result.1 result.2 result.3 (residue_in self.now k)
             (residue_in self.now (k + 1)) }
         ensures first { AreLow 8 result.0 }
@@ -303,7 +303,7 @@ impl<'a> Residues<'a> {
     pub(crate) fn row_of_four(&self, k: usize) -> i16x16
         requires subblocks { k + 3 < 16 }
         requires blocks { self.now.first + k + 3 < 25 }
-        requires small { HasSmallFirsts self.now }
+        requires small { HasBoundedY2Dc self.now }
         requires first { IsAlone self.now k }
         requires second { IsAlone self.now (k + 1) }
         requires third { IsAlone self.now (k + 2) }
@@ -369,29 +369,29 @@ pub(crate) fn luma_firsts(tokens: &Tokens, factors: &Factors) -> [i64; 16]
 {
     let block = block_of(tokens, 0);
     if block.tokens <= 1 {
-        return [iwht_of_first(first_of(&block.levels, factors.y2_dc)); 16];
+        return [iwht_of_first(scaled_dc(&block.levels, factors.y2_dc)); 16];
     }
     iwht(&dequant(&block.levels, factors.y2_dc, factors.y2_ac))
 }
 
-/// Returns the luma residues of a macroblock whose Y2 block gives the DC coefficients `firsts`.
+/// Returns the luma residues of a macroblock whose Y2 block gives the DC coefficients `dc_from_y2`.
 pub(crate) fn residues_after_y2<'a>(
     tokens: &'a Tokens,
     ac: u16,
-    firsts: &'a [i64; 16],
+    dc_from_y2: &'a [i64; 16],
 ) -> Residues<'a>
-    requires { EachWithin (2 ^ 40) firsts.now }
+    requires { EachWithin (2 ^ 40) dc_from_y2.now }
     ensures first { result.first ≡ 1 }
-    ensures small { HasSmallFirsts result }
+    ensures small { HasBoundedY2Dc result }
     ensures value { HasResidues 16 result (λ k. idct (slice_set
-        (dequantised (block_of tokens.now (1 + k)).levels 0 ac) 0 (slice_index_or firsts.now k (pos 0)))) }
+        (dequantised (block_of tokens.now (1 + k)).levels 0 ac) 0 (slice_index_or dc_from_y2.now k (pos 0)))) }
 {
-    let firsts = Some(firsts);
+    let dc_from_y2 = Some(dc_from_y2);
     Residues {
         tokens,
         first: 1,
         dc: 0,
         ac,
-        firsts,
+        dc_from_y2,
     }
 }

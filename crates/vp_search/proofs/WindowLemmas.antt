@@ -2,7 +2,7 @@
 use Rattle.std.proofs.Common.{◌≡◌, ℕ, ℤ, pos, negsuc, ◌+◌, ◌*◌, ◌-◌, ◌/◌, ◌%◌, ◌<◌, ◌≤◌, ◌+ℤ◌, ◌-ℤ◌, ◌*ℤ◌, List, length, get_or, refl, sym, ap, ap₂, subst, inl, inr, ◌⊎◌, ◌∙◌, arith}
 use Rattle.std.specs.Prelude.{unsigned_abs}
 use Rattle.std.specs.Int.{int_rem_euclid}
-use lib.Signed.{shr_z}
+use lib.Signed.{shr_z as floor_div}
 use Rattle.std.proofs.lemmas.Int.{ints}
 use Rattle.vp_base.specs.declared.place.Place.{Place}
 use Rattle.vp_base.specs.Raster.{Raster, row_of}
@@ -84,7 +84,7 @@ whole_eight (pos n) =
 whole_eight (negsuc n) =
     let e : pos 2 *ℤ (pos 4 *ℤ negsuc n) ≡ negsuc (8 * n + 7) = omega (arith, ints) in
     let f : (8 * n + 7) / 8 ≡ n = omega arith in
-    ap (λ (y : ℤ). shr_z y 8) e ∙ ap (λ (k : ℕ). negsuc k) f
+    ap (λ (y : ℤ). floor_div y 8) e ∙ ap (λ (k : ℕ). negsuc k) f
 
 fraction_eight : (z : ℤ) → fraction (pos 2 *ℤ (pos 4 *ℤ z)) ≡ 0
 unfolding fraction

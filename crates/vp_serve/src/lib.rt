@@ -1,4 +1,5 @@
-//! The server: one hub, many connections at once in one thread, and files that grow.
+//! The server: one hub, many connections at once in one thread, and files that grow. Nothing is read of a connection
+//! while bytes of its reply wait to be sent (back-pressure).
 #![tactic(auto)]
 
 mod connection;

@@ -14,7 +14,7 @@ use Rattle.vp_tokens.specs.Levels.{Probabilities, bands_of, first_of, coefficien
 use Rattle.vp_tokens.specs.Blocks.{flag_at, had_of, is_there, true_count, kind_of, y2_or, block_at, no_blocks}
 use Rattle.vp_tokens.specs.Contexts.{bottom_row_flags, right_column_flags}
 use Rattle.vp_tokens.specs.Flagged.{above_flag, left_flag, by_flags}
-use Rattle.vp_tokens.specs.Placed.{Reading, flags_at, banded, placed, plane, all_placed}
+use Rattle.vp_tokens.specs.Placed.{Reading, flags_at, banded, placed, plane, blocks_read}
 use Rattle.vp_tokens.proofs.Around.{each_block}
 
 flags-same : (places : List ℕ) (has_y2 : Bool) (start had had' : List Bool) (k : ℕ) → ((j : ℕ) → j < k → flag_at had j ≡ flag_at had' j) → flags_at places has_y2 start had k ≡ flags_at places has_y2 start had' k
@@ -183,8 +183,8 @@ chroma_kinds has_y2 j h =
     rw (e, ne_eqb (suc (16 + j)) 0 (λ z. absurd (omega arith)), lt-ltb 16 (suc (16 + j)) (omega arith)) (refl, refl)
 
 pub read-all : (p : Probabilities) (has_y2 : Bool) (r : Reading) (s : State) → length r.above ≡ 9 → length r.left ≡ 9 → r.blocks ≡ no_blocks
-    → IsRead p has_y2 r.above r.left s 25 (all_placed p has_y2 r s).0 (all_placed p has_y2 r s).1
-unfolding all_placed bind
+    → IsRead p has_y2 r.above r.left s 25 (blocks_read p has_y2 r s).0 (blocks_read p has_y2 r s).1
+unfolding blocks_read bind
 read-all p true r s wide high e =
     let none = read-none p true r.above r.left wide high s r e refl refl in
     let y2 = read-plane p true r.above r.left wide high s kind_is.Y2 0 1 r s (omega arith) y2_kinds none in
@@ -227,6 +227,6 @@ placed-others bands first k j r s apart = get_or-set_other r.blocks k j _ no_tok
 
 pub all-placed : (p : Probabilities) (has_y2 : Bool) (kind : BlockKind) (r r1 r2 r3 : Reading) (s s1 s2 s3 : State) → when has_y2 (plane p kind_is.Y2 0 1 r) r s ≡ (r1, s1) → kind ≡ kind_of has_y2 1
     → r2 ≡ (plane p kind 1 16 r1 s1).0 → s2 ≡ (plane p kind 1 16 r1 s1).1 → r3 ≡ (plane p kind_is.Chroma 17 8 r2 s2).0 → s3 ≡ (plane p kind_is.Chroma 17 8 r2 s2).1
-    → all_placed p has_y2 r s ≡ (r3, s3)
-unfolding all_placed bind
+    → blocks_read p has_y2 r s ≡ (r3, s3)
+unfolding blocks_read bind
 all-placed p has_y2 kind r r1 r2 r3 s s1 s2 s3 h k e f x y = rw (h, x, y, e, f, k) refl

@@ -9,7 +9,7 @@ use Rattle.vp_tree.specs.Tree.{walk, walk_from, next}
 use Rattle.vp_tables.specs.declared.modes.Token.{Token}
 use Rattle.vp_tables.specs.declared.modes.Token.TheVariants as token_is
 use Rattle.vp_tables.specs.declared.trees.TheConstants.{TOKEN_TREE}
-use Rattle.vp_tokens.specs.Walks.{one_of, far, middle, few, large, some, more, end_of_block, IsStart}
+use Rattle.vp_tokens.specs.Walks.{one_of, categories_3_6, any_category, two_to_four, above_one, nonzero, more, end_of_block, IsStart}
 
 module _ (row : List ℕ) where
   abbrev step : ℕ → ℕ → Bool → Reader Token
@@ -36,8 +36,8 @@ module _ (row : List ℕ) where
   at_16 n true u = at_20 n (read (slice_index row 10) u).0 (read (slice_index row 10) u).1
   at_16 n false u = at_18 n (read (slice_index row 9) u).0 (read (slice_index row 9) u).1
 
-  at_12 : (n : ℕ) (b : Bool) (u : State) → step (suc (suc n)) 12 b u ≡ (if b then far row else one_of 7 token_is.Category1 token_is.Category2 row) u
-  unfolding walk reader.bind far
+  at_12 : (n : ℕ) (b : Bool) (u : State) → step (suc (suc n)) 12 b u ≡ (if b then categories_3_6 row else one_of 7 token_is.Category1 token_is.Category2 row) u
+  unfolding walk reader.bind categories_3_6
   at_12 n true u = at_16 n (read (slice_index row 8) u).0 (read (slice_index row 8) u).1
   at_12 n false u = at_14 (suc n) (read (slice_index row 7) u).0 (read (slice_index row 7) u).1
 
@@ -46,18 +46,18 @@ module _ (row : List ℕ) where
   at_8 n true u = at_10 n (read (slice_index row 5) u).0 (read (slice_index row 5) u).1
   at_8 n false u = refl
 
-  at_6 : (n : ℕ) (b : Bool) (u : State) → step (suc (suc (suc n))) 6 b u ≡ (if b then middle row else few row) u
-  unfolding walk reader.bind middle few
+  at_6 : (n : ℕ) (b : Bool) (u : State) → step (suc (suc (suc n))) 6 b u ≡ (if b then any_category row else two_to_four row) u
+  unfolding walk reader.bind any_category two_to_four
   at_6 n true u = at_12 n (read (slice_index row 6) u).0 (read (slice_index row 6) u).1
   at_6 n false u = at_8 (suc n) (read (slice_index row 4) u).0 (read (slice_index row 4) u).1
 
-  at_4 : (n : ℕ) (b : Bool) (u : State) → step (suc (suc (suc (suc n)))) 4 b u ≡ (if b then large row else give token_is.One) u
-  unfolding walk reader.bind large
+  at_4 : (n : ℕ) (b : Bool) (u : State) → step (suc (suc (suc (suc n)))) 4 b u ≡ (if b then above_one row else give token_is.One) u
+  unfolding walk reader.bind above_one
   at_4 n true u = at_6 n (read (slice_index row 3) u).0 (read (slice_index row 3) u).1
   at_4 n false u = refl
 
-  at_2 : (n : ℕ) (b : Bool) (u : State) → step (suc (suc (suc (suc (suc n))))) 2 b u ≡ (if b then some row else give token_is.Zero) u
-  unfolding walk reader.bind some
+  at_2 : (n : ℕ) (b : Bool) (u : State) → step (suc (suc (suc (suc (suc n))))) 2 b u ≡ (if b then nonzero row else give token_is.Zero) u
+  unfolding walk reader.bind nonzero
   at_2 n true u = at_4 n (read (slice_index row 2) u).0 (read (slice_index row 2) u).1
   at_2 n false u = refl
 

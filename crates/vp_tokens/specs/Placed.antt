@@ -41,8 +41,8 @@ unfoldable pub plane : Probabilities → BlockKind → ℕ → ℕ → Reading �
 plane probabilities kind k n = rows n (λ j. placed (bands_of probabilities kind) (first_of kind) (k + j))
 
 -- all blocks of a macroblock
-unfoldable pub all_placed : Probabilities → Bool → Reading → Reader Reading
-all_placed probabilities has_y2 r = do
+unfoldable pub blocks_read : Probabilities → Bool → Reading → Reader Reading
+blocks_read probabilities has_y2 r = do
   y2 ← when has_y2 (plane probabilities kind_is.Y2 0 1 r) r
   luma ← plane probabilities (kind_of has_y2 1) 1 16 y2
   plane probabilities kind_is.Chroma 17 8 luma

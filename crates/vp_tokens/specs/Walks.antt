@@ -12,40 +12,40 @@ one_of i low high row = do
   give (if b then high else low)
 
 -- the walk from the pair at index 16
-unfoldable pub far : List ℕ → Reader Token
-far row = do
+unfoldable pub categories_3_6 : List ℕ → Reader Token
+categories_3_6 row = do
   b ← read (slice_index row 8)
   if b then one_of 10 token_is.Category5 token_is.Category6 row else one_of 9 token_is.Category3 token_is.Category4 row
 
 -- the walk from the pair at index 12
-unfoldable pub middle : List ℕ → Reader Token
-middle row = do
+unfoldable pub any_category : List ℕ → Reader Token
+any_category row = do
   b ← read (slice_index row 6)
-  if b then far row else one_of 7 token_is.Category1 token_is.Category2 row
+  if b then categories_3_6 row else one_of 7 token_is.Category1 token_is.Category2 row
 
 -- the walk from the pair at index 8
-unfoldable pub few : List ℕ → Reader Token
-few row = do
+unfoldable pub two_to_four : List ℕ → Reader Token
+two_to_four row = do
   b ← read (slice_index row 4)
   if b then one_of 5 token_is.Three token_is.Four row else give token_is.Two
 
 -- the walk from the pair at index 6
-unfoldable pub large : List ℕ → Reader Token
-large row = do
+unfoldable pub above_one : List ℕ → Reader Token
+above_one row = do
   b ← read (slice_index row 3)
-  if b then middle row else few row
+  if b then any_category row else two_to_four row
 
 -- the walk from the pair at index 4
-unfoldable pub some : List ℕ → Reader Token
-some row = do
+unfoldable pub nonzero : List ℕ → Reader Token
+nonzero row = do
   b ← read (slice_index row 2)
-  if b then large row else give token_is.One
+  if b then above_one row else give token_is.One
 
 -- the walk from the pair at index 2
 unfoldable pub more : List ℕ → Reader Token
 more row = do
   b ← read (slice_index row 1)
-  if b then some row else give token_is.Zero
+  if b then nonzero row else give token_is.Zero
 
 -- a walk starts at the root, or at pair 2, which skips the end of block
 abbrev pub IsStart : ℕ → Type 0
@@ -66,30 +66,30 @@ context_after_token token_is.One = 1
 context_after_token _ = 2
 
 -- the tokens below the pairs at indices 16, 12, 8, 6 and 4
-abbrev pub is_far : Token → Bool
-is_far token_is.Category3 = true
-is_far token_is.Category4 = true
-is_far token_is.Category5 = true
-is_far token_is.Category6 = true
-is_far _ = false
+abbrev pub is_categories_3_6 : Token → Bool
+is_categories_3_6 token_is.Category3 = true
+is_categories_3_6 token_is.Category4 = true
+is_categories_3_6 token_is.Category5 = true
+is_categories_3_6 token_is.Category6 = true
+is_categories_3_6 _ = false
 
-abbrev pub is_middle : Token → Bool
-is_middle token_is.Category1 = true
-is_middle token_is.Category2 = true
-is_middle t = is_far t
+abbrev pub is_any_category : Token → Bool
+is_any_category token_is.Category1 = true
+is_any_category token_is.Category2 = true
+is_any_category t = is_categories_3_6 t
 
-abbrev pub is_few : Token → Bool
-is_few token_is.Two = true
-is_few token_is.Three = true
-is_few token_is.Four = true
-is_few _ = false
+abbrev pub is_two_to_four : Token → Bool
+is_two_to_four token_is.Two = true
+is_two_to_four token_is.Three = true
+is_two_to_four token_is.Four = true
+is_two_to_four _ = false
 
-abbrev pub is_large : Token → Bool
-is_large token_is.Two = true
-is_large token_is.Three = true
-is_large token_is.Four = true
-is_large t = is_middle t
+abbrev pub is_above_one : Token → Bool
+is_above_one token_is.Two = true
+is_above_one token_is.Three = true
+is_above_one token_is.Four = true
+is_above_one t = is_any_category t
 
-abbrev pub is_some : Token → Bool
-is_some token_is.One = true
-is_some t = is_large t
+abbrev pub is_nonzero : Token → Bool
+is_nonzero token_is.One = true
+is_nonzero t = is_above_one t

@@ -8,7 +8,7 @@ ghost use Rattle.vp_tokens.specs.Blocks.{Blocks, blocks_of, had_of, flag_at, y2_
 ghost use Rattle.vp_tokens.specs.Blocks.{without_tokens, macroblock};
 ghost use Rattle.vp_tokens.specs.Contexts.{AreContextsAt, bottom_row_flags, right_column_flags, right};
 ghost use Rattle.vp_tokens.specs.Flagged.{by_flags};
-ghost use Rattle.vp_tokens.specs.Placed.{reading, placed, plane, all_placed};
+ghost use Rattle.vp_tokens.specs.Placed.{reading, placed, plane, blocks_read};
 ghost use Rattle.vp_tokens.specs.Spelled.{AreSpelled};
 
 use crate::block::{Block, BlockKind, bands_of, first_of, read_block};
@@ -96,9 +96,9 @@ fn read_all(
     d: &mut BoolDecoder,
 )
     requires { blocks.old ≡ no_blocks }
-    ensures value { reading blocks.new flags.new ≡ (all_placed probabilities.now has_y2
+    ensures value { reading blocks.new flags.new ≡ (blocks_read probabilities.now has_y2
         (reading blocks.old flags.old) d.old).0 }
-    ensures rest { d.new ≡ (all_placed probabilities.now has_y2 (reading blocks.old flags.old) d.old).1 }
+    ensures rest { d.new ≡ (blocks_read probabilities.now has_y2 (reading blocks.old flags.old) d.old).1 }
 {
     if has_y2 {
         read_plane(probabilities, BlockKind::Y2, 0, 1, blocks, flags, d);

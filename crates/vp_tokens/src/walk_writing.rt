@@ -6,8 +6,8 @@ ghost use Rattle.vp_tables.specs.declared.modes.Token.TheVariants as token_is;
 ghost use Rattle.vp_tables.specs.declared.trees.TheConstants.{TOKEN_TREE};
 ghost use Rattle.vp_tree.specs.Tree.{walk_from};
 ghost use Rattle.vp_tokens.specs.Levels.{is_end};
-ghost use Rattle.vp_tokens.specs.Walks.{far, middle, few, large, some, more, end_of_block};
-ghost use Rattle.vp_tokens.specs.Walks.{is_far, is_middle, is_few, is_large, is_some};
+ghost use Rattle.vp_tokens.specs.Walks.{categories_3_6, any_category, two_to_four, above_one, nonzero, more, end_of_block};
+ghost use Rattle.vp_tokens.specs.Walks.{is_categories_3_6, is_any_category, is_two_to_four, is_above_one, is_nonzero};
 
 use std::alloc::AllocError;
 use vp_bool::BoolEncoder;
@@ -15,10 +15,10 @@ use vp_tables::Token;
 
 /// Writes a token below the pair at index 16.
 #[inline(always)]
-#[tactic(auto, using(vp_bool::proofs::WritingLemmas::writes), unfolding(crate::specs::Walks::far))]
-fn write_far(row: &[u8; 11], what: Token, e: &mut BoolEncoder) -> Result<(), AllocError>
-    requires { is_far what ≡ true }
-    ensures { OnOk result (Writes (far row.now) e.old e.new what) }
+#[tactic(auto, using(vp_bool::proofs::WritingLemmas::writes), unfolding(crate::specs::Walks::categories_3_6))]
+fn write_categories_3_6(row: &[u8; 11], what: Token, e: &mut BoolEncoder) -> Result<(), AllocError>
+    requires { is_categories_3_6 what ≡ true }
+    ensures { OnOk result (Writes (categories_3_6 row.now) e.old e.new what) }
 {
     match what {
         Token::Category6 => {
@@ -43,10 +43,10 @@ fn write_far(row: &[u8; 11], what: Token, e: &mut BoolEncoder) -> Result<(), All
 
 /// Writes a token below the pair at index 12.
 #[inline(always)]
-#[tactic(auto, using(vp_bool::proofs::WritingLemmas::writes), unfolding(crate::specs::Walks::middle))]
-fn write_middle(row: &[u8; 11], what: Token, e: &mut BoolEncoder) -> Result<(), AllocError>
-    requires { is_middle what ≡ true }
-    ensures { OnOk result (Writes (middle row.now) e.old e.new what) }
+#[tactic(auto, using(vp_bool::proofs::WritingLemmas::writes), unfolding(crate::specs::Walks::any_category))]
+fn write_any_category(row: &[u8; 11], what: Token, e: &mut BoolEncoder) -> Result<(), AllocError>
+    requires { is_any_category what ≡ true }
+    ensures { OnOk result (Writes (any_category row.now) e.old e.new what) }
 {
     match what {
         Token::Category1 => {
@@ -59,7 +59,7 @@ fn write_middle(row: &[u8; 11], what: Token, e: &mut BoolEncoder) -> Result<(), 
         }
         _ => {
             e.write(true, row[6])?;
-            write_far(row, what, e)?;
+            write_categories_3_6(row, what, e)?;
         }
     }
     Ok(())
@@ -67,10 +67,10 @@ fn write_middle(row: &[u8; 11], what: Token, e: &mut BoolEncoder) -> Result<(), 
 
 /// Writes a token below the pair at index 8.
 #[inline(always)]
-#[tactic(auto, using(vp_bool::proofs::WritingLemmas::writes), unfolding(crate::specs::Walks::few))]
-fn write_few(row: &[u8; 11], what: Token, e: &mut BoolEncoder) -> Result<(), AllocError>
-    requires { is_few what ≡ true }
-    ensures { OnOk result (Writes (few row.now) e.old e.new what) }
+#[tactic(auto, using(vp_bool::proofs::WritingLemmas::writes), unfolding(crate::specs::Walks::two_to_four))]
+fn write_two_to_four(row: &[u8; 11], what: Token, e: &mut BoolEncoder) -> Result<(), AllocError>
+    requires { is_two_to_four what ≡ true }
+    ensures { OnOk result (Writes (two_to_four row.now) e.old e.new what) }
 {
     match what {
         Token::Two => {
@@ -90,19 +90,19 @@ fn write_few(row: &[u8; 11], what: Token, e: &mut BoolEncoder) -> Result<(), All
 
 /// Writes a token below the pair at index 6.
 #[inline(always)]
-#[tactic(auto, using(vp_bool::proofs::WritingLemmas::writes), unfolding(crate::specs::Walks::large))]
-fn write_large(row: &[u8; 11], what: Token, e: &mut BoolEncoder) -> Result<(), AllocError>
-    requires { is_large what ≡ true }
-    ensures { OnOk result (Writes (large row.now) e.old e.new what) }
+#[tactic(auto, using(vp_bool::proofs::WritingLemmas::writes), unfolding(crate::specs::Walks::above_one))]
+fn write_above_one(row: &[u8; 11], what: Token, e: &mut BoolEncoder) -> Result<(), AllocError>
+    requires { is_above_one what ≡ true }
+    ensures { OnOk result (Writes (above_one row.now) e.old e.new what) }
 {
     match what {
         Token::Two | Token::Three | Token::Four => {
             e.write(false, row[3])?;
-            write_few(row, what, e)?;
+            write_two_to_four(row, what, e)?;
         }
         _ => {
             e.write(true, row[3])?;
-            write_middle(row, what, e)?;
+            write_any_category(row, what, e)?;
         }
     }
     Ok(())
@@ -110,10 +110,10 @@ fn write_large(row: &[u8; 11], what: Token, e: &mut BoolEncoder) -> Result<(), A
 
 /// Writes a token below the pair at index 4.
 #[inline(always)]
-#[tactic(auto, using(vp_bool::proofs::WritingLemmas::writes), unfolding(crate::specs::Walks::some))]
-fn write_some(row: &[u8; 11], what: Token, e: &mut BoolEncoder) -> Result<(), AllocError>
-    requires { is_some what ≡ true }
-    ensures { OnOk result (Writes (some row.now) e.old e.new what) }
+#[tactic(auto, using(vp_bool::proofs::WritingLemmas::writes), unfolding(crate::specs::Walks::nonzero))]
+fn write_nonzero(row: &[u8; 11], what: Token, e: &mut BoolEncoder) -> Result<(), AllocError>
+    requires { is_nonzero what ≡ true }
+    ensures { OnOk result (Writes (nonzero row.now) e.old e.new what) }
 {
     match what {
         Token::One => {
@@ -121,7 +121,7 @@ fn write_some(row: &[u8; 11], what: Token, e: &mut BoolEncoder) -> Result<(), Al
         }
         _ => {
             e.write(true, row[2])?;
-            write_large(row, what, e)?;
+            write_above_one(row, what, e)?;
         }
     }
     Ok(())
@@ -140,7 +140,7 @@ fn write_more(row: &[u8; 11], what: Token, e: &mut BoolEncoder) -> Result<(), Al
         }
         _ => {
             e.write(true, row[1])?;
-            write_some(row, what, e)?;
+            write_nonzero(row, what, e)?;
         }
     }
     Ok(())

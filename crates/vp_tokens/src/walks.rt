@@ -3,17 +3,17 @@ ghost use Rattle.std.specs.Prelude.{◌≡◌, ◌≤◌, ◌<◌};
 ghost use Rattle.vp_tables.specs.declared.trees.TheConstants.{TOKEN_TREE};
 ghost use Rattle.vp_tables.specs.declared.modes.Token.TheVariants as token_is;
 ghost use Rattle.vp_tree.specs.Tree.{walk_from};
-ghost use Rattle.vp_tokens.specs.Walks.{far, middle, few, large, some, more, end_of_block, IsStart};
+ghost use Rattle.vp_tokens.specs.Walks.{categories_3_6, any_category, two_to_four, above_one, nonzero, more, end_of_block, IsStart};
 
 use vp_bool::BoolDecoder;
 use vp_tables::Token;
 
 /// The walk from the pair at index 16.
 #[inline(always)]
-#[tactic(auto, unfolding(crate::specs::Walks::far, vp_bool::specs::Reader::bind))]
-fn far(row: &[u8; 11], d: &mut BoolDecoder) -> Token
-    ensures value { result ≡ (far row.now d.old).0 }
-    ensures rest { d.new ≡ (far row.now d.old).1 }
+#[tactic(auto, unfolding(crate::specs::Walks::categories_3_6, vp_bool::specs::Reader::bind))]
+fn categories_3_6(row: &[u8; 11], d: &mut BoolDecoder) -> Token
+    ensures value { result ≡ (categories_3_6 row.now d.old).0 }
+    ensures rest { d.new ≡ (categories_3_6 row.now d.old).1 }
 {
     if d.read(row[8]) {
         if d.read(row[10]) {
@@ -30,13 +30,13 @@ fn far(row: &[u8; 11], d: &mut BoolDecoder) -> Token
 
 /// The walk from the pair at index 12.
 #[inline(always)]
-#[tactic(auto, unfolding(crate::specs::Walks::middle, vp_bool::specs::Reader::bind))]
-fn middle(row: &[u8; 11], d: &mut BoolDecoder) -> Token
-    ensures value { result ≡ (middle row.now d.old).0 }
-    ensures rest { d.new ≡ (middle row.now d.old).1 }
+#[tactic(auto, unfolding(crate::specs::Walks::any_category, vp_bool::specs::Reader::bind))]
+fn any_category(row: &[u8; 11], d: &mut BoolDecoder) -> Token
+    ensures value { result ≡ (any_category row.now d.old).0 }
+    ensures rest { d.new ≡ (any_category row.now d.old).1 }
 {
     if d.read(row[6]) {
-        far(row, d)
+        categories_3_6(row, d)
     } else if d.read(row[7]) {
         Token::Category2
     } else {
@@ -46,10 +46,10 @@ fn middle(row: &[u8; 11], d: &mut BoolDecoder) -> Token
 
 /// The walk from the pair at index 8.
 #[inline(always)]
-#[tactic(auto, unfolding(crate::specs::Walks::few, vp_bool::specs::Reader::bind))]
-fn few(row: &[u8; 11], d: &mut BoolDecoder) -> Token
-    ensures value { result ≡ (few row.now d.old).0 }
-    ensures rest { d.new ≡ (few row.now d.old).1 }
+#[tactic(auto, unfolding(crate::specs::Walks::two_to_four, vp_bool::specs::Reader::bind))]
+fn two_to_four(row: &[u8; 11], d: &mut BoolDecoder) -> Token
+    ensures value { result ≡ (two_to_four row.now d.old).0 }
+    ensures rest { d.new ≡ (two_to_four row.now d.old).1 }
 {
     if d.read(row[4]) {
         if d.read(row[5]) {
@@ -64,27 +64,27 @@ fn few(row: &[u8; 11], d: &mut BoolDecoder) -> Token
 
 /// The walk from the pair at index 6.
 #[inline(always)]
-#[tactic(auto, unfolding(crate::specs::Walks::large, vp_bool::specs::Reader::bind))]
-fn large(row: &[u8; 11], d: &mut BoolDecoder) -> Token
-    ensures value { result ≡ (large row.now d.old).0 }
-    ensures rest { d.new ≡ (large row.now d.old).1 }
+#[tactic(auto, unfolding(crate::specs::Walks::above_one, vp_bool::specs::Reader::bind))]
+fn above_one(row: &[u8; 11], d: &mut BoolDecoder) -> Token
+    ensures value { result ≡ (above_one row.now d.old).0 }
+    ensures rest { d.new ≡ (above_one row.now d.old).1 }
 {
     if d.read(row[3]) {
-        middle(row, d)
+        any_category(row, d)
     } else {
-        few(row, d)
+        two_to_four(row, d)
     }
 }
 
 /// The walk from the pair at index 4.
 #[inline(always)]
-#[tactic(auto, unfolding(crate::specs::Walks::some, vp_bool::specs::Reader::bind))]
-fn some(row: &[u8; 11], d: &mut BoolDecoder) -> Token
-    ensures value { result ≡ (some row.now d.old).0 }
-    ensures rest { d.new ≡ (some row.now d.old).1 }
+#[tactic(auto, unfolding(crate::specs::Walks::nonzero, vp_bool::specs::Reader::bind))]
+fn nonzero(row: &[u8; 11], d: &mut BoolDecoder) -> Token
+    ensures value { result ≡ (nonzero row.now d.old).0 }
+    ensures rest { d.new ≡ (nonzero row.now d.old).1 }
 {
     if d.read(row[2]) {
-        large(row, d)
+        above_one(row, d)
     } else {
         Token::One
     }
@@ -98,7 +98,7 @@ fn more(row: &[u8; 11], d: &mut BoolDecoder) -> Token
     ensures rest { d.new ≡ (more row.now d.old).1 }
 {
     if d.read(row[1]) {
-        some(row, d)
+        nonzero(row, d)
     } else {
         Token::Zero
     }

@@ -12,7 +12,7 @@ use Rattle.vp_transform.proofs.Signs.{mixed-column, mixed-row, column-at_most, p
 use Rattle.vp_transform.proofs.Sizes.{AtMost, sum-at_most, more-at_most, rounded-at_most, fits-at_most, four-at_most, turned-at_most, turn_fits}
 use Rattle.vp_transform.proofs.Words.{four}
 use lib.Dec.{leb→le}
-use lib.Signed.{shr_z}
+use lib.Signed.{shr_z as floor_div}
 
 first_of_both : (p q : Bool) → T (p && q) → T p
 first_of_both true q h = tt
@@ -94,7 +94,7 @@ module _ (b : ℕ) (block : List ℤ) (small : EachWithin b block) where
   pub iwht-within : EachWithin (2 * b) (iwht block)
   unfolding iwht times_hadamard_rounded
   iwht-within =
-      each-block_of (2 * b) (λ r c. shr_z (get (row_product (hadamard_times block) r) c +ℤ pos 3) 8)
+      each-block_of (2 * b) (λ r c. floor_div (get (row_product (hadamard_times block) r) c +ℤ pos 3) 8)
       (λ r c. rounded-at_most (get (row_product (hadamard_times block) r) c) 3 (2 * b) (omega arith) (record { size = omega (arith, product_row-at_most (hadamard_times block) r c, row_size-at_most r) }))
 
 -- ---- a block whose first number alone is not 0
@@ -119,15 +119,15 @@ idct-zeros = idct-first_alone (pos 0)
 mixed-first : (z : ℤ) → mixed z (pos 0) (pos 0) (pos 0) ≡ z ∷ z ∷ z ∷ z ∷ []
 mixed-first z = four (omega (arith, ints)) (omega (arith, ints)) (omega (arith, ints)) (omega (arith, ints))
 
-pub iwht-first_alone : (z : ℤ) → iwht (first_alone z) ≡ replicate 16 (shr_z (z +ℤ pos 3) 8)
+pub iwht-first_alone : (z : ℤ) → iwht (first_alone z) ≡ replicate 16 (floor_div (z +ℤ pos 3) 8)
 unfolding iwht hadamard_times times_hadamard_rounded
 iwht-first_alone z =
     let nothing : List ℤ = replicate 4 (pos 0) in
     let same : nothing ≡ nothing = refl in
     let all : List ℤ = by_columns (z ∷ z ∷ z ∷ z ∷ []) nothing nothing nothing in
     let columns : hadamard_times (first_alone z) ≡ all = columns_along (sym (mixed-column (first_alone z) 0) ∙ mixed-first z) same same same in
-    let row : (r : ℕ) → mixed (element_at all r 0) (element_at all r 1) (element_at all r 2) (element_at all r 3) ≡ z ∷ z ∷ z ∷ z ∷ [] → map (λ v. shr_z (v +ℤ pos 3) 8) (row_product all r) ≡ replicate 4 (shr_z (z +ℤ pos 3) 8) =
-    λ r e. ap (λ v. map (λ w. shr_z (w +ℤ pos 3) 8) v) (sym (mixed-row all r) ∙ e) in
+    let row : (r : ℕ) → mixed (element_at all r 0) (element_at all r 1) (element_at all r 2) (element_at all r 3) ≡ z ∷ z ∷ z ∷ z ∷ [] → map (λ v. floor_div (v +ℤ pos 3) 8) (row_product all r) ≡ replicate 4 (floor_div (z +ℤ pos 3) 8) =
+    λ r e. ap (λ v. map (λ w. floor_div (w +ℤ pos 3) 8) v) (sym (mixed-row all r) ∙ e) in
     ap (λ v. times_hadamard_rounded v) columns ∙ rows_along (row 0 (mixed-first z)) (row 1 (mixed-first z)) (row 2 (mixed-first z)) (row 3 (mixed-first z))
 
 pub iwht-zeros : iwht (replicate 16 (pos 0)) ≡ replicate 16 (pos 0)

@@ -4,7 +4,7 @@ use Rattle.std.proofs.lemmas.Int.{ints, to_z-of_z, unsigned_abs-mul}
 use Rattle.std.proofs.lemmas.List.{get_or_append_left, get_or-append_right}
 use Rattle.std.proofs.Math.Nat.{mul-le-mul}
 use lib.Lanes.{Each1}
-use lib.Signed.{shr_z}
+use lib.Signed.{shr_z as floor_div}
 use mir.Syntax.{w16, signed, cast}
 use mir.Val.{Val, SFits}
 use mir.ValLaws.{to_z-Fits}
@@ -110,11 +110,11 @@ product_small z k p l =
 pub product_long : (z : ℤ) (k : ℕ) → SFits w16 z → k ≤ 32767 → long.IsLong (z *ℤ pos k)
 product_long z k p l = let m = product_small z k p l in (omega (arith, ints), omega (arith, ints))
 
-shr_short : (z : ℤ) → unsigned_abs z ≤ 32768 * 32767 → SFits w16 (shr_z z 65536)
+shr_short : (z : ℤ) → unsigned_abs z ≤ 32768 * 32767 → SFits w16 (floor_div z 65536)
 shr_short (pos n) h = record { sfits = omega arith }
 shr_short (negsuc n) h = record { sfits = omega arith }
 
-pub high_short : (z : ℤ) (k : ℕ) → SFits w16 z → k ≤ 32767 → SFits w16 (shr_z (z *ℤ pos k) 65536)
+pub high_short : (z : ℤ) (k : ℕ) → SFits w16 z → k ≤ 32767 → SFits w16 (floor_div (z *ℤ pos k) 65536)
 high_short z k p l = shr_short (z *ℤ pos k) (product_small z k p l)
 
 -- eight lanes one by one

@@ -1,7 +1,7 @@
 -- Blocks in lanes, from step to step of the forward Walsh-Hadamard transform.
 use Rattle.std.proofs.Common.{◌≡◌, ℕ, ◌*◌, ◌^◌, ◌<◌, ℤ, pos, ◌+ℤ◌, List, map, lit<, ap, sym, ◌∙◌, arith}
 use Rattle.std.proofs.lemmas.Int.{ints}
-use lib.Signed.{shr_z}
+use lib.Signed.{shr_z as floor_div}
 use Rattle.vp_lanes.specs.Lane.{lane}
 use Rattle.vp_transform.specs.Fits.{EachWithin}
 use Rattle.vp_transform.specs.Forward.{fwht, times_hadamard_halved}
@@ -19,7 +19,7 @@ use Rattle.vp_transform.proofs.Waves.{shr_1-at_most}
 
 -- (z + 1) / 2, rounded down
 abbrev pub half : ℤ → ℤ
-half z = shr_z (z +ℤ pos 1) 2
+half z = floor_div (z +ℤ pos 1) 2
 
 abbrev pub halves : List ℤ → List ℤ
 halves block = block_from (λ r c. half (element_at block r c))

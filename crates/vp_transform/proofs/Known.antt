@@ -5,7 +5,7 @@ use Rattle.std.proofs.Math.Nat.{mul-le-mul_left}
 use Rattle.vp_transform.specs.Fits.{Fits}
 use Rattle.vp_transform.proofs.Words.{coded, read, read-along, fits-along, fits-shr, sum, difference}
 use Rattle.vp_transform.proofs.Sizes.{AtMost, sum-at_most, difference-at_most, fits-at_most}
-use lib.Signed.{shr_z}
+use lib.Signed.{shr_z as floor_div}
 
 -- x stands for m, which is from -n to n
 pub record Is (n : ℕ) (x m : ℤ) : Type 0 where
@@ -40,8 +40,8 @@ is_multiple k h l =
     let s = multiple-at_most k h.size in
     record { same = read-along (ap (λ v. pos k *ℤ v) h.same) (fits-at_most s l); size = s }
 
-pub read_shifted : (m : ℕ) {n : ℕ} {x u : ℤ} → Is n x u → n < 2 ^ 63 → coded (shr_z x m) ≡ shr_z u m
-read_shifted m {u = u} h l = read-along (ap (λ v. shr_z v m) h.same) (fits-shr u m (fits-at_most h.size l))
+pub read_shifted : (m : ℕ) {n : ℕ} {x u : ℤ} → Is n x u → n < 2 ^ 63 → coded (floor_div x m) ≡ floor_div u m
+read_shifted m {u = u} h l = read-along (ap (λ v. floor_div v m) h.same) (fits-shr u m (fits-at_most h.size l))
 
 pub constant : (k : ℕ) → Is k (pos k) (pos k)
 constant k = record { same = λ i. pos k; size = record { size = omega arith } }

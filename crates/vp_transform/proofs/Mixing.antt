@@ -11,11 +11,11 @@ use Rattle.vp_transform.proofs.Bounds.{at_most, each-block_of, hadamard_times-wi
 use Rattle.vp_transform.proofs.Signs.{mixed-column, mixed-row}
 use Rattle.vp_transform.proofs.Sizes.{rounded-at_most}
 use Rattle.vp_transform.proofs.Vectors.{sixteen, handed, small_passes, within_first, within_second, within_third, within_fourth, block_handed, block_read, idct_of_rows}
-use lib.Signed.{shr_z}
+use lib.Signed.{shr_z as floor_div}
 
 -- (z + 3) / 8, rounded down
 abbrev pub eighth : ℤ → ℤ
-eighth z = shr_z (z +ℤ pos 3) 8
+eighth z = floor_div (z +ℤ pos 3) 8
 
 abbrev pub eighths : List ℤ → List ℤ
 eighths block = block_from (λ r c. eighth (element_at block r c))

@@ -5,7 +5,7 @@ use Rattle.std.proofs.lemmas.List.{get_or_past}
 use Rattle.std.proofs.lemmas.Int.{ints, to_z-of_z}
 use mir.Syntax.{w16}
 use mir.Val.{SFits}
-use lib.Signed.{shr_z}
+use lib.Signed.{shr_z as floor_div}
 use Rattle.vp_lanes.specs.Lane.{lane}
 use Rattle.vp_lanes.proofs.Shape.{lanes_of, lane_is, mapped, length-ByLane}
 use Rattle.vp_lanes.proofs.Signed.{IsShort, Signed, Stands, stands_of, signed_out}
@@ -115,24 +115,24 @@ odd_sum-at_most h k = more-at_most (sum-at_most (multiple-at_most 2217 h) (multi
 pub odd_difference-at_most : {x y : ℤ} → AtMost 16320 x → AtMost 16320 y → AtMost 123526080 (pos 2217 *ℤ x -ℤ pos 5352 *ℤ y)
 odd_difference-at_most h k = more-at_most (difference-at_most (multiple-at_most 2217 h) (multiple-at_most 5352 k)) (omega arith)
 
-row_shifted : (z : ℤ) → unsigned_abs z ≤ 123526080 → SFits w16 (shr_z (z +ℤ pos 2048) 4096)
+row_shifted : (z : ℤ) → unsigned_abs z ≤ 123526080 → SFits w16 (floor_div (z +ℤ pos 2048) 4096)
 row_shifted z l = shifted (z +ℤ pos 2048) (omega (arith, ints))
   where
-    shifted : (y : ℤ) → unsigned_abs y ≤ 123528128 → SFits w16 (shr_z y 4096)
+    shifted : (y : ℤ) → unsigned_abs y ≤ 123528128 → SFits w16 (floor_div y 4096)
     shifted (pos n) h = record { sfits = omega arith }
     shifted (negsuc n) h = record { sfits = omega arith }
 
-column_shifted : (z : ℤ) → unsigned_abs z ≤ 123526080 → SFits w16 (shr_z (z +ℤ pos 32768) 65536)
+column_shifted : (z : ℤ) → unsigned_abs z ≤ 123526080 → SFits w16 (floor_div (z +ℤ pos 32768) 65536)
 column_shifted z l = shifted (z +ℤ pos 32768) (omega (arith, ints))
   where
-    shifted : (y : ℤ) → unsigned_abs y ≤ 123558848 → SFits w16 (shr_z y 65536)
+    shifted : (y : ℤ) → unsigned_abs y ≤ 123558848 → SFits w16 (floor_div y 65536)
     shifted (pos n) h = record { sfits = omega arith }
     shifted (negsuc n) h = record { sfits = omega arith }
 
-pub row_short : {z : ℤ} → AtMost 123526080 z → SFits w16 (shr_z (z +ℤ pos 2048) 4096)
+pub row_short : {z : ℤ} → AtMost 123526080 z → SFits w16 (floor_div (z +ℤ pos 2048) 4096)
 row_short {z} h = row_shifted z h.size
 
-pub column_short : {z : ℤ} → AtMost 123526080 z → SFits w16 (shr_z (z +ℤ pos 32768) 65536)
+pub column_short : {z : ℤ} → AtMost 123526080 z → SFits w16 (floor_div (z +ℤ pos 32768) 65536)
 column_short {z} h = column_shifted z h.size
 
 -- a block of small numbers

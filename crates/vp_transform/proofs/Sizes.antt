@@ -4,7 +4,7 @@ use Rattle.std.proofs.lemmas.Int.{ints, fits_signed_from_abs, unsigned_abs-mul}
 use Rattle.vp_transform.specs.Fits.{Fits, TurnFits}
 use Rattle.vp_transform.specs.Transform.{scaled, turned}
 use Rattle.std.proofs.Math.Nat.{mul-le-mul_left, mul-le-mul_right}
-use lib.Signed.{shr_z}
+use lib.Signed.{shr_z as floor_div}
 
 -- z is from -n to n
 pub record AtMost (n : ℕ) (z : ℤ) : Type 0 where
@@ -17,17 +17,17 @@ pub difference-at_most : {x y : ℤ} {m n : ℕ} → AtMost m x → AtMost n y �
 difference-at_most h k = record { size = omega (arith, ints, h.size, k.size) }
 
 -- z / 65536, rounded down
-pub shr_16-at_most : (z : ℤ) (n : ℕ) → unsigned_abs z ≤ 65536 * n → unsigned_abs (shr_z z 65536) ≤ n
+pub shr_16-at_most : (z : ℤ) (n : ℕ) → unsigned_abs z ≤ 65536 * n → unsigned_abs (floor_div z 65536) ≤ n
 shr_16-at_most (pos a) n h = omega arith
 shr_16-at_most (negsuc a) n h = omega arith
 
 -- z / 8, rounded down
-shr_3-at_most : (z : ℤ) (n : ℕ) → z ≤ℤ pos (8 * n + 7) → neg_ℤ (pos (8 * n)) ≤ℤ z → unsigned_abs (shr_z z 8) ≤ n
+shr_3-at_most : (z : ℤ) (n : ℕ) → z ≤ℤ pos (8 * n + 7) → neg_ℤ (pos (8 * n)) ≤ℤ z → unsigned_abs (floor_div z 8) ≤ n
 shr_3-at_most (pos a) n h l = let e : a ≤ 8 * n + 7 = omega (arith, ints) in omega arith
 shr_3-at_most (negsuc a) n h l = let e : suc a ≤ 8 * n = omega (arith, ints) in omega arith
 
 -- (z + k) / 8, rounded down
-pub rounded-at_most : (z : ℤ) (k n : ℕ) → k ≤ 7 → AtMost (8 * n) z → AtMost n (shr_z (z +ℤ pos k) 8)
+pub rounded-at_most : (z : ℤ) (k n : ℕ) → k ≤ 7 → AtMost (8 * n) z → AtMost n (floor_div (z +ℤ pos k) 8)
 rounded-at_most z k n h g =
     let l : unsigned_abs z ≤ 8 * n = g.size in
     record { size = shr_3-at_most (z +ℤ pos k) n (omega (arith, ints)) (omega (arith, ints)) }

@@ -17,7 +17,7 @@ use Rattle.vp_transform.proofs.Mixing.{transposed-within}
 use Rattle.vp_transform.proofs.Sizes.{AtMost, sum-at_most, difference-at_most, times-at_most, shr_16-at_most, rounded-at_most, more-at_most}
 use Rattle.vp_transform.proofs.Vectors.{sixteen}
 use Rattle.vp_transform.proofs.Eights.{handed16, passed16, below_eight}
-use lib.Signed.{shr_z}
+use lib.Signed.{shr_z as floor_div}
 
 -- ---- how large the numbers get
 pub short-at_most : {n : ℕ} {z : ℤ} → AtMost n z → n ≤ 32767 → IsShort z
@@ -82,7 +82,7 @@ turn_is_short h0 h1 h2 h3 =
 
 -- twice the number times half the factor
 pub twice_half : (z : ℤ) → scaled (z +ℤ z) 17734 ≡ scaled z 35468
-twice_half z = ap (λ v. shr_z v 65536) (let e : (z +ℤ z) *ℤ pos 17734 ≡ z *ℤ pos 35468 = omega (arith, ints) in e)
+twice_half z = ap (λ v. floor_div v 65536) (let e : (z +ℤ z) *ℤ pos 17734 ≡ z *ℤ pos 35468 = omega (arith, ints) in e)
 
 -- ---- the lanes of vectors that hold two blocks
 module _ (n : ℕ) (a b c d : List ℤ) (w : EachWithin n (even_block a b c d)) (v : EachWithin n (odd_block a b c d)) where

@@ -11,7 +11,7 @@ use Rattle.vp_transform.proofs.Signs.{product_row-at_most}
 use Rattle.vp_transform.proofs.Sizes.{AtMost}
 use Rattle.vp_transform.proofs.Known.{Is, is_sum, is_difference, is_multiple, read_shifted, constant, fits_sum, fits_difference}
 use Rattle.vp_transform.proofs.Words.{coded}
-use lib.Signed.{shr_z}
+use lib.Signed.{shr_z as floor_div}
 
 module _ {x0 x1 x2 x3 i0 i1 i2 i3 : ℤ} (h0 : Is (2 ^ 44) x0 i0) (h1 : Is (2 ^ 44) x1 i1) (h2 : Is (2 ^ 44) x2 i2) (h3 : Is (2 ^ 44) x3 i3) where
   pub row_a : Is (8 * (2 ^ 44 + 2 ^ 44)) (coded (pos 8 *ℤ coded (x0 +ℤ x3))) (pos 8 *ℤ (i0 +ℤ i3))
@@ -48,7 +48,7 @@ module _ {k : ℕ} {c d u v : ℤ} (h : Is k c u) (g : Is k d v) (l : 7569 * k +
   pub fits_rounded_sum : (m : ℕ) → m ≤ 65536 → Fits (coded (coded (pos 2217 *ℤ c) +ℤ coded (pos 5352 *ℤ d)) +ℤ pos m)
   fits_rounded_sum m f = fits_sum odd_sum (constant m) (omega arith)
 
-  pub read_odd_sum : (m n : ℕ) → m ≤ 65536 → coded (shr_z (coded (coded (coded (pos 2217 *ℤ c) +ℤ coded (pos 5352 *ℤ d)) +ℤ pos m)) n) ≡ shr_z (pos 2217 *ℤ u +ℤ pos 5352 *ℤ v +ℤ pos m) n
+  pub read_odd_sum : (m n : ℕ) → m ≤ 65536 → coded (floor_div (coded (coded (coded (pos 2217 *ℤ c) +ℤ coded (pos 5352 *ℤ d)) +ℤ pos m)) n) ≡ floor_div (pos 2217 *ℤ u +ℤ pos 5352 *ℤ v +ℤ pos m) n
   read_odd_sum m n f = read_shifted n (is_sum odd_sum (constant m) (omega arith)) (omega arith)
 
   odd_difference : Is (2217 * k + 5352 * k) (coded (coded (pos 2217 *ℤ d) -ℤ coded (pos 5352 *ℤ c))) (pos 2217 *ℤ v -ℤ pos 5352 *ℤ u)
@@ -60,20 +60,20 @@ module _ {k : ℕ} {c d u v : ℤ} (h : Is k c u) (g : Is k d v) (l : 7569 * k +
   pub fits_rounded_difference : (m : ℕ) → m ≤ 65536 → Fits (coded (coded (pos 2217 *ℤ d) -ℤ coded (pos 5352 *ℤ c)) +ℤ pos m)
   fits_rounded_difference m f = fits_sum odd_difference (constant m) (omega arith)
 
-  pub read_odd_difference : (m n : ℕ) → m ≤ 65536 → coded (shr_z (coded (coded (coded (pos 2217 *ℤ d) -ℤ coded (pos 5352 *ℤ c)) +ℤ pos m)) n) ≡ shr_z (pos 2217 *ℤ v -ℤ pos 5352 *ℤ u +ℤ pos m) n
+  pub read_odd_difference : (m n : ℕ) → m ≤ 65536 → coded (floor_div (coded (coded (coded (pos 2217 *ℤ d) -ℤ coded (pos 5352 *ℤ c)) +ℤ pos m)) n) ≡ floor_div (pos 2217 *ℤ v -ℤ pos 5352 *ℤ u +ℤ pos m) n
   read_odd_difference m n f = read_shifted n (is_sum odd_difference (constant m) (omega arith)) (omega arith)
 
 -- ---- how large they get
 
-shr_12-at_most : (z : ℤ) (n : ℕ) → z ≤ℤ pos (4096 * n + 4095) → neg_ℤ (pos (4096 * n)) ≤ℤ z → unsigned_abs (shr_z z 4096) ≤ n
+shr_12-at_most : (z : ℤ) (n : ℕ) → z ≤ℤ pos (4096 * n + 4095) → neg_ℤ (pos (4096 * n)) ≤ℤ z → unsigned_abs (floor_div z 4096) ≤ n
 shr_12-at_most (pos a) n h l = let e : a ≤ 4096 * n + 4095 = omega (arith, ints) in omega arith
 shr_12-at_most (negsuc a) n h l = let e : suc a ≤ 4096 * n = omega (arith, ints) in omega arith
 
-shr_16-at_most : (z : ℤ) (n : ℕ) → z ≤ℤ pos (65536 * n + 65535) → neg_ℤ (pos (65536 * n)) ≤ℤ z → unsigned_abs (shr_z z 65536) ≤ n
+shr_16-at_most : (z : ℤ) (n : ℕ) → z ≤ℤ pos (65536 * n + 65535) → neg_ℤ (pos (65536 * n)) ≤ℤ z → unsigned_abs (floor_div z 65536) ≤ n
 shr_16-at_most (pos a) n h l = let e : a ≤ 65536 * n + 65535 = omega (arith, ints) in omega arith
 shr_16-at_most (negsuc a) n h l = let e : suc a ≤ 65536 * n = omega (arith, ints) in omega arith
 
-shr_4-at_most : (z : ℤ) (n : ℕ) → z ≤ℤ pos (16 * n + 15) → neg_ℤ (pos (16 * n)) ≤ℤ z → unsigned_abs (shr_z z 16) ≤ n
+shr_4-at_most : (z : ℤ) (n : ℕ) → z ≤ℤ pos (16 * n + 15) → neg_ℤ (pos (16 * n)) ≤ℤ z → unsigned_abs (floor_div z 16) ≤ n
 shr_4-at_most (pos a) n h l = let e : a ≤ 16 * n + 15 = omega (arith, ints) in omega arith
 shr_4-at_most (negsuc a) n h l = let e : suc a ≤ 16 * n = omega (arith, ints) in omega arith
 
@@ -162,16 +162,16 @@ module _ (b : ℕ) (block : List ℤ) (small : EachWithin b block) where
 
 -- ---- the Walsh-Hadamard transform
 
-pub shr_1-at_most : (z : ℤ) (n : ℕ) → z ≤ℤ pos (2 * n + 1) → neg_ℤ (pos (2 * n)) ≤ℤ z → unsigned_abs (shr_z z 2) ≤ n
+pub shr_1-at_most : (z : ℤ) (n : ℕ) → z ≤ℤ pos (2 * n + 1) → neg_ℤ (pos (2 * n)) ≤ℤ z → unsigned_abs (floor_div z 2) ≤ n
 shr_1-at_most (pos a) n h l = let e : a ≤ 2 * n + 1 = omega (arith, ints) in omega arith
 shr_1-at_most (negsuc a) n h l = let e : suc a ≤ 2 * n = omega (arith, ints) in omega arith
 
 module _ (b : ℕ) (block : List ℤ) (small : EachWithin b block) where
-  halved-at_most : (z : ℤ) → unsigned_abs z ≤ 16 * b → unsigned_abs (shr_z (z +ℤ pos 1) 2) ≤ 8 * b
+  halved-at_most : (z : ℤ) → unsigned_abs z ≤ 16 * b → unsigned_abs (floor_div (z +ℤ pos 1) 2) ≤ 8 * b
   halved-at_most z h = shr_1-at_most (z +ℤ pos 1) (8 * b) (omega (arith, ints)) (omega (arith, ints))
 
   pub fwht-within : EachWithin (8 * b) (fwht block)
   unfolding fwht times_hadamard_halved
   fwht-within =
-      each-block_of (8 * b) (λ r c. shr_z (get (row_product (hadamard_times block) r) c +ℤ pos 1) 2)
+      each-block_of (8 * b) (λ r c. floor_div (get (row_product (hadamard_times block) r) c +ℤ pos 1) 2)
       (λ r c. record { size = halved-at_most (get (row_product (hadamard_times block) r) c) (omega (arith, product_row-at_most (hadamard_times block) r c, row_size-at_most b block small r)) })

@@ -2,13 +2,13 @@
 -- by the test `forward_examples`.
 use Rattle.std.specs.Prelude.{ℤ, pos, ◌+ℤ◌, ◌-ℤ◌, ◌*ℤ◌, List, [], ◌∷◌, slice_index_or}
 use Rattle.vp_transform.specs.Transform.{element_at, block_from, product, hadamard, hadamard_times}
-use lib.Signed.{shr_z}
+use lib.Signed.{shr_z as floor_div}
 
 -- ---- The Walsh-Hadamard transform
 
 -- (X H + 1) / 2, rounded down; H is `hadamard`, X the block
 unfoldable pub times_hadamard_halved : List ℤ → List ℤ
-times_hadamard_halved block = block_from (λ r c. shr_z (product (element_at block)
+times_hadamard_halved block = block_from (λ r c. floor_div (product (element_at block)
     (element_at hadamard) r c +ℤ pos 1) 2)
 
 -- (H X H + 1) / 2, rounded down
@@ -24,8 +24,8 @@ row_waves i0 i1 i2 i3 =
     let b = pos 8 *ℤ (i1 +ℤ i2) in
     let c = pos 8 *ℤ (i1 -ℤ i2) in
     let d = pos 8 *ℤ (i0 -ℤ i3) in
-    (a +ℤ b) ∷ shr_z (pos 2217 *ℤ c +ℤ pos 5352 *ℤ d +ℤ pos 2048) 4096 ∷ (a -ℤ b)
-    ∷ shr_z (pos 2217 *ℤ d -ℤ pos 5352 *ℤ c +ℤ pos 2048) 4096 ∷ []
+    (a +ℤ b) ∷ floor_div (pos 2217 *ℤ c +ℤ pos 5352 *ℤ d +ℤ pos 2048) 4096 ∷ (a -ℤ b)
+    ∷ floor_div (pos 2217 *ℤ d -ℤ pos 5352 *ℤ c +ℤ pos 2048) 4096 ∷ []
 
 -- the one-dimensional transform of a column, divided by 16
 abbrev pub column_waves : ℤ → ℤ → ℤ → ℤ → List ℤ
@@ -34,8 +34,8 @@ column_waves i0 i1 i2 i3 =
     let b = i1 +ℤ i2 in
     let c = i1 -ℤ i2 in
     let d = i0 -ℤ i3 in
-    shr_z (a +ℤ b +ℤ pos 7) 16 ∷ shr_z (pos 2217 *ℤ c +ℤ pos 5352 *ℤ d +ℤ pos 32768) 65536 ∷ shr_z (a -ℤ b +ℤ pos 7) 16
-    ∷ shr_z (pos 2217 *ℤ d -ℤ pos 5352 *ℤ c +ℤ pos 32768) 65536 ∷ []
+    floor_div (a +ℤ b +ℤ pos 7) 16 ∷ floor_div (pos 2217 *ℤ c +ℤ pos 5352 *ℤ d +ℤ pos 32768) 65536 ∷ floor_div (a -ℤ b +ℤ pos 7) 16
+    ∷ floor_div (pos 2217 *ℤ d -ℤ pos 5352 *ℤ c +ℤ pos 32768) 65536 ∷ []
 
 -- transforms each row
 unfoldable pub row_pass : List ℤ → List ℤ

@@ -3,7 +3,7 @@
 use Rattle.std.specs.Prelude.{ℕ, ◌+◌, ◌*◌, ◌/◌, ◌%◌, ℤ, pos, negsuc, ◌+ℤ◌, ◌-ℤ◌, ◌*ℤ◌, List, [], ◌∷◌, map}
 use Rattle.std.specs.Prelude.{slice_index_or}
 use Rattle.std.specs.List.{range_with_len}
-use lib.Signed.{shr_z}
+use lib.Signed.{shr_z as floor_div}
 
 -- A block is sixteen numbers in raster order. This is the number at row r, column c.
 abbrev pub element_at : List ℤ → ℕ → ℕ → ℤ
@@ -43,7 +43,7 @@ times_hadamard block = block_from (product (element_at block) (element_at hadama
 
 -- (X H + 3) / 8, rounded down
 unfoldable pub times_hadamard_rounded : List ℤ → List ℤ
-times_hadamard_rounded block = block_from (λ r c. shr_z (product (element_at block)
+times_hadamard_rounded block = block_from (λ r c. floor_div (product (element_at block)
     (element_at hadamard) r c +ℤ pos 3) 8)
 
 -- (H X H + 3) / 8, rounded down
@@ -55,7 +55,7 @@ iwht block = times_hadamard_rounded (hadamard_times block)
 -- z * k / 2^16, rounded down. k / 2^16 is sqrt 2 * sin (pi / 8) for k = 35468. It is sqrt 2 * cos (pi / 8) - 1 for k =
 -- 20091.
 abbrev pub scaled : ℤ → ℕ → ℤ
-scaled z k = shr_z (z *ℤ pos k) 65536
+scaled z k = floor_div (z *ℤ pos k) 65536
 
 -- the one-dimensional transform of four numbers
 abbrev pub turned : ℤ → ℤ → ℤ → ℤ → List ℤ
@@ -81,7 +81,7 @@ vertical block = block_from (λ r c. slice_index_or (column_turned block c) r (p
 
 -- (z + 4) / 8, rounded down
 abbrev pub rounded : ℤ → ℤ
-rounded z = shr_z (z +ℤ pos 4) 8
+rounded z = floor_div (z +ℤ pos 4) 8
 
 -- transforms each row, and rounds each number
 unfoldable pub horizontal : List ℤ → List ℤ

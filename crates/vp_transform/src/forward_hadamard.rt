@@ -3,7 +3,7 @@
 ghost use Rattle.std.specs.Prelude.{◌≡◌, ℕ, ◌+◌, ◌*◌, ◌<◌, ◌^◌, pos, ◌+ℤ◌, map, slice_index_or, unsigned_abs};
 ghost use Rattle.vp_transform.specs.Fits.{Fits, IwhtFits, EachWithin};
 ghost use Rattle.vp_transform.specs.Forward.{fwht};
-ghost use lib.Signed.{shr_z};
+ghost use lib.Signed.{shr_z as floor_div};
 
 use crate::hadamard::{by_columns, by_rows};
 
@@ -19,7 +19,7 @@ pub fn fwht(block: &[i64; 16]) -> [i64; 16]
 /// Halves each number of a block, rounding up.
 fn all_halved(x: &[i64; 16]) -> [i64; 16]
     requires { (k : ℕ) → k < 16 → unsigned_abs (slice_index_or x.now k (pos 0)) + 3 < 2 ^ 63 }
-    ensures { result ≡ map (λ z. shr_z (z +ℤ pos 1) 2) x.now }
+    ensures { result ≡ map (λ z. floor_div (z +ℤ pos 1) 2) x.now }
 {
     let mut block = [0; 16];
     for i in 0..16 {
@@ -30,7 +30,7 @@ fn all_halved(x: &[i64; 16]) -> [i64; 16]
 
 fn halved(z: i64) -> i64
     requires { Fits (z +ℤ pos 1) }
-    ensures { result ≡ shr_z (z +ℤ pos 1) 2 }
+    ensures { result ≡ floor_div (z +ℤ pos 1) 2 }
 {
     (z + 1) >> 1
 }

@@ -7,7 +7,7 @@ ghost use Rattle.vp_transform.specs.Fits.{EachWithin};
 ghost use Rattle.vp_transform.specs.Narrow.{block_in, LanesWithin};
 ghost use Rattle.vp_transform.specs.Pair.{transposed};
 ghost use Rattle.vp_transform.specs.Forward.{row_pass, column_pass, fdct};
-ghost use lib.Signed.{shr_z};
+ghost use lib.Signed.{shr_z as floor_div};
 
 use std::simd::prelude::*;
 
@@ -145,7 +145,7 @@ fn difference_of(c: i16x4, d: i16x4) -> i32x4
 /// `(z + 2048) / 4096` in each lane, rounded down.
 fn row_rounded(z: i32x4) -> i16x4
     requires { LanesWithin 123526080 z }
-    ensures { (j : ℕ) → j < 4 → lane result j ≡ shr_z (lane z j +ℤ pos 2048) 4096 }
+    ensures { (j : ℕ) → j < 4 → lane result j ≡ floor_div (lane z j +ℤ pos 2048) 4096 }
 {
     ((z + i32x4::splat(2048)) >> 12).cast::<i16>()
 }
@@ -153,7 +153,7 @@ fn row_rounded(z: i32x4) -> i16x4
 /// `(z + 32768) / 65536` in each lane, rounded down.
 fn column_rounded(z: i32x4) -> i16x4
     requires { LanesWithin 123526080 z }
-    ensures { (j : ℕ) → j < 4 → lane result j ≡ shr_z (lane z j +ℤ pos 32768) 65536 }
+    ensures { (j : ℕ) → j < 4 → lane result j ≡ floor_div (lane z j +ℤ pos 32768) 65536 }
 {
     ((z + i32x4::splat(32768)) >> 16).cast::<i16>()
 }

@@ -5,7 +5,7 @@ ghost use Rattle.std.specs.Prelude.{unsigned_abs};
 ghost use Rattle.vp_transform.specs.Steps.{mixed, column_product, row_product};
 ghost use Rattle.vp_transform.specs.Fits.{Fits, IwhtFits, EachWithin, column_size, row_size};
 ghost use Rattle.vp_transform.specs.Transform.{iwht, hadamard_times, times_hadamard};
-ghost use lib.Signed.{shr_z};
+ghost use lib.Signed.{shr_z as floor_div};
 
 use crate::hadamard_lanes::narrow_iwht;
 use crate::lanes::is_narrow;
@@ -95,7 +95,7 @@ fn row(x: &[i64; 16], r: usize) -> [i64; 4]
 /// Rounds each number of a block.
 fn all_rounded(x: &[i64; 16]) -> [i64; 16]
     requires { (k : ℕ) → k < 16 → unsigned_abs (slice_index_or x.now k (pos 0)) + 3 < 2 ^ 63 }
-    ensures { result ≡ map (λ z. shr_z (z +ℤ pos 3) 8) x.now }
+    ensures { result ≡ map (λ z. floor_div (z +ℤ pos 3) 8) x.now }
 {
     let mut block = [0; 16];
     for i in 0..16 {
@@ -106,7 +106,7 @@ fn all_rounded(x: &[i64; 16]) -> [i64; 16]
 
 fn round(z: i64) -> i64
     requires { Fits (z +ℤ pos 3) }
-    ensures { result ≡ shr_z (z +ℤ pos 3) 8 }
+    ensures { result ≡ floor_div (z +ℤ pos 3) 8 }
 {
     (z + 3) >> 3
 }

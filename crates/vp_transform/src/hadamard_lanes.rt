@@ -6,7 +6,7 @@ ghost use Rattle.vp_transform.specs.Fits.{EachWithin};
 ghost use Rattle.vp_transform.specs.Forward.{fwht};
 ghost use Rattle.vp_transform.specs.Narrow.{block_in};
 ghost use Rattle.vp_transform.specs.Transform.{hadamard_times, iwht};
-ghost use lib.Signed.{shr_z};
+ghost use lib.Signed.{shr_z as floor_div};
 
 use crate::lanes::{joined, row, short_joined, short_row, transpose};
 use std::simd::prelude::*;
@@ -26,7 +26,7 @@ fn mix(i0: i32x4, i1: i32x4, i2: i32x4, i3: i32x4) -> (i32x4, i32x4, i32x4, i32x
 /// `(z + 3) / 8` in each lane, rounded down.
 fn rounded(a: i32x4, b: i32x4, c: i32x4, d: i32x4) -> (i32x4, i32x4, i32x4, i32x4)
     requires { EachWithin (2 ^ 30) (block_in a b c d) }
-    ensures { block_in result.0 result.1 result.2 result.3 ≡ map (λ z. shr_z (z +ℤ pos 3) 8) (block_in a b c d) }
+    ensures { block_in result.0 result.1 result.2 result.3 ≡ map (λ z. floor_div (z +ℤ pos 3) 8) (block_in a b c d) }
 {
     let three = i32x4::splat(3);
     (
@@ -53,7 +53,7 @@ pub(crate) fn narrow_iwht(block: &[i64; 16]) -> [i64; 16]
 /// `(z + 1) / 2` in each lane, rounded down.
 fn halved(a: i32x4, b: i32x4, c: i32x4, d: i32x4) -> (i32x4, i32x4, i32x4, i32x4)
     requires { EachWithin (2 ^ 30) (block_in a b c d) }
-    ensures { block_in result.0 result.1 result.2 result.3 ≡ map (λ z. shr_z (z +ℤ pos 1) 2) (block_in a b c d) }
+    ensures { block_in result.0 result.1 result.2 result.3 ≡ map (λ z. floor_div (z +ℤ pos 1) 2) (block_in a b c d) }
 {
     let one = i32x4::splat(1);
     (

@@ -6,7 +6,7 @@ ghost use Rattle.vp_lanes.specs.Lane.{lane};
 ghost use Rattle.vp_transform.specs.Fits.{EachWithin};
 ghost use Rattle.vp_transform.specs.Pair.{row_in, even_block, odd_block, transposed};
 ghost use Rattle.vp_transform.specs.Transform.{element_at, block_from, scaled, rounded, vertical, idct};
-ghost use lib.Signed.{shr_z};
+ghost use lib.Signed.{shr_z as floor_div};
 
 use std::simd::prelude::*;
 
@@ -52,7 +52,7 @@ fn interleaved_pairs(a: &[i16; 16], b: &[i16; 16]) -> (i16x8, i16x8, i16x8, i16x
 /// The high halves of the lanes times `k`.
 fn high(z: i16x8, k: u16) -> i16x8
     requires { k ≤ 32767 }
-    ensures { (j : ℕ) → j < 8 → lane result j ≡ shr_z (lane z j *ℤ pos k) 65536 }
+    ensures { (j : ℕ) → j < 8 → lane result j ≡ floor_div (lane z j *ℤ pos k) 65536 }
 {
     ((z.cast::<i32>() * i32x8::splat(k as i32)) >> 16).cast::<i16>()
 }

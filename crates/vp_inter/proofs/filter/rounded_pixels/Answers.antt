@@ -1,6 +1,6 @@
 use Rattle.std.proofs.Common.{◌∙◌, ℕ, pos, negsuc, arith, w16}
 use Rattle.std.proofs.lemmas.Int.{ints}
-use lib.Signed.{shr_z}
+use lib.Signed.{shr_z as floor_div}
 use mir.Syntax.{signed, shr}
 use mir.Val.{of_z}
 use borrow.Rule.Simd.Lanes.{Asks2}
@@ -24,8 +24,8 @@ overflow_cast-result g c =
     let s = signed_shr (signed_param n c.args.sum _ c.well_formed.0) 7 in
     let held = signed_clamp s 65408 127 (negsuc 127) (pos 127) (stands_of (negsuc 127) (record { sfits = omega arith })) (stands_pos 127 (omega arith)) in
     let t = signed_add held (signed_splat n 128 (pos 128) (stands_pos 128 (omega arith)))
-    (λ i k. let b = ended_byte (shr_z (lane c.args.sum i) 128) in (omega (arith, ints), omega (arith, ints))) in
-    to_bytes_fits t (λ i k. ended_byte (shr_z (lane c.args.sum i) 128))
+    (λ i k. let b = ended_byte (floor_div (lane c.args.sum i) 128) in (omega (arith, ints), omega (arith, ints))) in
+    to_bytes_fits t (λ i k. ended_byte (floor_div (lane c.args.sum i) 128))
 
 pub returns : goal.returns
 returns g c j h =
@@ -33,5 +33,5 @@ returns g c j h =
     let s = signed_shr (signed_param n c.args.sum _ c.well_formed.0) 7 in
     let held = signed_clamp s 65408 127 (negsuc 127) (pos 127) (stands_of (negsuc 127) (record { sfits = omega arith })) (stands_pos 127 (omega arith)) in
     let t = signed_add held (signed_splat n 128 (pos 128) (stands_pos 128 (omega arith)))
-    (λ i k. let b = ended_byte (shr_z (lane c.args.sum i) 128) in (omega (arith, ints), omega (arith, ints))) in
-    to_bytes_out t j h ∙ ended_is (shr_z (lane c.args.sum j) 128)
+    (λ i k. let b = ended_byte (floor_div (lane c.args.sum i) 128) in (omega (arith, ints), omega (arith, ints))) in
+    to_bytes_out t j h ∙ ended_is (floor_div (lane c.args.sum j) 128)

@@ -1,5 +1,5 @@
 use Rattle.std.proofs.Common.{subst, w8, ◌<◌, ◌≡◌, cond, ◌&&◌, nat_le, nat_lt, ap, ap₂, ◌∙◌, pos, ◌+ℤ◌, ◌-ℤ◌, ◌*ℤ◌, ◌*◌, ◌+◌, ◌/◌, slice_index}
-use lib.Signed.{shr_z}
+use lib.Signed.{shr_z as floor_div}
 use Rattle.vp_lanes.specs.Lane.{clamp_to_byte, biased}
 use Rattle.vp_loop.specs.LineSteps.{clamp8, is_small_step, is_smooth, is_high, subblock_edge_filtered}
 use Rattle.vp_loop.specs.Lanes.{line_of}
@@ -22,10 +22,10 @@ returns c j h =
     c.where_high-w.ensures j h ∙ ap (λ z. cond high z (pos 0)) (c.difference-d.ensures j h) in
     let a : biased 128 c.masked-a.result j ≡ lane_pull m high l =
     c.masked-a.ensures j h ∙ ap (λ z. cond m z (pos 0)) (c.filter_value-s.ensures j h ∙ ap (λ z. clamp8 (z +ℤ pos 3 *ℤ (pos l.q0 -ℤ pos l.p0))) w) in
-    let f1 : biased 16 c.eighth-f1.result j ≡ lane_eighth m high l (pos 4) = c.eighth-f1.ensures.value j h ∙ ap (λ z. shr_z (clamp8 (z +ℤ pos 4)) 8) a in
-    let f2 : biased 16 c.eighth-f2.result j ≡ lane_eighth m high l (pos 3) = c.eighth-f2.ensures.value j h ∙ ap (λ z. shr_z (clamp8 (z +ℤ pos 3)) 8) a in
+    let f1 : biased 16 c.eighth-f1.result j ≡ lane_eighth m high l (pos 4) = c.eighth-f1.ensures.value j h ∙ ap (λ z. floor_div (clamp8 (z +ℤ pos 4)) 8) a in
+    let f2 : biased 16 c.eighth-f2.result j ≡ lane_eighth m high l (pos 3) = c.eighth-f2.ensures.value j h ∙ ap (λ z. floor_div (clamp8 (z +ℤ pos 3)) 8) a in
     let t : biased 8 c.where_low-t.result j ≡ lane_half m high l =
-    c.where_low-t.ensures j h ∙ ap (λ z. cond high (pos 0) z) (c.half-h.ensures j h ∙ ap (λ z. shr_z (z +ℤ pos 1) 2) f1) in
+    c.where_low-t.ensures j h ∙ ap (λ z. cond high (pos 0) z) (c.half-h.ensures j h ∙ ap (λ z. floor_div (z +ℤ pos 1) 2) f1) in
     let is_m : m ≡ (is_small_step c.args.limit l && is_smooth c.args.interior l) =
     ap₂ (λ x y. x && y) (ap₂ (λ x y. nat_le (x * 2 + y / 2) c.args.limit) (c.lane_abs_diff-edge.ensures j h) (c.lane_abs_diff-outer.ensures j h))
     (ap (λ n. nat_le n c.args.interior) (c.most_apart-most.ensures j h) ∙ smooth_is c.args.interior _ _ _ _ _ _) in

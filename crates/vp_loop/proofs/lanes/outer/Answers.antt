@@ -1,5 +1,5 @@
 use Rattle.std.proofs.Common.{subst, w8, ◌<◌, ◌≡◌, cond, ◌&&◌, nat_le, nat_lt, ap, ap₂, ◌∙◌, true, pos, ◌+ℤ◌, ◌-ℤ◌, ◌*ℤ◌, ◌*◌, ◌+◌, ◌/◌, slice_index}
-use lib.Signed.{shr_z}
+use lib.Signed.{shr_z as floor_div}
 use Rattle.vp_lanes.specs.Lane.{clamp_to_byte, biased}
 use Rattle.vp_loop.specs.LineSteps.{clamp8, is_small_step, is_smooth, is_high, macroblock_edge_filtered}
 use Rattle.vp_loop.specs.Lanes.{line_of}
@@ -28,11 +28,11 @@ returns c j h =
     (ap (λ n. nat_le n c.args.interior) (c.most_apart-most.ensures j h) ∙ smooth_is c.args.interior _ _ _ _ _ _) in
     let is_h : high ≡ is_high c.args.threshold l =
     ap (λ n. nat_lt c.args.threshold n) (c.inner_apart-apart.ensures j h) ∙ lt_max c.args.threshold _ _ in
-    let f1 : biased 16 c.eighth-f1.result j ≡ lane_eighth m true l (pos 4) = c.eighth-f1.ensures.value j h ∙ ap (λ z. shr_z (clamp8 (z +ℤ pos 4)) 8) w in
-    let f2 : biased 16 c.eighth-f2.result j ≡ lane_eighth m true l (pos 3) = c.eighth-f2.ensures.value j h ∙ ap (λ z. shr_z (clamp8 (z +ℤ pos 3)) 8) w in
-    let t0 : biased 27 c.weighted_filter_value-t0.result j ≡ lane_share m true l (pos 27) = c.weighted_filter_value-t0.ensures j h ∙ ap (λ z. clamp8 (shr_z (z *ℤ pos 27 +ℤ pos 63) 128)) w in
-    let t1 : biased 18 c.weighted_filter_value-t1.result j ≡ lane_share m true l (pos 18) = c.weighted_filter_value-t1.ensures j h ∙ ap (λ z. clamp8 (shr_z (z *ℤ pos 18 +ℤ pos 63) 128)) w in
-    let t2 : biased 9 c.weighted_filter_value-t2.result j ≡ lane_share m true l (pos 9) = c.weighted_filter_value-t2.ensures j h ∙ ap (λ z. clamp8 (shr_z (z *ℤ pos 9 +ℤ pos 63) 128)) w in
+    let f1 : biased 16 c.eighth-f1.result j ≡ lane_eighth m true l (pos 4) = c.eighth-f1.ensures.value j h ∙ ap (λ z. floor_div (clamp8 (z +ℤ pos 4)) 8) w in
+    let f2 : biased 16 c.eighth-f2.result j ≡ lane_eighth m true l (pos 3) = c.eighth-f2.ensures.value j h ∙ ap (λ z. floor_div (clamp8 (z +ℤ pos 3)) 8) w in
+    let t0 : biased 27 c.weighted_filter_value-t0.result j ≡ lane_share m true l (pos 27) = c.weighted_filter_value-t0.ensures j h ∙ ap (λ z. clamp8 (floor_div (z *ℤ pos 27 +ℤ pos 63) 128)) w in
+    let t1 : biased 18 c.weighted_filter_value-t1.result j ≡ lane_share m true l (pos 18) = c.weighted_filter_value-t1.ensures j h ∙ ap (λ z. clamp8 (floor_div (z *ℤ pos 18 +ℤ pos 63) 128)) w in
+    let t2 : biased 9 c.weighted_filter_value-t2.result j ≡ lane_share m true l (pos 9) = c.weighted_filter_value-t2.ensures j h ∙ ap (λ z. clamp8 (floor_div (z *ℤ pos 9 +ℤ pos 63) 128)) w in
     let u0 : biased 27 c.either-u0.result j ≡ cond high (lane_eighth m true l (pos 3)) (lane_share m true l (pos 27)) = c.either-u0.ensures j h ∙ ap₂ (λ a b. cond high a b) f2 t0 in
     let v0 : biased 27 c.either-v0.result j ≡ cond high (lane_eighth m true l (pos 4)) (lane_share m true l (pos 27)) = c.either-v0.ensures j h ∙ ap₂ (λ a b. cond high a b) f1 t0 in
     let u1 : biased 18 c.where_low-u1.result j ≡ cond high (pos 0) (lane_share m true l (pos 18)) = c.where_low-u1.ensures j h ∙ ap (λ b. cond high (pos 0) b) t1 in

@@ -1,5 +1,5 @@
 use Rattle.std.proofs.Common.{subst, w8, ◌<◌, ◌≡◌, cond, ◌&&◌, nat_le, ap, ap₂, ◌∙◌, true, pos, ◌+ℤ◌, ◌-ℤ◌, ◌*ℤ◌, ◌*◌, ◌+◌, ◌/◌, slice_index}
-use lib.Signed.{shr_z}
+use lib.Signed.{shr_z as floor_div}
 use Rattle.vp_lanes.specs.Lane.{clamp_to_byte, biased}
 use Rattle.vp_loop.specs.LineSteps.{clamp8, is_small_step, common_adjusted}
 use Rattle.vp_loop.specs.Lanes.{line_of}
@@ -21,8 +21,8 @@ returns c j h =
     let is_m : m ≡ is_small_step c.args.limit l =
     all_smooth (nat_le size c.args.limit) l.p0 p0
     ∙ ap₂ (λ x y. nat_le (x * 2 + y / 2) c.args.limit) (c.lane_abs_diff-edge.ensures j h) (c.lane_abs_diff-outer.ensures j h) in
-    let f1 : biased 16 c.eighth-f1.result j ≡ lane_eighth m true l (pos 4) = c.eighth-f1.ensures.value j h ∙ ap (λ z. shr_z (clamp8 (z +ℤ pos 4)) 8) w in
-    let f2 : biased 16 c.eighth-f2.result j ≡ lane_eighth m true l (pos 3) = c.eighth-f2.ensures.value j h ∙ ap (λ z. shr_z (clamp8 (z +ℤ pos 3)) 8) w in
+    let f1 : biased 16 c.eighth-f1.result j ≡ lane_eighth m true l (pos 4) = c.eighth-f1.ensures.value j h ∙ ap (λ z. floor_div (clamp8 (z +ℤ pos 4)) 8) w in
+    let f2 : biased 16 c.eighth-f2.result j ≡ lane_eighth m true l (pos 3) = c.eighth-f2.ensures.value j h ∙ ap (λ z. floor_div (clamp8 (z +ℤ pos 3)) 8) w in
     let e0 = c.raised.ensures.value j h ∙ ap (λ z. clamp_to_byte (pos l.p0 +ℤ z)) f2 in
     let g0 = c.lowered.ensures.value j h ∙ ap (λ z. clamp_to_byte (pos l.q0 -ℤ z)) f1 in
     let all : line_of (record { p3 = c.args.l.p3; p2 = c.args.l.p2; p1 = c.args.l.p1; p0 = c.raised.result; q0 = c.lowered.result; q1 = c.args.l.q1; q2 = c.args.l.q2; q3 = c.args.l.q3 }) j ≡ lane_drawn m l =

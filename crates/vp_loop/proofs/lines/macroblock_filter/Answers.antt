@@ -1,5 +1,5 @@
 use Rattle.std.proofs.Common.{ap, ◌∙◌, ◌≡◌, sym, subst, pos, ◌+ℤ◌, ◌*ℤ◌, ℤ, Bool}
-use lib.Signed.{shr_z}
+use lib.Signed.{shr_z as floor_div}
 use Rattle.vp_loop.specs.declared.lines.Line.{Line}
 use Rattle.vp_loop.specs.LineSteps.{clamp8, weighted_filter_value, macroblock_edge_filtered}
 use Rattle.vp_loop.proofs.Shift.{same_is}
@@ -10,7 +10,7 @@ pub returns : goal.returns
 returns c =
     let l = c.args.line in
     let a = same_is _ c.filter_value-w.ensures.range ∙ c.filter_value-w.ensures.value in
-    let weighted = λ (k z : ℤ). clamp8 (shr_z (z *ℤ k +ℤ pos 63) 128) in
+    let weighted = λ (k z : ℤ). clamp8 (floor_div (z *ℤ k +ℤ pos 63) 128) in
     let near : c.weighted_filter_value-near.result ≡ weighted_filter_value (pos 27) l = c.weighted_filter_value-near.ensures.value ∙ ap (weighted (pos 27)) a in
     let middle : c.weighted_filter_value-middle.result ≡ weighted_filter_value (pos 18) l = c.weighted_filter_value-middle.ensures.value ∙ ap (weighted (pos 18)) a in
     let far : c.weighted_filter_value-far.result ≡ weighted_filter_value (pos 9) l = c.weighted_filter_value-far.ensures.value ∙ ap (weighted (pos 9)) a in

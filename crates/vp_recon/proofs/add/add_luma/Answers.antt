@@ -23,4 +23,4 @@ returns c =
     let t = c.args.tokens.now in
     let f = c.args.factors.now in
     c.add_residues-2.ensures (luma_residue c.args.y2 t f)
-    (λ k below. c.residues_after_y2-residues.ensures.value k below ∙ luma_after t f c.args.y2 c.if-not-y2.false c.luma_firsts-firsts.result c.luma_firsts-firsts.ensures.value k below)
+    (λ k below. c.residues_after_y2-residues.ensures.value k below ∙ luma_after t f c.args.y2 c.if-not-y2.false c.luma_firsts-dc_from_y2.result c.luma_firsts-dc_from_y2.ensures.value k below)

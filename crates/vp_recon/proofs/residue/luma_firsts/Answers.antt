@@ -17,14 +17,14 @@ returns-then-block-le1-clause-value c =
     let f : Factors = c.args.factors.now in
     let is : IsBlock c.block_of-block.result.now = subst IsBlock c.block.view_is c.block.invariant in
     let few : c.block_of-block.result.now.tokens ≤ 1 = let e : c.block.inside.tokens ≡ c.block_of-block.result.now.tokens = ap (λ (a : Block). a.tokens) c.block.view_is in omega (arith, e, c.if-block-le1.true) in
-    let first : ℤ = c.first_of.result in
-    let exact : coded first ≡ first = read first (fits-below first (omega (arith, c.first_of.ensures.within))) in
+    let first : ℤ = c.scaled_dc.result in
+    let exact : coded first ≡ first = read first (fits-below first (omega (arith, c.scaled_dc.ensures.within))) in
     let own : ℤ = get_or b.levels 0 (pos 0) *ℤ pos f.y2_dc in
     let all : ℤ = c.iwht_of_first.result in
-    let whole : coded all ≡ all = read all (fits-below all (omega (arith, ap unsigned_abs exact, c.first_of.ensures.within, c.iwht_of_first.ensures.within))) in
+    let whole : coded all ≡ all = read all (fits-below all (omega (arith, ap unsigned_abs exact, c.scaled_dc.ensures.within, c.iwht_of_first.ensures.within))) in
     ap (λ (z : ℤ). replicate 16 z) whole
     ∙ sym c.iwht_of_first.ensures.value
-    ∙ ap (λ (z : ℤ). iwht (z ∷ replicate 15 (pos 0))) (exact ∙ c.first_of.ensures.value ∙ ap (λ (a : Block). get_or a.levels 0 (pos 0) *ℤ pos f.y2_dc) c.block.view_is)
+    ∙ ap (λ (z : ℤ). iwht (z ∷ replicate 15 (pos 0))) (exact ∙ c.scaled_dc.ensures.value ∙ ap (λ (a : Block). get_or a.levels 0 (pos 0) *ℤ pos f.y2_dc) c.block.view_is)
     ∙ ap iwht (first_alone b is own f.y2_ac few ∙ own_first b.levels f.y2_dc f.y2_ac)
     ∙ ap (λ (a : Block). iwht (dequantised a.levels f.y2_dc f.y2_ac)) c.block_of-block.ensures
 

@@ -32,12 +32,12 @@ returns c r j rin jin =
     let byte : get_or c.args.prediction (r * 4 + j) 0 < 256 = byte_lane c.args.prediction c.fits-prediction (r * 4 + j) below in
     let own : List ℤ = residue c.args.block.now.levels c.args.dc c.args.ac in
     let kept : List ℤ = c.residue_with_first.result in
-    let first : ℤ = c.first_of-first.result in
-    let exact : coded first ≡ first = read first (fits-below first (omega (arith, c.first_of-first.ensures.within))) in
+    let first : ℤ = c.scaled_dc-first.result in
+    let exact : coded first ≡ first = read first (fits-below first (omega (arith, c.scaled_dc-first.ensures.within))) in
     let is : HasEqualSums c.residue_with_first.result (residue c.args.block.now.levels c.args.dc c.args.ac) =
     subst (λ (zs : List ℤ). HasEqualSums c.residue_with_first.result (idct zs))
     (ap (λ (z : ℤ). set (dequantised c.args.block.now.levels 0 c.args.ac) 0 z)
-    (exact ∙ c.first_of-first.ensures.value ∙ ap (λ (b : Block). get_or b.levels 0 (pos 0) *ℤ pos c.args.dc) c.block.view_is)
+    (exact ∙ c.scaled_dc-first.ensures.value ∙ ap (λ (b : Block). get_or b.levels 0 (pos 0) *ℤ pos c.args.dc) c.block.view_is)
     ∙ own_first c.args.block.now.levels c.args.dc c.args.ac) c.residue_with_first.ensures.value in
     c.added.ensures i below
     ∙ ap (summed p) (passed16 kept i 8800 (omega arith) (c.residue_with_first.ensures.low i below))

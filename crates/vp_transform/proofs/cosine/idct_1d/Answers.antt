@@ -3,11 +3,11 @@ use Rattle.vp_transform.proofs.Words.{coded, read, read_sum, read_difference, re
 use Rattle.vp_transform.specs.Fits.{Fits, TurnFits}
 use Rattle.vp_transform.specs.Transform.{scaled}
 use Rattle.vp_transform.proofs.cosine.idct_1d.Goals as goal
-use lib.Signed.{shr_z}
+use lib.Signed.{shr_z as floor_div}
 
 -- what the code has for z * k / 2^16
 abbrev coded_scaled : ℤ → ℤ → ℤ
-coded_scaled z k = coded (shr_z (coded (coded z *ℤ k)) 65536)
+coded_scaled z k = coded (floor_div (coded (coded z *ℤ k)) 65536)
 
 -- a, b, c and d
 module _ (i0 i1 i2 i3 : ℤ) (f0 : Fits i0) (f1 : Fits i1) (f2 : Fits i2) (f3 : Fits i3) (h : TurnFits i0 i1 i2 i3) where

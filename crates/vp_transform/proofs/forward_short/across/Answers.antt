@@ -1,5 +1,5 @@
 use Rattle.std.proofs.Common.{◌∙◌, ◌<◌, ◌≤◌, ℕ, pos, ◌+ℤ◌, ap, sym, subst, unsigned_abs, arith}
-use lib.Signed.{shr_z}
+use lib.Signed.{shr_z as floor_div}
 use Rattle.vp_lanes.specs.Lane.{lane}
 use Rattle.vp_lanes.proofs.Signed.{signed_param, signed_splat, stands_pos, signed_add, signed_sub, signed_mul, signed_out}
 use Rattle.vp_transform.proofs.Known.{multiple-at_most}
@@ -69,7 +69,7 @@ returns g =
     across_is g.args.i0 g.args.i1 g.args.i2 g.args.i3 _ _ _ _
     (λ j h. four (signed_out (signed_add a b (λ j h. short_from 8160 (sum-at_most (multiple-at_most 8 (s j h).a) (multiple-at_most 8 (s j h).b)) (omega arith) (omega arith))) j h)
     (signed_out (signed_param 4 g.row_rounded.result _ g.row_rounded.type_inv) j h ∙ g.row_rounded.ensures j h
-    ∙ ap (λ z. shr_z (z +ℤ pos 2048) 4096) ((passes g.sum_of.result _ g.sum_of.type_inv).at j h ∙ g.sum_of.ensures.value j h ∙ sum_along (signed_out c j h) (signed_out d j h)))
+    ∙ ap (λ z. floor_div (z +ℤ pos 2048) 4096) ((passes g.sum_of.result _ g.sum_of.type_inv).at j h ∙ g.sum_of.ensures.value j h ∙ sum_along (signed_out c j h) (signed_out d j h)))
     (signed_out (signed_sub a b (λ j h. short_from 8160 (difference-at_most (multiple-at_most 8 (s j h).a) (multiple-at_most 8 (s j h).b)) (omega arith) (omega arith))) j h)
     (signed_out (signed_param 4 g.row_rounded-2.result _ g.row_rounded-2.type_inv) j h ∙ g.row_rounded-2.ensures j h
-    ∙ ap (λ z. shr_z (z +ℤ pos 2048) 4096) ((passes g.difference_of.result _ g.difference_of.type_inv).at j h ∙ g.difference_of.ensures.value j h ∙ difference_along (signed_out d j h) (signed_out c j h))))
+    ∙ ap (λ z. floor_div (z +ℤ pos 2048) 4096) ((passes g.difference_of.result _ g.difference_of.type_inv).at j h ∙ g.difference_of.ensures.value j h ∙ difference_along (signed_out d j h) (signed_out c j h))))

@@ -12,20 +12,20 @@ use Rattle.vp_recon.proofs.residue.Residues.first_coefficient.Goals as goal
 pub returns-in-None-clause-value : goal.returns-in-None-clause-value
 returns-in-None-clause-value c =
     let r = c.args.self.now in
-    let first : ℤ = c.first_of.result in
-    let exact : coded first ≡ first = read first (fits-below first (omega (arith, c.first_of.ensures.within))) in
+    let first : ℤ = c.scaled_dc.result in
+    let exact : coded first ≡ first = read first (fits-below first (omega (arith, c.scaled_dc.ensures.within))) in
     let levels : List ℤ = (block_of r.tokens.now (r.first + c.args.k)).levels in
     ap (λ (z : ℤ). set (dequantised levels 0 r.ac) 0 z)
-    (exact ∙ c.first_of.ensures.value ∙ ap (λ (b : Block). get_or b.levels 0 (pos 0) *ℤ pos r.dc) (c.behind-self.view_is ∙ c.block_of.ensures))
+    (exact ∙ c.scaled_dc.ensures.value ∙ ap (λ (b : Block). get_or b.levels 0 (pos 0) *ℤ pos r.dc) (c.behind-self.view_is ∙ c.block_of.ensures))
     ∙ own_first levels r.dc r.ac
     ∙ ap (λ (o : Option (Bor (List ℤ))). with_first o c.args.k (dequantised levels r.dc r.ac)) (sym c.in-None.is)
 
 pub returns-in-Some-clause-value : goal.returns-in-Some-clause-value
 returns-in-Some-clause-value c =
     let r = c.args.self.now in
-    let firsts : Bor (List ℤ) = c.in-Some.firsts in
-    let first : ℤ = get_or firsts.now c.args.k (pos 0) in
-    let exact : coded first ≡ first = read first (fits-below first (omega (arith, c.requires.small firsts c.in-Some.is c.args.k))) in
+    let dc_from_y2 : Bor (List ℤ) = c.in-Some.dc_from_y2 in
+    let first : ℤ = get_or dc_from_y2.now c.args.k (pos 0) in
+    let exact : coded first ≡ first = read first (fits-below first (omega (arith, c.requires.small dc_from_y2 c.in-Some.is c.args.k))) in
     let levels : List ℤ = (block_of r.tokens.now (r.first + c.args.k)).levels in
     ap (λ (z : ℤ). set (dequantised levels 0 r.ac) 0 z) exact
     ∙ any_first levels first r.dc r.ac

@@ -4,4 +4,4 @@ use Rattle.vp_recon.specs.Parts.{residue_in}
 use Rattle.vp_recon.proofs.residue.Residues.has_none.Given as goal
 
 abbrev pub invariant-loop-k : goal.invariant-loop-k
-invariant-loop-k l = (j : ℕ) → j < l.k → l.self.firsts ≡ None → l.tokens ≡ 0 → IsNothing (residue_in l.self j)
+invariant-loop-k l = (j : ℕ) → j < l.k → l.self.dc_from_y2 ≡ None → l.tokens ≡ 0 → IsNothing (residue_in l.self j)
