@@ -193,7 +193,8 @@ vp8_status vp8_decoder_lend(vp8_decoder *decoder, vp8_lent_picture *lent);
 /* Writes 1 to *corrupt if a partition of the packet that was decoded last was read past its end, where zeros are read;
  * else 0, also if the last packet had no bytes or could not be decoded, and before the first one. Nothing else is told:
  * 0 does not say that the packet is whole, since changed bytes, or a lost end, may give another picture that is read
- * within the partitions; 1 does not say that the picture is damaged, since zeros at a partition's end may be left out.
+ * within the partitions; 1 does not say that the picture is damaged, since zeros at a partition's end may be left out,
+ * and since a partition that begins with 255, as no encoder's does, counts as one byte.
  * Nor does it tell that a picture is predicted from a damaged one.
  * VP8_CLOSED: nothing is written. */
 vp8_status vp8_decoder_corrupt(vp8_decoder *decoder, uint32_t *corrupt);

@@ -292,8 +292,9 @@ class Decoder(_Closing):
         """Whether a partition of the packet decoded last was read past its end, where zeros are read.
 
         That tells no other damage: changed bytes, or a lost end, may give another picture that is read within the
-        partitions. Nor is it always damage: zeros at a partition's end may be left out. False if that packet had no
-        bytes or raised Error, and before the first one."""
+        partitions. Nor is it always damage: zeros at a partition's end may be left out, and a partition that begins
+        with 255, as no encoder's does, counts as one byte. False if that packet had no bytes or raised Error, and
+        before the first one."""
         corrupt = ctypes.c_uint32()
         with self._lock:
             _check(_library.vp8_decoder_corrupt(self._handle, corrupt))

@@ -109,8 +109,9 @@ impl Decoder {
 
     /// Whether a partition of the packet that was decoded last was read past its end, where zeros are
     /// read. That tells no other damage: changed bytes, or a lost end, may give another picture that is
-    /// read within the partitions. Nor is it always damage: zeros at a partition's end may be left out.
-    /// False if that packet had no bytes or a fault, and before the first one.
+    /// read within the partitions. Nor is it always damage: zeros at a partition's end may be left out,
+    /// and a partition that begins with 255, as no encoder's does, counts as one byte. False if that
+    /// packet had no bytes or a fault, and before the first one.
     pub fn is_corrupt(&mut self) -> Result<bool, Status> {
         let mut corrupt = 0;
         // SAFETY: the pointer is of a variable.

@@ -170,12 +170,7 @@ pub extern "C" fn vp8_decoder_lend(
     };
     let status = match held.shown() {
         Ok(picture) => {
-            *lent = LentPicture::of(
-                picture,
-                picture.plane(0).pixels(),
-                picture.plane(1).pixels(),
-                picture.plane(2).pixels(),
-            );
+            *lent = LentPicture::of(picture);
             OK
         }
         Err(why) => why,

@@ -104,7 +104,7 @@ fn begin(pixels: &[u8], out: &mut [u8]) {
 }
 
 /// Lends the picture of a decoder. Returns the status, the layout, and the row of each plane of the picture that is
-/// there to lend. That it lies at the addresses is proved (`LentPicture::of`), and read in the tests of the bindings.
+/// there to lend. What lies at the addresses is read by the tests of the bindings.
 fn lend(alloc: Global, decoder: &mut Handle) -> (u32, Layout, Planes) {
     let mut lent = LentPicture::none();
     let mut planes = ([9; 17], [9; 9], [9; 9]);

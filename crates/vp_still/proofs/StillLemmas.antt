@@ -40,17 +40,20 @@ allowed qi low = record {
 }
 
 pub key_frame : (scale : Scale) (qi w h : ℕ) (pixels : List ℕ) (source : Image) (dim : Dim) (e next : EncoderState) (r : Encoded)
-    → dim.w ≡ scaled_side (factor_of scale) w → dim.h ≡ scaled_side (factor_of scale) h → i420 source ≡ scaled_i420 (factor_of scale) w h pixels
+    → dim.w ≡ scaled_side (factor_of scale) w → dim.h ≡ scaled_side (factor_of scale) h
+    → source.width ≡ scaled_side (factor_of scale) w → source.height ≡ scaled_side (factor_of scale) h → i420 source ≡ scaled_i420 (factor_of scale) w h pixels
     → e ≡ initial_encoder dim (still_settings qi)
     → ((limits : Limits) → e.dim.w * e.dim.h ≤ limits.pixels → step limits e.state r.packet ≡ (next.state, Shown r.recon.value))
     → IsChosen e source r.packet → r.squared_error ≡ squared_distance source r.recon.value → next.dim ≡ e.dim → next.settings ≡ e.settings
     → next.since ≡ (if next_is_key e then 1 else e.since + 1)
     → IsKeyFrameFor scale qi w h pixels r.packet r.squared_error
-key_frame scale qi w h pixels source dim e next r wide high shown is decoded chosen error same settings since = record {
+key_frame scale qi w h pixels source dim e next r wide high own_width own_height shown is decoded chosen error same settings since = record {
   dim = dim;
   width = wide;
   height = high;
   frame = record { source = source; packet = r.packet; recon = r.recon.value };
+  source_width = own_width ∙ sym wide;
+  source_height = own_height ∙ sym high;
   source = shown;
   next = next;
   encoded = subst (λ (x : EncoderState). IsEncoded x (record { source = source; packet = r.packet; recon = r.recon.value }) next) is (record {
@@ -67,13 +70,16 @@ key_frame scale qi w h pixels source dim e next r wide high shown is decoded cho
 -- ---- a frame whose part is too long
 
 pub long_part : (scale : Scale) (qi w h : ℕ) (pixels : List ℕ) (source : Image) (dim : Dim) (e : EncoderState)
-    → dim.w ≡ scaled_side (factor_of scale) w → dim.h ≡ scaled_side (factor_of scale) h → i420 source ≡ scaled_i420 (factor_of scale) w h pixels
+    → dim.w ≡ scaled_side (factor_of scale) w → dim.h ≡ scaled_side (factor_of scale) h
+    → source.width ≡ scaled_side (factor_of scale) w → source.height ≡ scaled_side (factor_of scale) h → i420 source ≡ scaled_i420 (factor_of scale) w h pixels
     → e ≡ initial_encoder dim (still_settings qi) → IsTooLong e source → HasLongPart scale qi w h pixels
-long_part scale qi w h pixels source dim e wide high shown is long = record {
+long_part scale qi w h pixels source dim e wide high own_width own_height shown is long = record {
   dim = dim;
   width = wide;
   height = high;
   source = source;
+  source_width = own_width ∙ sym wide;
+  source_height = own_height ∙ sym high;
   shown = shown;
   long = subst (λ (x : EncoderState). IsTooLong x source) is long;
 }

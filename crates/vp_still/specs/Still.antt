@@ -51,6 +51,8 @@ pub record IsKeyFrameFor (scale : Scale) (qi w h : ℕ) (pixels packet : List �
   pub width : dim.w ≡ scaled_side (factor_of scale) w
   pub height : dim.h ≡ scaled_side (factor_of scale) h
   pub frame : EncodedFrame
+  pub source_width : frame.source.width ≡ dim.w
+  pub source_height : frame.source.height ≡ dim.h
   pub source : i420 frame.source ≡ scaled_i420 (factor_of scale) w h pixels
   pub next : EncoderState
   pub encoded : IsEncoded (initial_encoder dim (still_settings qi)) frame next

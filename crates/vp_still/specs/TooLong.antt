@@ -18,6 +18,8 @@ pub record HasLongPart (scale : Scale) (qi w h : ℕ) (pixels : List ℕ) : Type
   pub width : dim.w ≡ scaled_side (factor_of scale) w
   pub height : dim.h ≡ scaled_side (factor_of scale) h
   pub source : Image
+  pub source_width : source.width ≡ dim.w
+  pub source_height : source.height ≡ dim.h
   pub shown : i420 source ≡ scaled_i420 (factor_of scale) w h pixels
   pub long : IsTooLong (initial_encoder dim (still_settings qi)) source
 
