@@ -22,7 +22,7 @@ stream_handle_of (Encoder e) = None
 abbrev pub stream_handle_in : Handle → Option StreamHandle
 stream_handle_in h = option_and_then stream_handle_of (handle_value_in h)
 
--- no packet was requested: the cursor stands behind no packet, and none was decoded
+-- no packet was requested: the cursor is before the first packet, and none was decoded
 pub record IsUnasked (a : StreamHandle) : Type 0 where
   pub cursor : a.cursor ≡ initial_cursor a.file.stream.limits
   pub decoded : a.decoded ≡ 0
@@ -43,8 +43,8 @@ KeepsCursor old new = (new.cursor ≡ old.cursor) × (new.decoded ≡ old.decode
 
 -- ---- the packets decoded for a request
 
--- Packet n was requested: the cursor stands behind it, and the decoded packets are those from where the cursor stood,
--- or from the last key packet on. Or memory ran out, and the cursor stands behind no packet. In all cases no more
+-- Packet n was requested: the cursor is past it, and the decoded packets are those from where the cursor was,
+-- or from the last key packet on. Or memory ran out, and the cursor is at the start. In all cases no more
 -- packets are decoded than without a cursor.
 pub record Seeks (n status : ℕ) (old new : StreamHandle) : Type 0 where
   pub next : status ≢ MEMORY → new.cursor.next ≡ next_after old.file.stream.reading.packets old.cursor.next n

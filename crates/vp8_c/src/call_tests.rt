@@ -236,7 +236,7 @@ fn decoded_for(alloc: Global, stream: &mut Handle) -> u64 {
 }
 
 /// Packets in order are decoded once each, and the one decoded last not again. In another order, decoding starts at the
-/// key packet or goes on behind the last request, and each answer is the same.
+/// key packet or goes on after the last request, and each answer is the same.
 #[test]
 fn packets_in_order_are_decoded_once(rt: HostRuntime) {
     let alloc = rt.alloc();
@@ -416,8 +416,8 @@ fn decode_for_facts(alloc: Global, decoder: &mut Handle, packet: &[u8]) -> (u32,
     (decoded, asked, numbers)
 }
 
-/// A key packet with upscaling codes 1 and 2, and an inter packet whose bools are all 1; libvpx flags both. Packets with
-/// faults and empty packets have no facts.
+/// A key packet with upscaling codes 1 and 2, and an inter packet whose bools are all 1; libvpx flags both. Packets
+/// with faults and empty packets have no facts.
 #[test]
 fn facts_of_frames_are_written(rt: HostRuntime) {
     let alloc = rt.alloc();
@@ -624,7 +624,7 @@ fn decode_and_ask(alloc: Global, decoder: &mut Handle, packet: &[u8]) -> [u32; 3
     [decoded, asked, corrupt]
 }
 
-/// A packet that is read past its end is told, and one after it is judged by itself.
+/// A packet that is read past its end is reported, and one after it is judged by itself.
 #[test]
 fn damage_is_told(rt: HostRuntime) {
     let alloc = rt.alloc();

@@ -180,7 +180,7 @@ pub extern "C" fn vp8_decoder_lend(
 }
 
 /// Writes 1 if a partition of the last packet was read past its end, else 0: also for a packet with a fault or without
-/// bytes, and before the first packet. No other damage is told.
+/// bytes, and before the first packet. No other damage is reported.
 ///
 /// Status: `CLOSED`.
 #[unsafe(no_mangle)]

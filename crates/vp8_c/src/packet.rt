@@ -53,7 +53,7 @@ pub struct FrameInfo {
     pub refreshes_golden: u32,
     /// 1 if its picture becomes altref, else 0.
     pub refreshes_altref: u32,
-    /// 1 if a partition was read past its end, else 0. No other damage is told.
+    /// 1 if a partition was read past its end, else 0. No other damage is reported.
     pub corrupt: u32,
 }
 

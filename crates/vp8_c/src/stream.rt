@@ -115,7 +115,7 @@ pub extern "C" fn vp8_stream_get_info(
     status
 }
 
-/// Decodes packet `n`, and keeps its picture. Decoding goes on behind the packet requested before, or starts at the
+/// Decodes packet `n`, and keeps its picture. Decoding goes on after the packet requested before, or starts at the
 /// last key packet up to `n`: packets in order are decoded once each.
 ///
 /// Status: `HIDDEN`, the faults of a packet, `NO_PACKET`, `MEMORY`, `CLOSED`.

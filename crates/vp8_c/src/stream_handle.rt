@@ -14,7 +14,7 @@ use vp_stream::{Answer, Cursor, Stream};
 pub struct StreamHandle {
     /// The file, and the answer for the last requested packet.
     pub file: FileHandle,
-    /// A decoder that stands behind packets of the file, so that packets in order are decoded once each.
+    /// A decoder that is past packets of the file, so that packets in order are decoded once each.
     pub cursor: Cursor,
     /// The number of packets decoded for all requests. It saturates at 2^64 - 1.
     pub decoded: u64,

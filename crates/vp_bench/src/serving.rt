@@ -158,7 +158,7 @@ pub(crate) fn scrub(
 }
 
 /// Makes two files of `count` packets with one key packet each, and requests the pictures of the first one in order,
-/// and then back in steps of ten, from a hub with so many cursors.
+/// and then back in steps of ten, from a hub with this number of cursors.
 pub(crate) fn play(
     alloc: Global,
     random: &mut Random,

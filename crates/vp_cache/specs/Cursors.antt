@@ -1,4 +1,4 @@
--- Cursors of streams: which of them goes on at a packet, where they stand afterwards, and the packets decoded. Pinned
+-- Cursors of streams: which of them goes on at a packet, where they are afterwards, and the packets decoded. Pinned
 -- by the tests `readers_keep_their_cursors` and `packets_in_order_cost_one_each`.
 use Rattle.std.specs.Prelude.{◌≡◌, ◌+◌, ◌==◌, ◌&&◌, ℕ, min, max, Bool, nat_le, nat_lt, List, [], ◌∷◌, length, take}
 use Rattle.std.specs.Prelude.{Option, Some, None, Contains, if◌then◌else◌}
@@ -29,7 +29,7 @@ pub record AreCursorsOf (number : ℕ) (stream : StreamState) (entries : List Cu
 
 -- ---- the cursor that goes on at a packet
 
--- a cursor of this stream that stands behind `start` to `end` packets
+-- a cursor of this stream that is past `start` to `end` packets
 abbrev pub is_between : ℕ → ℕ → ℕ → CursorEntry → Bool
 is_between number start end e = e.0 == number && (nat_le start e.1.next && nat_le e.1.next end)
 
@@ -38,23 +38,23 @@ abbrev pub greater : ℕ → Option ℕ → Option ℕ
 greater a None = Some a
 greater a (Some b) = Some (max a b)
 
--- the greatest number of packets that one of these cursors stands behind
+-- the greatest number of packets that one of these cursors is past
 abbrev pub nearest_between : ℕ → ℕ → ℕ → List CursorEntry → Option ℕ
 nearest_between number start end [] = None
 nearest_between number start end (e ∷ es) =
     if is_between number start end e then greater e.1.next (nearest_between number start end es)
     else nearest_between number start end es
 
--- The nearest usable cursor for packet n goes on, if there is one. It can be used if it stands between the last key
--- packet and the place behind packet n.
+-- The nearest usable cursor for packet n goes on, if there is one. It can be used if it is between the last key
+-- packet and the place after packet n.
 abbrev pub nearest : ℕ → List Packet → ℕ → List CursorEntry → Option ℕ
 nearest number packets n entries = nearest_between number (seek_start packets n) (n + 1) entries
 
--- a cursor of this stream that stands behind so many packets
+-- a cursor of this stream that is past this number of packets
 abbrev pub stands_behind : ℕ → ℕ → CursorEntry → Bool
 stands_behind number next e = e.0 == number && e.1.next == next
 
--- the entries without the first one that stands there
+-- the entries without the first one at that place
 abbrev pub without_first : ℕ → ℕ → List CursorEntry → List CursorEntry
 without_first number next [] = []
 without_first number next (e ∷ es) = if stands_behind number next e then es else e ∷ without_first number next es
@@ -66,14 +66,14 @@ without number (Some next) entries = without_first number next entries
 
 -- ---- the cursors after a request
 
--- The cursor that was used comes to the front. If it is a new one and there are too many, then the least recently used
+-- The cursor that was used moves to the front. If it is a new one and there are too many, then the least recently used
 -- one is dropped.
 abbrev pub in_front : Cursors → ℕ → List Packet → ℕ → Cursor → Cursors
 in_front old number packets n cursor = record old {
   entries = take old.capacity ((number, cursor) ∷ without number (nearest number packets n old.entries) old.entries);
 }
 
--- it stands behind packet n; without a packet n nothing changes
+-- it is past packet n; without a packet n nothing changes
 abbrev pub after_picture : Cursors → ℕ → StreamState → ℕ → Cursors
 after_picture old number stream n =
     if nat_lt n (length stream.reading.packets)
@@ -103,7 +103,7 @@ work_with None number packets n entries = least_work number packets n entries
 
 -- ---- for private functions
 
--- the cursor of the list that stands there, or a new one
+-- the cursor of the list at that place, or a new one
 abbrev pub IsChosen : Limits → ℕ → Option ℕ → List CursorEntry → Cursor → Type 0
 IsChosen limits number None entries c = c ≡ initial_cursor limits
 IsChosen limits number (Some next) entries c = (c.next ≡ next) × Contains entries (number, c)

@@ -1,5 +1,5 @@
 -- The statements of the laws on the cursor that goes on at a packet: which one it is, what it saves, and where it
--- stands afterwards.
+-- is afterwards.
 use Rattle.std.specs.Prelude.{◌≡◌, ◌≢◌, ◌+◌, ◌-◌, ◌<◌, ◌≤◌, ℕ, min, List, Some, None, Contains, length, slice_get}
 use Rattle.vp_ivf.specs.declared.packet.Packet.{Packet}
 use Rattle.vp_stream.specs.Seeking.{answer_at, seek_start, work_of}
@@ -9,7 +9,7 @@ use Rattle.vp_cache.specs.Cursors.{Cursors, CursorEntry, AreCursorsOf, nearest, 
 
 -- ---- which cursor goes on
 
--- a cursor of this stream stands behind `next` packets, between the last key packet and the place behind packet n
+-- a cursor of this stream is past `next` packets, between the last key packet and the place after packet n
 pub record IsUsable (number : ℕ) (packets : List Packet) (n : ℕ) (entries : List CursorEntry) (next : ℕ) : Type 0 where
   pub cursor : Cursor
   pub listed : Contains entries (number, cursor)
@@ -17,7 +17,7 @@ pub record IsUsable (number : ℕ) (packets : List Packet) (n : ℕ) (entries : 
   pub from_key : seek_start packets n ≤ next
   pub to_packet : next ≤ n + 1
 
--- the cursor that goes on is usable, and none of the usable ones stands behind more packets
+-- the cursor that goes on is usable, and none of the usable ones is past more packets
 abbrev pub NearestIsUsable : Type 0
 NearestIsUsable = (number : ℕ) (packets : List Packet) (n : ℕ) (entries : List CursorEntry) (next : ℕ)
     → nearest number packets n entries ≡ Some next
@@ -48,9 +48,9 @@ OthersSaveNothing = (number : ℕ) (packets : List Packet) (n : ℕ) (entries : 
     → ((e : CursorEntry) → Contains entries e → e.0 ≢ number)
     → least_work number packets n entries ≡ work_of packets n
 
--- ---- where it stands afterwards
+-- ---- where it is afterwards
 
--- the first entry is the stream's cursor behind packet n
+-- the first entry is the stream's cursor past packet n
 abbrev pub UsedIsFirst : Type 0
 UsedIsFirst = (old : Cursors) (number : ℕ) (s : StreamState) (n : ℕ) → 0 < old.capacity → n < length s.reading.packets
     → slice_get (after_picture old number s n).entries 0
@@ -68,7 +68,7 @@ NewOneComes = (old : Cursors) (number : ℕ) (s : StreamState) (n : ℕ) → n <
     → nearest number s.reading.packets n old.entries ≡ None
     → length (after_picture old number s n).entries ≡ min old.capacity (length old.entries + 1)
 
--- a cursor behind packet n holds the stream's answer for packet n
+-- a cursor past packet n holds the stream's answer for packet n
 abbrev pub CursorsHoldAnswers : Type 0
 CursorsHoldAnswers = (number : ℕ) (s : StreamState) (entries : List CursorEntry) (c : Cursor) (n : ℕ)
     → AreCursorsOf number s entries → Contains entries (number, c) → c.next ≡ n + 1

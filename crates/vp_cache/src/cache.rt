@@ -155,8 +155,8 @@ impl Cache {
         ensures memory { OnErr result (self.new ≡ self.old) }
         ensures there { OnErr result (n < length stream.now.reading.packets) }
 
-        // After a cache miss the used cursor is the first, and stands behind packet n. If memory runs out while it
-        // decodes, it stands behind no packet.
+        // After a cache miss the used cursor is the first, and is past packet n. If memory runs out while it
+        // decodes, it is at the start.
         ensures cursors { OnOk result (cursors.new ≡ unless_cached
             (cached stream_no n self.old.entries) cursors.old (after_picture cursors.old stream_no stream.now n)) }
         ensures cleared { OnErr result (cursors.new ≡ unless_cached

@@ -78,7 +78,7 @@ impl Cursors {
         ensures most { OnErr result ((work.old ≤ work.new) × (work.new ≤
             saturating_count work.old (least_work stream_no stream.now.reading.packets n self.old.entries))) }
 
-        // The used cursor comes to the front, and stands behind packet n. If memory runs out, it stands behind no
+        // The used cursor moves to the front, and is past packet n. If memory runs out, it is past no
         // packet.
         ensures entries { OnOk result (self.new ≡ after_picture self.old stream_no stream.now n) }
         ensures cleared { OnErr result (self.new ≡
@@ -119,14 +119,14 @@ fn greater(a: u32, b: Option<u32>) -> Option<u32>
     }
 }
 
-/// Returns whether it is a cursor of a stream that stands behind `start` to `end` packets.
+/// Returns whether it is a cursor of a stream that is past `start` to `end` packets.
 fn is_between(entry: &(usize, Cursor), stream_no: usize, start: u32, end: u32) -> bool
     ensures { result ≡ is_between stream_no start end entry.now }
 {
     entry.0 == stream_no && start <= entry.1.next() && entry.1.next() <= end
 }
 
-/// Returns the greatest number of packets, from `start` to `end`, that a cursor of a stream stands behind.
+/// Returns the greatest number of packets, from `start` to `end`, that a cursor of a stream is past.
 fn nearest(entries: &[(usize, Cursor)], stream_no: usize, start: u32, end: u32) -> Option<u32>
     ensures { result ≡ nearest_between stream_no start end entries.now }
 {
@@ -139,7 +139,7 @@ fn nearest(entries: &[(usize, Cursor)], stream_no: usize, start: u32, end: u32) 
     best
 }
 
-/// Returns the place of the first cursor of a stream that stands behind so many packets.
+/// Returns the place of the first cursor of a stream that is past this number of packets.
 fn place_of(entries: &[(usize, Cursor)], stream_no: usize, next: u32) -> Option<usize>
     ensures place { result ≡ position (λ e. stands_behind stream_no next e) entries.now }
     ensures there { IfSome result (λ i. i < length entries.now) }
@@ -149,7 +149,7 @@ fn place_of(entries: &[(usize, Cursor)], stream_no: usize, next: u32) -> Option<
         .position(|entry| entry.0 == stream_no && entry.1.next() == next)
 }
 
-/// Takes the cursor of a stream that stands behind the greatest number of packets from `start` to `end`, if there is
+/// Takes the cursor of a stream that is past the greatest number of packets from `start` to `end`, if there is
 /// one.
 fn take_nearest(
     entries: &mut Vec<(usize, Cursor)>,
@@ -170,7 +170,7 @@ fn take_nearest(
     Some(entries.remove(place).1)
 }
 
-/// Takes the cursor of a stream that stands behind the greatest number of packets from `start` to `end`, or creates
+/// Takes the cursor of a stream that is past the greatest number of packets from `start` to `end`, or creates
 /// one.
 fn take_or_new(
     alloc: Global,

@@ -76,7 +76,7 @@ is_sound c = is_none c.fault && ((count_by is_fault_check c.packets == 0) && (co
 
 -- ---- the result
 
--- the file's head, all its packets and its fault are told
+-- the file's head, all its packets and its fault are reported
 pub record IsChecked (limits : Limits) (checked : Checked) (file : List ℕ) : Type 0 where
   pub head : checked.head ≡ (reading_of limits file).head
   pub packets : checked.packets ≡ checks_of limits file

@@ -60,7 +60,7 @@ impl<'a> FrameChooser<'a> {
         }
     }
 
-    /// Prepares the same choice without searchers, whose searches each stand by itself.
+    /// Prepares the same choice without searchers, whose searches are each independent.
     pub(crate) fn without_searchers(frame: &FrameSearch<'a>) -> FrameChooser<'a>
         requires range { IfSome (lent_frame frame.now).search (λ s. s.range ≤ 64) }
         ensures { result ≡ lent_frame frame.now }

@@ -18,7 +18,7 @@ pub(crate) struct Searchers<'a> {
 }
 
 impl<'a> Searchers<'a> {
-    /// No searchers: each search stands by itself.
+    /// No searchers: each search is independent.
     pub(crate) fn none() -> Searchers<'a>
         ensures last { result.last ≡ None }
         ensures golden { result.golden ≡ None }

@@ -1,11 +1,11 @@
--- The kinds of files, by bytes that stand at a place near their start. Pinned by the test `kinds_of_files`.
+-- The kinds of files, by bytes at a place near their start. Pinned by the test `kinds_of_files`.
 use Rattle.std.specs.Prelude.{ℕ, Bool, nat_eq, List, [], ◌∷◌, drop, codes, if◌then◌else◌}
 use Rattle.std.specs.List.{starts_with}
 use Rattle.vp_hints.specs.declared.kinds.FileKind.{FileKind}
 use Rattle.vp_hints.specs.declared.kinds.FileKind.TheVariants.{Empty, Ivf, WebM, Mp4, Avi, WebP, Y4m}
 use Rattle.vp_hints.specs.declared.kinds.FileKind.TheVariants.{Ogg, H264, Png, Jpeg, Gif, Unknown}
 
--- a kind of file, a place, and the bytes that stand there
+-- a kind of file, a place, and the bytes there
 pub record Mark : Type 0 where
   pub kind : FileKind
   pub place : ℕ
@@ -31,7 +31,7 @@ image_marks =
 abbrev pub stands_at : List ℕ → ℕ → List ℕ → Bool
 stands_at head place word = starts_with nat_eq (drop place head) word
 
--- the kind of the first mark that stands, or else this kind
+-- the kind of the first mark that is found, or else this kind
 abbrev pub kind_in : List Mark → FileKind → List ℕ → FileKind
 kind_in [] other head = other
 kind_in (m ∷ ms) other head = if stands_at head m.place m.bytes then m.kind else kind_in ms other head

@@ -6,7 +6,7 @@ use Rattle.vp_hints.specs.declared.packets.Place.{Place}
 use Rattle.vp_hints.specs.declared.packets.Place.TheVariants.{FileHead, PacketHead, Packet}
 use Rattle.vp_hints.specs.declared.packets.PacketCount.{PacketCount}
 
--- the place behind the head of a packet of this size
+-- the place after the head of a packet of this size
 abbrev pub place_behind_head : ℕ → Place
 place_behind_head size = if size == 0 then PacketHead 0 0 else Packet size
 

@@ -27,12 +27,12 @@ impl Film {
         }
     }
 
-    /// The frames in so many seconds: the file's rate, and its scale.
+    /// The frames in a number of seconds: the file's rate, and its scale.
     pub fn rate(&self) -> (u64, u64) {
         (self.rate, self.scale)
     }
 
-    /// The bits a second of so many frames, at the file's rate.
+    /// The bits a second of a number of frames, at the file's rate.
     pub fn bits_a_second(&self, frames: u64) -> Option<f64> {
         if frames == 0 || self.rate == 0 || self.scale == 0 {
             return None;
@@ -42,7 +42,7 @@ impl Film {
         Some(nearest_u64_to_f64(self.bytes) * 8.0 / seconds)
     }
 
-    /// The samples of Y, U and V of so many frames; saturates.
+    /// The samples of Y, U and V of a number of frames; saturates.
     pub fn samples(&self, frames: u64) -> u64 {
         plane_samples(self.width, self.height).saturating_mul(frames)
     }
@@ -64,7 +64,7 @@ impl fmt::Display for BitRate {
     }
 }
 
-/// The peak signal-to-noise ratio of so many samples, by the sum of their squared differences: `PSNR 38.2 dB`, or
+/// The peak signal-to-noise ratio of a number of samples, by the sum of their squared differences: `PSNR 38.2 dB`, or
 /// `no difference`.
 #[derive(Clone, Copy)]
 pub struct Ratio(pub u64, pub u128);
@@ -99,7 +99,7 @@ pub fn plane_samples(width: u64, height: u64) -> u64 {
         .saturating_add(chroma.saturating_mul(2))
 }
 
-/// The peak signal-to-noise ratio in decibels of so many samples, by the sum of their squared differences.
+/// The peak signal-to-noise ratio in decibels of a number of samples, by the sum of their squared differences.
 pub fn decibels(samples: u64, error: u64) -> f64 {
     let peak = 65_025.0 * nearest_u64_to_f64(samples);
     10.0 * (peak / nearest_u64_to_f64(error)).log10()

@@ -123,7 +123,7 @@ fn millis(from: Instant, to: Instant) -> u64 {
         .saturating_add(u64::from(duration.subsec_millis()))
 }
 
-// How far the work is, after so many milliseconds.
+// How far the work is, after a number of milliseconds.
 #[derive(Clone, Copy, Drop)]
 struct Standing {
     count: u64,
@@ -136,7 +136,7 @@ struct Standing {
 }
 
 /// Writes `1,234 packets, 40 %, 812.5 a second, 0:12 left`; without the share and the rest if the size isn't known. Of
-/// a film that is written as it is encoded, ` 96.0 kbit/s, PSNR 38.2 dB,` stands before the rest.
+/// a film that is written as it is encoded, ` 96.0 kbit/s, PSNR 38.2 dB,` comes before the rest.
 impl fmt::Display for Standing {
     fn fmt<W: fmt::Write>(&self, f: &mut fmt::Formatter<W>) -> fmt::Result {
         let (count, unit) = (Grouped(self.count), self.unit);
@@ -178,7 +178,7 @@ fn write_quality<W: fmt::Write>(
     }
 }
 
-// Writes the time that is left, if a part of a size was read in so many milliseconds.
+// Writes the time that is left, if a part of a size was read in a number of milliseconds.
 fn write_rest<W: fmt::Write>(
     millis: u64,
     read: u64,

@@ -147,7 +147,7 @@ fn shifted(size: u32, byte: u8) -> u32
     (size >> 8) + (u32::from(byte) << 24)
 }
 
-// The place behind the head of a packet of this size.
+// The place after the head of a packet of this size.
 fn place_behind_head(size: u32) -> Place
     ensures { result ≡ place_behind_head size }
 {

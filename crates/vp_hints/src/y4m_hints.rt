@@ -36,7 +36,7 @@ pub fn hint_not_y4m<W: Write>(
     }
 }
 
-/// Prints how to encode a file of another kind, behind what it is.
+/// Prints how to encode a file of another kind, after what it is.
 pub(crate) fn hint_pipe<W: Write>(
     from: ShellWord<'_>,
     to: ShellWord<'_>,

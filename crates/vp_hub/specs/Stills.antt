@@ -11,7 +11,7 @@ use Rattle.vp_heads.specs.declared.status.Status.TheVariants.{NotFound}
 use Rattle.vp_heads.specs.Replies.{Content, WebP, Faulted, Failed}
 use Rattle.vp_hub.specs.declared.source.Source.{Source}
 
--- The content for a picture of w by h pixels, which this packet shows: the file of the packet as it stands, or of the
+-- The content for a picture of w by h pixels, which this packet shows: the file of the packet unchanged, or of the
 -- picture that is made smaller or encoded, with the quantiser index 8. The picture's squared distance from the decoded
 -- file is that of `IsStill`.
 pub record IsStillFile (scale : Scale) (packet : List ℕ) (w h : ℕ) (pixels : List ℕ) (c : Content) : Type 0 where

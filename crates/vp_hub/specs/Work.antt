@@ -51,7 +51,7 @@ cost_of streams (wanted.Still k n scale) pictures = picture_cost (slice_get stre
 cost_of streams _ pictures = 0
 
 -- The pictures after it: a shown picture is the most recent entry of the cache, unless memory ran out for it. After a
--- cache miss the used cursor is the most recent one, and stands behind packet n.
+-- cache miss the used cursor is the most recent one, and is past packet n.
 abbrev pub IsAfterPicture : Option Source → ℕ → ℕ → Pictures → Pictures → Type 0
 IsAfterPicture None k n old new = new ≡ old
 IsAfterPicture (Some s) k n old new =
@@ -66,7 +66,7 @@ IsAfterRequest streams (wanted.Video k n) old new = IsAfterPicture (slice_get st
 IsAfterRequest streams (wanted.Still k n scale) old new = IsAfterPicture (slice_get streams.sources k) k n old new
 IsAfterRequest streams _ old new = new ≡ old
 
--- the pictures if memory runs out while packet n is decoded: the used cursor stands behind no packet
+-- the pictures if memory runs out while packet n is decoded: the used cursor is at the start
 abbrev pub IsCutShort : Option Source → ℕ → ℕ → Pictures → Pictures → Type 0
 IsCutShort None k n old new = new ≡ old
 IsCutShort (Some s) k n old new = (new.cache ≡ old.cache)

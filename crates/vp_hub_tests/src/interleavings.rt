@@ -132,7 +132,7 @@ fn ask_in_turns(alloc: Global, hub: &mut Hub, order: [Turn; 8]) -> bool {
         && has_grown(alloc, hub)
 }
 
-/// Returns whether a new hub that keeps so many pictures answers them so.
+/// Returns whether a new hub that keeps this number of pictures answers them so.
 fn asks_in(alloc: Global, cache: u32, order: [Turn; 8]) -> bool {
     match hub_of(alloc, &[b"a"], &parts(), cache) {
         Some(mut hub) => ask_in_turns(alloc, &mut hub, order),

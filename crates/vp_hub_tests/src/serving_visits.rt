@@ -109,7 +109,7 @@ fn fails_after(alloc: Global, reads: u64, writes: u64, wanted: &[u8]) -> bool {
     }
 }
 
-/// Returns whether so many responses are written before.
+/// Returns whether this number of responses is written before.
 fn fails_at(alloc: Global, reads: u64, writes: u64, replies: usize) -> Result<bool, AllocError> {
     let wanted = key_replies(alloc, replies)?;
     Ok(fails_after(alloc, reads, writes, &wanted))

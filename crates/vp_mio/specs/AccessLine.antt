@@ -8,7 +8,7 @@ use Rattle.httpdate.specs.declared.date.HttpDate.{HttpDate}
 use Rattle.vp_mio.specs.declared.access_log.Access.{Access}
 use Rattle.vp_mio.specs.Lines.{printed, quotation}
 
--- the time as HTTP writes it, and nothing behind the year 9999
+-- the time as HTTP writes it, and nothing after the year 9999
 abbrev pub IsTimeText : ℕ → List ℕ → Type 0
 IsTimeText seconds text =
     (seconds < 253402300800 → (date : HttpDate) × (unix_secs date ≡ seconds) × (text ≡ date_text date))
@@ -23,12 +23,12 @@ peer_text number (Some peer) = codes "] " ++ (decimal number ++ (codes " " ++ (s
 abbrev pub status_text : List ℕ → List ℕ
 status_text reply = if nat_lt (length reply) 12 then codes "-" else slice_range reply 9 12
 
--- the number of bytes behind the head, and that of the packets
+-- the number of bytes after the head, and that of the packets
 abbrev pub numbers_text : ℕ → ℕ → List ℕ
 numbers_text count packets = codes " " ++ (decimal count ++ (codes " " ++ decimal packets))
 
 -- The time, the number of the connection and its peer, the line of the request between quotation marks, the status, the
--- number of bytes behind the head, which is no more than the reply has, and that of the packets
+-- number of bytes after the head, which is no more than the reply has, and that of the packets
 abbrev pub IsAccessLine : Access → List ℕ → Type 0
 IsAccessLine access line =
     (time : List ℕ) × (count : ℕ) × IsTimeText access.seconds time × (count ≤ length access.reply.now)

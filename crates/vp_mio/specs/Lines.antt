@@ -7,7 +7,7 @@ use Rattle.std.specs.List.{list_all}
 abbrev pub is_plain : ℕ → Bool
 is_plain b = nat_lt 31 b && nat_lt b 127
 
--- printable characters, and a line feed behind them
+-- printable characters, and a line feed after them
 abbrev pub IsPlainLine : List ℕ → Type 0
 IsPlainLine bytes = (text : List ℕ) × (bytes ≡ text ++ 10 ∷ []) × (list_all is_plain text ≡ true)
 

@@ -29,7 +29,7 @@ pub struct Access<'a> {
 }
 
 /// A line about a reply: the time, the connection, its peer, the line of the request, the status, the number of bytes
-/// behind the reply's head, and the number of decoded packets. `None` if memory was refused.
+/// after the reply's head, and the number of decoded packets. `None` if memory was refused.
 pub fn access_line(alloc: Global, access: &Access<'_>) -> Option<Vec<u8>>
     ensures plain { IfSome result (λ line. IsPlainLine line.items) }
     ensures fields { IfSome result (λ line. IsAccessLine access.now line.items) }
@@ -70,7 +70,7 @@ fn put_peer(alloc: Global, line: &mut Line, access: &Access<'_>) -> bool
     written.is_ok()
 }
 
-// Appends the status of a reply, the bytes behind its head, and the number of packets. False if memory was refused.
+// Appends the status of a reply, the bytes after its head, and the number of packets. False if memory was refused.
 fn put_reply(alloc: Global, line: &mut Line, access: &Access<'_>) -> bool
     ensures { result ≡ true → (count : ℕ) × (count ≤ length access.now.reply.now)
         × GrowsBy line.old line.new (codes " " ++ (flat_map printed (status_text access.now.reply.now)
@@ -84,7 +84,7 @@ fn put_reply(alloc: Global, line: &mut Line, access: &Access<'_>) -> bool
     written.is_ok()
 }
 
-// The three digits behind `HTTP/1.1 `.
+// The three digits after `HTTP/1.1 `.
 fn status_of(reply: &[u8]) -> &[u8]
     ensures { result.now ≡ status_text reply.now }
 {
@@ -95,7 +95,7 @@ fn status_of(reply: &[u8]) -> &[u8]
     }
 }
 
-// How many bytes stand behind the blank line that ends the head.
+// How many bytes follow the blank line that ends the head.
 fn body_length(reply: &[u8]) -> usize
     ensures { result ≤ length reply.now }
 {

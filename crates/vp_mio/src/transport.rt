@@ -76,7 +76,7 @@ impl<'a, C: Clock, F: Read + Drop, E: Write> MioTransport<'a, C, F, E> {
     }
 
     /// Prints a line on `errors` for each reply from now on: the time, the connection, its peer, the line of the
-    /// request, the status, the number of bytes behind the reply's head, and the number of decoded packets.
+    /// request, the status, the number of bytes after the reply's head, and the number of decoded packets.
     pub fn log_accesses(&mut self) {
         self.logs_accesses = true;
     }

@@ -144,7 +144,7 @@ fn forward_examples(rt: HostRuntime) {
     );
 }
 
-/// The same rows in 16-bit lanes.
+/// These rows in 16-bit lanes.
 #[test]
 fn short_forward_examples(rt: HostRuntime) {
     let mut even = [0i16; 16];

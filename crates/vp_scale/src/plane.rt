@@ -120,7 +120,7 @@ impl<'a> PlaneView<'a> {
         load_bytes(self.pixels, y * self.width + x)
     }
 
-    // The sums of `k` pixels of each of eight columns, whose first ones are at column `x` of row `y` and behind it.
+    // The sums of `k` pixels of each of eight columns, whose first ones are at column `x` of row `y` and after it.
     #[inline(always)]
     fn column_sums(&self, k: usize, x: usize, y: usize) -> u16x8
         requires few { k ≤ 8 }

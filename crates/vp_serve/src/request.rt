@@ -58,7 +58,7 @@ impl PendingRequest {
         }
     }
 
-    // Puts a piece behind the line, as far as there is room. If memory is refused for that, the line stays shorter.
+    // Appends a piece to the line, as far as there is room. If memory is refused for that, the line stays shorter.
     fn join(&mut self, mut piece: Vec<u8>) {
         let ends = ends_line(&piece);
         piece.truncate(MAX_LINE - self.line.len());

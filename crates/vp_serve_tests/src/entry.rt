@@ -1,4 +1,4 @@
-//! The entries of a transport's log, and the replies that it was told of.
+//! The entries of a transport's log, and the replies that were reported to it.
 
 use std::fmt;
 use vp_base::ByteList;
@@ -25,7 +25,7 @@ pub enum Entry {
     Waits(bool, u64),
 }
 
-/// A reply that the transport was told of.
+/// A reply that was reported to the transport.
 #[derive(Debug, Drop)]
 pub struct ToldReply {
     /// The number of its connection.

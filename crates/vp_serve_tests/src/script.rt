@@ -89,7 +89,7 @@ impl<'a, H: Abort> Scripted<'a, H> {
         self.log.as_slice()
     }
 
-    /// The replies that it was told of.
+    /// The replies that were reported to it.
     pub fn told(&self) -> &[ToldReply] {
         self.told.as_slice()
     }

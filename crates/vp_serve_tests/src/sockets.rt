@@ -18,7 +18,7 @@ const ASKS: &[u8] =
 const REPLY: &[u8] =
     b"HTTP/1.1 200 OK\r\nContent-Type: text/plain\r\nContent-Length: 2\r\nConnection: close\r\n\r\na\n";
 
-/// What is logged of it, behind the time, the connection and its peer.
+/// What is logged of it, after the time, the connection and its peer.
 const LOGGED: &[u8] = b" \"GET /streams HTTP/1.1\" 200 2 0\n";
 
 /// What is printed if a file can't be read on.

@@ -317,7 +317,7 @@ const KEY: &[u8] = b"\x0a\0\0\0\0\0\0\0\0\0\0\0\x10\0\0\x9d\x01\x2a\x10\0\x10\0"
 /// An inter packet that changes nothing, after its frame header of twelve bytes.
 const INTER: &[u8] = b"\x03\0\0\0\0\0\0\0\0\0\0\0\x11\0\0";
 
-/// What is told of two requests one behind the other in three pieces, the first after a blank line, and of one for a
+/// What is reported of two requests one after the other in three pieces, the first after a blank line, and of one for a
 /// stream that there isn't.
 const TOLD: &str = "200 0 GET /s/a/frame/1 HTTP/1.1: 200, 464 bytes, 2 packets
 400 0 GET /streams HTTP/1.1: 200, 66 bytes, 0 packets
@@ -332,7 +332,7 @@ fn told_text(alloc: Global, told: &[ToldReply]) -> Option<String> {
     Some(text)
 }
 
-/// Whether this is what a transport was told.
+/// Whether this is what was reported to a transport.
 fn is_told(alloc: Global, told: &[ToldReply], want: &str) -> bool {
     match told_text(alloc, told) {
         Some(text) => text.as_str() == want,
@@ -340,7 +340,7 @@ fn is_told(alloc: Global, told: &[ToldReply], want: &str) -> bool {
     }
 }
 
-/// Whether a file of two packets is fed, and then each reply is told.
+/// Whether a file of two packets is fed, and then each reply is reported.
 fn tells_replies<H: Abort>(rt: &H, alloc: Global) -> bool {
     let script = Script {
         waiting: 1,

@@ -1,5 +1,5 @@
 -- Laws of WebP files that are written for a picture: each is read as its packet, which shows the picture, or one at the
--- distance that is told.
+-- distance that is returned.
 use Rattle.std.specs.Prelude.{◌≡◌, ◌≤◌, ◌*◌, ℕ, false, List, Option, Some, None, Ok, slice_get}
 use Rattle.vp_base.specs.declared.limits.Limits.{Limits}
 use Rattle.vp_ivf.specs.declared.packet.Packet.{Packet}
@@ -35,14 +35,14 @@ pub record IsWebPNear (limits : Limits) (scale : Scale) (w h : ℕ) (pixels file
   pub shows : IsWebPOf limits file packet (scaled_side (factor_of scale) w) (scaled_side (factor_of scale) h) recon
   pub distance : error ≡ sum_of_squares (scaled_i420 (factor_of scale) w h pixels) recon
 
--- the file of a picture that is encoded shows one at the distance that is told
+-- the file of a picture that is encoded shows one at the distance that is returned
 abbrev pub EncodedFilesShowTheirDistance : Type 0
 EncodedFilesShowTheirDistance = (limits : Limits) (scale : Scale) (qi w h : ℕ) (pixels file : List ℕ) (error : ℕ)
     → IsEncodedStill scale qi w h pixels (Encoded error) file
     → scaled_side (factor_of scale) w * scaled_side (factor_of scale) h ≤ limits.pixels
     → IsWebPNear limits scale w h pixels file error
 
--- what the file of a picture shows: the picture, by its own packet, or one at the distance that is told
+-- what the file of a picture shows: the picture, by its own packet, or one at the distance that is returned
 abbrev pub ShowsStill : Limits → Scale → List ℕ → ℕ → ℕ → List ℕ → Coding → List ℕ → Type 0
 ShowsStill limits scale packet w h pixels Kept file = IsWebPOf limits file packet w h pixels
 ShowsStill limits scale packet w h pixels (Encoded error) file = IsWebPNear limits scale w h pixels file error

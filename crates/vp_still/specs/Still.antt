@@ -1,4 +1,4 @@
--- The WebP file of a picture: the packet that shows it as it stands, or a key frame that the encoder chooses for the
+-- The WebP file of a picture: the packet that shows it, unchanged, or a key frame that the encoder chooses for the
 -- picture, made smaller. Pinned by the tests `key_packet_is_kept`, `smaller_picture_is_encoded` and `y4m_of_a_picture`.
 use Rattle.std.specs.Prelude.{◌≡◌, ◌/◌, ◌++◌, ℕ, false, List, Option, Some, None, if◌then◌else◌, is_none}
 use Rattle.vp_base.specs.declared.limits.Dim.{Dim}

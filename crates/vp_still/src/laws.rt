@@ -16,7 +16,7 @@ pub fn kept_files_show_the_picture()
 }
 
 /// The file of a picture that is encoded is read as its packet, and shows a picture of the smaller size. Its squared
-/// distance from the picture, made smaller, is the number that is told.
+/// distance from the picture, made smaller, is the number that is returned.
 pub fn encoded_files_show_their_distance()
     ensures { EncodedFilesShowTheirDistance }
 {
@@ -25,7 +25,7 @@ pub fn encoded_files_show_their_distance()
 }
 
 /// The file for a packet of a stream shows the picture that the stream shows for that packet, or a picture at the
-/// distance that is told from it, made smaller.
+/// distance from it that is returned, made smaller.
 pub fn stills_show_their_pictures()
     ensures { StillsShowTheirPictures }
 {

@@ -19,7 +19,7 @@ use vp_webp::{WebPWriteFault, write};
 /// How a picture got into its file.
 #[derive(Clone, Copy, Debug, PartialEq, Eq)]
 pub enum Coding {
-    /// The packet stands in the file as it is: nothing is lost.
+    /// The packet is in the file unchanged: nothing is lost.
     Kept,
     /// The picture is encoded anew. The number is the sum of the squared differences of the pixels.
     Encoded(u64),
@@ -34,7 +34,7 @@ pub struct Still {
     pub coding: Coding,
 }
 
-/// Makes the WebP file of a picture: its packet as it stands, if that is a shown key frame and the picture keeps its
+/// Makes the WebP file of a picture: its packet unchanged, if that is a shown key frame and the picture keeps its
 /// size. Any other picture is made smaller, and encoded as a key frame with this quantiser index.
 ///
 /// Errors: `TooLong` for a picture that is encoded, if a part of its key frame is too long for the packet format, or
@@ -75,7 +75,7 @@ pub fn webp_still(alloc: Global, found: &Found, scale: Scale, qi: u8) -> Result<
     webp_of(alloc, found.shown(), scale, qi)
 }
 
-// The file of a packet that stands in it as it is.
+// The file of a packet that is in it unchanged.
 fn kept_file(alloc: Global, packet: &[u8], scale: Scale) -> Result<Option<ByteList>, AllocError>
     ensures { IfOk result (λ f. f ≡ kept_file scale packet.now) }
 {
@@ -89,7 +89,7 @@ fn kept_file(alloc: Global, packet: &[u8], scale: Scale) -> Result<Option<ByteLi
     }
 }
 
-// The WebP file of a packet. `Device` stands for a lack of memory.
+// The WebP file of a packet. `Device` means a lack of memory.
 fn webp_file(alloc: Global, packet: &[u8]) -> Result<ByteList, WebPWriteFault>
     ensures file { IfOk result (λ f. (webp_refusal packet.now ≡ None) × (f ≡ webp_text packet.now)) }
     ensures refused { IfErr result (λ e. (e ≡ WebPWriteFault.Device) ⊎ (webp_refusal packet.now ≡ Some e)) }

@@ -25,7 +25,7 @@ impl From<WebPFault> for FindFault {
     }
 }
 
-/// Finds the picture of a WebP file. Its alpha is told, and left out.
+/// Finds the picture of a WebP file. Its alpha is reported, and left out.
 ///
 /// Errors: `WebP` with the file's fault, `Packet` if its packet can't be decoded, `Hidden` if that shows no picture,
 /// and `Memory`.

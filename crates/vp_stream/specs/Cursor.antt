@@ -1,4 +1,4 @@
--- A cursor: a decoder that stands behind the first packets of a stream, so that packets in order are decoded once each
+-- A cursor: a decoder that is past the first packets of a stream, so that packets in order are decoded once each
 -- (RFC 6386, chapter 5). Pinned by the test `frames_through_a_cursor`.
 use Rattle.std.specs.Prelude.{◌≡◌, ◌≤◌, ◌+◌, ◌-◌, ◌||◌, ℕ, List, [], ◌∷◌, length, take, Option, Some, None, nat_lt}
 use Rattle.std.specs.Prelude.{if◌then◌else◌}
@@ -11,7 +11,7 @@ use Rattle.vp_decode.specs.Step.{DecoderState, step}
 use Rattle.vp_stream.specs.Seeking.{AnswerValue, Shown, Hidden, Fault, NoPacket, answer_values, seek_start}
 use Rattle.vp_stream.specs.Stream.{Stream}
 
--- the limits, the number of packets that the cursor stands behind, the decoder's state, and the answer for the last of
+-- the limits, the number of packets that the cursor is past, the decoder's state, and the answer for the last of
 -- these packets (NoPacket if there are none)
 pub record Cursor : Type 0 where
   pub limits : Limits
@@ -23,7 +23,7 @@ pub record Cursor : Type 0 where
 abbrev pub cursor_before : Limits → ℕ → Cursor
 cursor_before limits n = record { limits = limits; next = n; state = None; last = NoPacket }
 
--- a new cursor stands behind no packet
+-- a new cursor is at the start
 abbrev pub initial_cursor : Limits → Cursor
 initial_cursor limits = cursor_before limits 0
 
@@ -45,14 +45,14 @@ cursor_after_packets c (p ∷ ps) = cursor_after_packets (cursor_after c p.bytes
 abbrev pub cursor_behind : Limits → List Packet → ℕ → Cursor
 cursor_behind limits packets n = cursor_after_packets (initial_cursor limits) (take n packets)
 
--- The cursor stands behind packets of this stream: it is as if it had decoded all of them, from the first one on.
+-- The cursor is past packets of this stream: it is as if it had decoded all of them, from the first one on.
 pub record IsCursorOf (c : Cursor) (s : Stream) : Type 0 where
   pub within : c.next ≤ length s.reading.packets
   pub decoded : c ≡ cursor_behind s.limits s.reading.packets c.next
 
 -- ---- the packets decoded for packet n
 
--- Decoding starts at the cursor's next packet. If the cursor stands before the last key packet, or behind more than
+-- Decoding starts at the cursor's next packet. If the cursor is before the last key packet, or past more than
 -- packet n, then decoding starts at the key packet, as without a cursor.
 abbrev pub cursor_start : List Packet → ℕ → ℕ → ℕ
 cursor_start packets next n =
@@ -68,7 +68,7 @@ next_after packets next n = if nat_lt n (length packets) then n + 1 else next
 
 -- ---- for private functions
 
--- the cursor, or a decoder without a state before packet `start`, if the cursor doesn't stand between it and `end`
+-- the cursor, or a decoder without a state before packet `start`, if the cursor isn't between it and `end`
 abbrev pub placed : Limits → ℕ → ℕ → Cursor → Cursor
 placed limits start end c = if nat_lt c.next start || nat_lt end c.next then cursor_before limits start else c
 

@@ -1,4 +1,4 @@
-//! A decoder that stands behind the first packets of a stream.
+//! A decoder that is past the first packets of a stream.
 
 ghost use Rattle.std.specs.Prelude.{◌≡◌, ◌+◌, ◌^◌, ◌<◌, ◌≤◌, length, IfOk, OnOk, OnErr};
 ghost use Rattle.vp_stream.specs.Seeking.{answer_value};
@@ -14,12 +14,12 @@ use vp_base::Limits;
 use vp_decode::{Decoder, Outcome};
 use vp_ivf::Packet;
 
-/// A decoder that stands behind the first packets of a stream, so that packets in order are decoded once each. It may
+/// A decoder that is past the first packets of a stream, so that packets in order are decoded once each. It may
 /// be used with one stream only, and stays valid while the stream grows.
 #[derive(Drop)]
 pub struct Cursor {
     decoder: Decoder,
-    // The number of packets that it stands behind.
+    // The number of packets that it is past.
     next: u32,
     // The outcome of the last of them. None if nothing was decoded yet.
     outcome: Option<Outcome>,
@@ -39,7 +39,7 @@ impl Model for Cursor {
 }
 
 impl Cursor {
-    /// Creates a cursor that stands behind no packet. Its limits must be those of the stream.
+    /// Creates a cursor at the start. Its limits must be those of the stream.
     pub fn new(alloc: Global, limits: Limits) -> Cursor
         ensures state { result ≡ initial_cursor limits }
         ensures stands { (s : Stream) → s.limits ≡ limits → IsCursorOf result s }
@@ -47,7 +47,7 @@ impl Cursor {
         Cursor::before(alloc, limits, 0)
     }
 
-    /// Returns the number of packets that it stands behind, which is the number of its next packet.
+    /// Returns the number of packets that it is past, which is the number of its next packet.
     pub fn next(&self) -> u32
         ensures { result ≡ self.now.next }
     {
@@ -65,7 +65,7 @@ impl Cursor {
         }
     }
 
-    /// Goes to before packet `start`, without a state, unless the cursor stands between it and packet `end`.
+    /// Goes to before packet `start`, without a state, unless the cursor is between it and packet `end`.
     pub(crate) fn place(&mut self, alloc: Global, limits: Limits, start: u32, end: u32)
         requires { start ≤ end }
         ensures place { self.new ≡ placed limits start end self.old }

@@ -220,7 +220,7 @@ impl Stream {
     /// packet, or starts at the last key packet. Adds the number of decoded packets to `work`. The sum saturates at
     /// 2^64 - 1.
     ///
-    /// Errors: out of memory, after which the cursor stands behind no packet.
+    /// Errors: out of memory, after which the cursor is at the start.
     pub fn picture_from(
         &self,
         n: u32,
@@ -234,15 +234,15 @@ impl Stream {
             answer_value a ≡ answer_at self.now.limits (packets_of self.now h) n) }
         ensures memory { OnErr result (n < length self.now.reading.packets) }
 
-        // The cursor stays one of this stream. It then stands behind packet n, or where it was if there is no packet n.
-        // If memory runs out, it stands behind no packet.
+        // The cursor stays one of this stream. It is then past packet n, or where it was if there is no packet n.
+        // If memory runs out, it is at the start.
         ensures cursor { IsCursorOf cursor.new self.now }
         ensures next { OnOk result (cursor.new.next ≡ next_after self.now.reading.packets cursor.old.next n) }
         ensures cleared { OnErr result (cursor.new ≡ initial_cursor self.now.limits) }
 
         // The decoded packets are those from the cursor's next packet to n, or from the key packet to n. If memory runs
-        // out, there are at most as many. There are never more than without a cursor, and none if the cursor stands
-        // right behind packet n.
+        // out, there are at most as many. There are never more than without a cursor, and none if the cursor is
+        // just past packet n.
         ensures work { OnOk result (work.new ≡ saturating_count work.old
             (work_from self.now.reading.packets cursor.old.next n)) }
         ensures most { OnErr result ((work.old ≤ work.new) × (work.new ≤ saturating_count work.old
@@ -284,7 +284,7 @@ impl Stream {
         cursor.answer(self.alloc)
     }
 
-    // Decodes packets until a cursor stands behind packet n, and counts them.
+    // Decodes packets until a cursor is past packet n, and counts them.
     fn move_behind(&self, n: u32, cursor: &mut Cursor, decoded: &mut u64) -> Result<(), AllocError>
         requires there { n < length self.now.reading.packets }
         requires few { length self.now.reading.packets < 2 ^ 32 }

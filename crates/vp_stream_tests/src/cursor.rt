@@ -80,7 +80,7 @@ fn nine_cost(rt: &impl Abort, stream: &Stream, cursor: &mut Cursor) -> Result<()
     Ok(())
 }
 
-// The same, once they are fed, and the cost of one more packet.
+// These, once they are fed, and the cost of one more packet.
 fn ten_cost(
     rt: &impl Abort,
     alloc: Global,

@@ -37,7 +37,7 @@ fn cost_with(stream: &Stream, cursors: &mut Cursors, numbers: &[u32]) -> Result<
     Ok(work)
 }
 
-// The same for packets of the stream of sixty, with at most `capacity` cursors.
+// This for packets of the stream of sixty, with at most `capacity` cursors.
 fn cost(alloc: Global, capacity: u32, numbers: &[u32]) -> Result<u64, Fail> {
     let limits = Limits::usual();
     let stream = sixty_packets(alloc, limits)?;
@@ -45,7 +45,7 @@ fn cost(alloc: Global, capacity: u32, numbers: &[u32]) -> Result<u64, Fail> {
     cost_with(&stream, &mut cursors, numbers)
 }
 
-// The same for all sixty packets in order.
+// This for all sixty packets in order.
 fn cost_in_order(alloc: Global, capacity: u32) -> Result<u64, Fail> {
     let mut numbers = Vec::new(alloc);
     for n in 0..60 {
@@ -67,7 +67,7 @@ fn readers_keep_their_cursors(rt: HostRuntime) -> Result<(), Fail> {
     // One reader begins at packet 40, the other at packet 10: 41 and 11 packets, then one each.
     let in_turn = [40, 10, 41, 11, 42, 12, 43, 13];
     equal(&rt, &cost(rt.alloc(), 2, &in_turn)?, &58);
-    // A third one begins at packet 5. There is room for two cursors: that behind packet 43 is dropped, and packet 44
+    // A third one begins at packet 5. There is room for two cursors: the one past packet 43 is dropped, and packet 44
     // is then decoded from packet 15 on. Packet 60 isn't there.
     let three = [40, 10, 41, 11, 42, 12, 43, 13, 5, 14, 6, 44, 60];
     equal(&rt, &cost(rt.alloc(), 2, &three)?, &96);

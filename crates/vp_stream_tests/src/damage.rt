@@ -173,8 +173,8 @@ fn pictures_after_damage_are_those_without_it(rt: HostRuntime) -> Result<(), Fai
 // A key packet of 16 by 17 pixels, version 3, with upscaling codes 3 and 1.
 const SCALED: [u8; 10] = [0x16, 0, 0, 0x9d, 0x01, 0x2a, 0x10, 0xc0, 0x11, 0x40];
 
-// The facts of an inter frame of this size, whose bools are all 0: its partitions are empty. libvpx flags this frame and
-// the others below.
+// The facts of an inter frame of this size, whose bools are all 0: its partitions are empty. libvpx flags this frame
+// and the others below.
 const ZEROS: FrameFacts = FrameFacts {
     key: false,
     version: 0,
@@ -291,7 +291,7 @@ fn corrupt_frames(rt: HostRuntime) -> Result<(), Fail> {
     Ok(())
 }
 
-// Returns whether the key packet with a first partition of so many zeros is corrupt.
+// Returns whether the key packet with a first partition of a number of zeros is corrupt.
 fn is_corrupt_after(alloc: Global, zeros: usize) -> Result<bool, AllocError>
     requires { zeros ≤ 20 }
 {

@@ -13,7 +13,7 @@ pub fn packet_is_in_the_file()
     ensures { IsFaithfulToFile }
 {}
 
-/// A file that has a picture is read as its first picture and the chunks before it say: they are passed over, tell of
+/// A file that has a picture is read as its first picture and the chunks before it say: they are passed over, report
 /// alpha and of the canvas, or have the fault.
 pub fn chunks_determine_the_image()
     ensures { IsReadByItsChunks }
