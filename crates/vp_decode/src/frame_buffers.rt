@@ -29,6 +29,8 @@ pub(crate) struct FrameBuffers {
     pub levels: Grid<Level>,
     /// A picture that nothing refers to any more.
     pub picture: Option<Picture>,
+    /// Another one: a frame that refreshes golden leaves two, and the frame after it none.
+    pub other_picture: Option<Picture>,
 }
 
 /// Proves that the planes of a picture hold as many bytes as their sizes say.
@@ -43,7 +45,8 @@ fn are_whole(picture: &Picture)
 impl FrameBuffers {
     /// Creates buffers that hold no memory yet.
     pub(crate) fn new(alloc: Global) -> FrameBuffers
-        ensures { result.picture ≡ None }
+        ensures picture { result.picture ≡ None }
+        ensures other_picture { result.other_picture ≡ None }
     {
         FrameBuffers {
             maps: MacroblockInfo::empty(alloc),
@@ -51,18 +54,41 @@ impl FrameBuffers {
             contexts: Contexts::empty(alloc),
             levels: Grid::empty(alloc),
             picture: None,
+            other_picture: None,
         }
     }
 
-    /// Returns a picture of this size, whose pixels are arbitrary. Reuses the kept picture if it has the size.
+    /// Keeps the memory of pictures that nothing refers to any more, of at most two.
+    pub(crate) fn keep(&mut self, unshared: [Option<Picture>; 4]) {
+        let [last, golden, alt, newest] = unshared;
+        self.keep_one(last);
+        self.keep_one(golden);
+        self.keep_one(alt);
+        self.keep_one(newest);
+    }
+
+    /// Keeps the memory of a picture, if there is one.
+    fn keep_one(&mut self, unshared: Option<Picture>) {
+        let Some(picture) = unshared else {
+            return;
+        };
+        if self.picture.is_none() {
+            self.picture = Some(picture);
+        } else {
+            self.other_picture = Some(picture);
+        }
+    }
+
+    /// Returns a picture of this size, whose pixels are arbitrary. Reuses a kept picture if it has the size.
     pub(crate) fn picture(&mut self, alloc: Global, dim: Dim) -> Result<Picture, AllocError>
         ensures width { IfOk result (λ p. p.width ≡ dim.w) }
         ensures height { IfOk result (λ p. p.height ≡ dim.h) }
         ensures shaped { IfOk result (λ p. IsShaped p.width p.height p) }
-        // The kept picture is taken; the other buffers are unchanged.
-        ensures used { self.new ≡ record self.old { picture = None } }
+        // A kept picture is taken; the other buffers are unchanged.
+        ensures used { self.new ≡ record self.old { picture = self.old.other_picture; other_picture = None } }
     {
-        let picture = match self.picture.take() {
+        let other = self.other_picture.take();
+        let picture = match mem::replace(&mut self.picture, other) {
             Some(picture) if picture.dim() == dim => picture,
             _ => Picture::new(alloc, dim, 0)?,
         };

@@ -1,6 +1,7 @@
 //! The reference frames: last, golden and altref.
 
 ghost use Rattle.std.specs.Prelude.{◌≡◌, ◌||◌, true, IfOk, IfSome, OnOk, OnErr, if◌then◌else◌};
+ghost use Rattle.std.specs.List.{All};
 ghost use Rattle.vp_base.specs.Image.{Image};
 ghost use Rattle.vp_refs.specs.References.{IsOneOf, all_of, copied_by, reference_picture, updated};
 
@@ -92,15 +93,16 @@ impl Refs {
         })
     }
 
-    /// One of the pictures that is not shared elsewhere; None if there is none. The others are dropped.
-    pub fn into_unshared(self) -> Option<Picture>
-        ensures { IfSome result (λ p. IsOneOf self p) }
+    /// The pictures that are not shared elsewhere, each once. The others are dropped.
+    pub fn into_unshared(self) -> [Option<Picture>; 4]
+        ensures { All (λ picture. IfSome picture (IsOneOf self)) result }
     {
-        let last = Rc::into_inner(self.last);
-        let golden = Rc::into_inner(self.golden);
-        let alt = Rc::into_inner(self.alt);
-        let newest = Rc::into_inner(self.newest);
-        last.or(golden).or(alt).or(newest)
+        [
+            Rc::into_inner(self.last),
+            Rc::into_inner(self.golden),
+            Rc::into_inner(self.alt),
+            Rc::into_inner(self.newest),
+        ]
     }
 
     /// Updates the reference frames with a frame's picture after its loop filter, as its header says. If out of

@@ -102,8 +102,13 @@ fn altref_is_copied_before_golden(rt: HostRuntime) -> Result<(), Fail> {
         &corners(&before),
         &[Some(2), Some(1), Some(1), Some(2)],
     );
-    let unshared = before.into_unshared().ok_or("a picture")?;
-    equal(&rt, &corner(&unshared), &Some(1));
+    let [last, golden, alt, newest] = before.into_unshared();
+    equal(
+        &rt,
+        &(last.is_none(), golden.is_none(), newest.is_none()),
+        &(true, true, true),
+    );
+    equal(&rt, &corner(&alt.ok_or("a picture")?), &Some(1));
     Ok(())
 }
 
