@@ -10,26 +10,21 @@ ghost use Rattle.vp_motion.specs.Near.{HavePositiveWeights, CountsNeighbours, bi
 ghost use Rattle.vp_motion.specs.Near.{weighted_at, first_candidate, from_entries, from_two, joined, same};
 ghost use Rattle.vp_motion.specs.Near.{bias_corrected, splits, total, clamped_vector};
 
-use crate::map::{VectorMap, outside};
+use crate::map::VectorMap;
 use crate::vector::{Candidates, MacroblockMotion, Nearby, STILL, Vector, Weighted};
 use arrayvec::ArrayVec;
 use vp_base::Place;
 use vp_head::{Reference, SignBiases};
 use vp_tables::VectorMode;
 
-/// The entry at an optional place, or `outside`.
-fn look<'a>(
-    map: &'a VectorMap,
-    outside: &'a MacroblockMotion,
-    place: Option<Place>,
-) -> &'a MacroblockMotion
-    requires outside { outside.now ≡ intra }
-    requires place { IfSome place (Has map.now) }
+/// The entry at an optional place, or the motion outside the frame.
+fn look(map: &VectorMap, place: Option<Place>) -> &MacroblockMotion
+    requires { IfSome place (Has map.now) }
     ensures { result.now ≡ look intra map.now place }
 {
     match place {
         Some(place) => map.get(place),
-        None => outside,
+        None => map.outside(),
     }
 }
 
@@ -307,10 +302,9 @@ pub(crate) fn nearby(
     ensures value { clamped_by (clamped_vector map.now place) result ≡ candidates map.now place reference biases }
     ensures light { (k : ℕ) → slice_index result.counts k < 6 }
 {
-    let outside = outside();
-    let above = look(map, &outside, place.above());
-    let left = look(map, &outside, place.left());
-    let corner = look(map, &outside, place.corner());
+    let above = look(map, place.above());
+    let left = look(map, place.left());
+    let corner = look(map, place.corner());
     let mut found = NearbyMotion {
         zeros: 0,
         entries: ArrayVec::new(),
