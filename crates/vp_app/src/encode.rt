@@ -13,8 +13,9 @@ use std::time::Clock;
 use vp_args::{EncodeArgs, EncodeOptions};
 use vp_base::{Counted, Limits};
 use vp_encode::{EncodeAllFault, EncodeReport, Settings, Watcher, encode_all_watched};
-use vp_hints::{Meter, Tally};
-use vp_live::{LiveWatcher, encode_live};
+use vp_hints::{Film, Meter, Tally};
+use vp_live::encode_live;
+use vp_y4m::SourceHead;
 
 /// Returns the encoder's settings, as the options say.
 pub fn settings_of(options: &EncodeOptions) -> Settings
@@ -33,8 +34,8 @@ pub fn settings_of(options: &EncodeOptions) -> Settings
     }
 }
 
-/// A progress callback that tells a meter the number of encoded frames, and while packets are written at once the sum
-/// of their squared errors.
+/// A progress callback that tells a meter the number of encoded frames, the film that they are, and the sum of their
+/// squared errors.
 #[derive(Drop)]
 struct Frames<'a, H> {
     meter: &'a Meter<'a, H>,
@@ -43,16 +44,14 @@ struct Frames<'a, H> {
 impl<H: Clock + Eprint> Watcher for Frames<'_, H> {
     ghost told = { λ _ _. ⊤ };
 
-    fn encoded(&mut self, frames: u32) {
-        self.meter.has_made(frames, None);
-    }
-}
-
-impl<H: Clock + Eprint> LiveWatcher for Frames<'_, H> {
-    ghost told = { λ _ _. ⊤ };
-
-    fn encoded(&mut self, frames: u32, error: u128) {
-        self.meter.has_made(frames, Some(error));
+    fn encoded(&mut self, head: &SourceHead, report: EncodeReport) {
+        let EncodeReport {
+            frames,
+            bytes,
+            error,
+        } = report;
+        let film = Film::of_packets(head.dim, head.rate, head.scale, frames, bytes);
+        self.meter.has_made(frames, film, error);
     }
 }
 
@@ -93,7 +92,7 @@ pub(crate) fn encode<H: Files + AllocGlobal + Clock + Eprint, R: Read, W: Write>
 }
 
 #[tactic(auto, using(crate::proofs::CommandLemmas::encode_stream, crate::proofs::CommandLemmas::encode_file, crate::proofs::CommandLemmas::encode_none))]
-fn encode_into<H: Files + AllocGlobal, R: Read, W: Write, T: Watcher + LiveWatcher>(
+fn encode_into<H: Files + AllocGlobal, R: Read, W: Write, T: Watcher>(
     outside: &mut Outside<'_, H>,
     encoding: &EncodeArgs<'_>,
     input: &mut Counted<R>,
@@ -110,7 +109,7 @@ fn encode_into<H: Files + AllocGlobal, R: Read, W: Write, T: Watcher + LiveWatch
     }
     match outside.make(encoding.output) {
         Ok(mut file) => {
-            let mut tally = Tally::new(&mut file, outside.meter());
+            let mut tally = Tally::new(&mut file);
             let writer = &mut Counted::new(&mut tally);
             let done = encode_over(outside.alloc(), encoding, input, writer, watcher);
             outside.has_encoded(tally);
@@ -121,7 +120,7 @@ fn encode_into<H: Files + AllocGlobal, R: Read, W: Write, T: Watcher + LiveWatch
     }
 }
 
-fn encode_over<R: Read, W: Write, T: Watcher + LiveWatcher>(
+fn encode_over<R: Read, W: Write, T: Watcher>(
     alloc: Global,
     encoding: &EncodeArgs<'_>,
     input: &mut Counted<R>,

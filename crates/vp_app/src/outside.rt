@@ -73,7 +73,7 @@ impl<'a, H> Outside<'a, H> {
     }
 
     /// Remembers what was encoded into a file.
-    pub(crate) fn has_encoded<W: Drop>(&mut self, file: Tally<'_, W, H>) {
+    pub(crate) fn has_encoded<W: Drop>(&mut self, file: Tally<W>) {
         self.encoded = Some(file.into_seen());
     }
 

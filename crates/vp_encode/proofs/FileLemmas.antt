@@ -1,5 +1,5 @@
 -- A file's pictures are encoded, one after another.
-use Rattle.std.proofs.Common.{◌≡◌, ◌≢◌, ℕ, ◌+◌, ◌^◌, ◌<◌, ◌≤◌, ◌*◌, ◌/◌, List, [], ◌∷◌, ◌++◌, length, map, Option, Some, None, Result, Ok, Err, refl, sym, ap, subst, ◌∙◌, inl, inr, append_assoc, add-zero, add-one, suc, arith}
+use Rattle.std.proofs.Common.{◌≡◌, ◌≢◌, ℕ, ◌+◌, ◌^◌, ◌<◌, ◌≤◌, ◌*◌, ◌/◌, List, [], ◌∷◌, ◌++◌, length, map, Option, Some, None, Result, Ok, Err, refl, sym, ap, subst, ◌∙◌, inl, inr, append_assoc, add-zero, arith}
 use Rattle.std.specs.List.{All, sum_by}
 use Rattle.std.specs.Io.KnownBytes.{Appends, Consumes, IsAtEnd}
 use Rattle.std.proofs.KnownBytes.{Consumes-nil, Consumes-trans}
@@ -25,9 +25,9 @@ use Rattle.vp_encode.specs.declared.report.EncodeReport.{EncodeReport}
 use Rattle.vp_encode.specs.declared.report.EncodeAllFault.{EncodeAllFault}
 use Rattle.vp_encode.specs.declared.report.EncodeAllFault.TheVariants as fault
 use Rattle.vp_encode.specs.Encoder.{EncoderState, AreAllowed}
-use Rattle.vp_encode.specs.Encoded.{EncodedFrame, IsEncoded, AreEncoded, initial_encoder, error_of}
+use Rattle.vp_encode.specs.Encoded.{EncodedFrame, IsEncoded, AreEncoded, initial_encoder, packet_length, error_of}
 use Rattle.vp_encode.specs.Pictures.{IsPicture, BeginWith}
-use Rattle.vp_encode.specs.File.{IsWrittenFurther, Work, IsDone, HasAllPictures, IsEncodeReported, HasOneMore, IsEndedBehind, IsAnswerBehind, IsAnswerOver, HasDone, most_reads, source_of, packet_of, ivf_text, encoded_file, encode_fault_of, numbers_to}
+use Rattle.vp_encode.specs.File.{IsWrittenFurther, Work, IsDone, HasAllPictures, IsEncodeReported, HasOneMore, IsEndedBehind, IsAnswerBehind, IsAnswerOver, HasDone, AreFramesOf, most_reads, source_of, packet_of, ivf_text, encoded_file, encode_fault_of, frames_report, reports_behind, reports_to}
 use Rattle.vp_encode.specs.EncodeProgress.{EncodeProgress, IsAdded, IsPictureRefused, IsHeadLine, IsBegun, IsAt, HasWorkFrames, EndsEncode, start}
 
 -- ---- small facts, for where much else is known
@@ -69,6 +69,7 @@ at_start head begun first = record {
   dim = refl;
   limits = refl;
   packets = ap (λ (r : EncodeProgress). r.packets) first;
+  bytes_are = ap (λ (r : EncodeProgress). r.bytes) first;
   error = ap (λ (r : EncodeProgress). r.error) first;
   few = omega arith;
   small = All-nil (λ f. length f.packet ≤ begun.limits.packet_bytes);
@@ -92,6 +93,7 @@ at_more head begun now new bytes taken frames f h is next a =
       dim = a.encoded.dim ∙ h.dim;
       limits = a.limits ∙ h.limits;
       packets = a.packets ∙ (ap (λ ps. ps ++ f.packet ∷ []) h.packets ∙ sym (map-append packet_of frames (f ∷ [])));
+      bytes_are = a.bytes ∙ (ap (λ n. n + packet_length f) h.bytes_are ∙ sym (sum_more packet_length frames f));
       error = a.error ∙ (ap (λ n. n + error_of f) h.error ∙ sym (sum_more error_of frames f));
       few = let room = a.room in let same = ap (λ (l : Limits). l.packets) h.limits in omega (arith, length-append frames (f ∷ []));
       small = All-push P frames f h.small (let L : Limits → Type 0 = λ l. length f.packet ≤ l.packet_bytes in subst L h.limits a.small);
@@ -99,22 +101,33 @@ at_more head begun now new bytes taken frames f h is next a =
 
 -- ---- what a watcher is told
 
-pub told_none : (told : List ℕ → Type 0) → IsWrittenFurther told told (numbers_to 0)
+pub told_none : (told : List EncodeReport → Type 0) → IsWrittenFurther told told (reports_to [])
 told_none told earlier is = subst told (sym (append-nil earlier)) is
 
-pub told_first : (r : EncodeProgress) (told : List ℕ → Type 0) → r ≡ start r.limits (initial_encoder r.encoder.dim r.encoder.settings) → IsWrittenFurther told told (numbers_to (length r.packets))
-told_first r told first = λ earlier is.
-    let none : length r.packets ≡ 0 = ap (λ (x : EncodeProgress). length x.packets) first in
-    subst (λ (n : ℕ). told (earlier ++ numbers_to n)) (sym none) (subst told (sym (append-nil earlier)) is)
+reports_more : (earlier frames : List EncodedFrame) (f : EncodedFrame)
+    → reports_behind earlier (frames ++ f ∷ []) ≡ reports_behind earlier frames ++ frames_report (earlier ++ (frames ++ f ∷ [])) ∷ []
+reports_more earlier [] f = refl
+reports_more earlier (g ∷ frames) f =
+    let same : (earlier ++ g ∷ []) ++ (frames ++ f ∷ []) ≡ earlier ++ (g ∷ (frames ++ f ∷ [])) = append_assoc earlier (g ∷ []) (frames ++ f ∷ []) in
+    ap (λ (rs : List EncodeReport). frames_report (earlier ++ g ∷ []) ∷ rs)
+    (reports_more (earlier ++ g ∷ []) frames f ∙ ap (λ (fs : List EncodedFrame). reports_behind (earlier ++ g ∷ []) frames ++ frames_report fs ∷ []) same)
 
-pub told_more : (before mid after : List ℕ → Type 0) (now new : EncodeProgress) (f : EncodedFrame) (frames : ℕ) → IsWrittenFurther before mid (numbers_to (length now.packets))
-    → IsAdded now f new → frames ≡ length new.packets → IsWrittenFurther mid after (frames ∷ []) → IsWrittenFurther before after (numbers_to (length new.packets))
-told_more before mid after now new f frames told added is more = λ earlier was.
-    let many : length new.packets ≡ suc (length now.packets) = ap length added.packets ∙ length-append now.packets (f.packet ∷ []) ∙ add-one (length now.packets) in
-    let told_now = more (earlier ++ numbers_to (length now.packets)) (told earlier was) in
-    subst (λ (n : ℕ). after (earlier ++ numbers_to n)) (sym many)
-    (subst after (append_assoc earlier (numbers_to (length now.packets)) (suc (length now.packets) ∷ []))
-    (subst (λ (n : ℕ). after ((earlier ++ numbers_to (length now.packets)) ++ n ∷ [])) (is ∙ many) told_now))
+pub told_more : (before mid after : List EncodeReport → Type 0) (frames : List EncodedFrame) (f : EncodedFrame) (report : EncodeReport) → IsWrittenFurther before mid (reports_to frames)
+    → report ≡ frames_report (frames ++ f ∷ []) → IsWrittenFurther mid after (report ∷ []) → IsWrittenFurther before after (reports_to (frames ++ f ∷ []))
+told_more before mid after frames f report told is more = λ past was.
+    let told_now = more (past ++ reports_to frames) (told past was) in
+    subst (λ (rs : List EncodeReport). after (past ++ rs)) (sym (reports_more [] frames f))
+    (subst after (append_assoc past (reports_to frames) (frames_report (frames ++ f ∷ []) ∷ []))
+    (subst (λ (r : EncodeReport). after ((past ++ reports_to frames) ++ r ∷ [])) is told_now))
+
+-- the report of a run is that of its frames
+pub reported_at : (head : Head) (begun now : EncodeProgress) (bytes : List ℕ) (frames : List EncodedFrame) → IsAt head begun now bytes frames
+    → (report : EncodeReport) → report ≡ record { frames = length now.packets; bytes = now.bytes; error = now.error } → report ≡ frames_report frames
+reported_at head begun now bytes frames h report is =
+    let many : length now.packets ≡ length frames = ap length h.packets ∙ length-map frames packet_of in
+    let same : ◌≡◌ {A = EncodeReport} (record { frames = length now.packets; bytes = now.bytes; error = now.error }) (frames_report frames) =
+    λ i. record { frames = many i; bytes = h.bytes_are i; error = h.error i } in
+    is ∙ same
 
 -- ---- the ends
 
@@ -144,9 +157,11 @@ module _ (front : List ℕ) (head : Head) (begun now : EncodeProgress) (bytes : 
   many : length now.packets ≡ length frames
   many = ap length h.packets ∙ length-map frames packet_of
 
-  -- as many as there are packets
-  counted : (taken : List ℕ) → HasDone (length now.packets) begun.limits begun.encoder.settings (front ++ (bytes ++ taken)) (work taken)
-  counted taken = (done taken, sym many)
+  counted : (taken : List ℕ) → HasDone (length frames) begun.limits begun.encoder.settings (front ++ (bytes ++ taken)) (work taken)
+  counted taken = (done taken, refl)
+
+  are : (taken : List ℕ) → AreFramesOf begun.limits begun.encoder.settings (front ++ (bytes ++ taken)) frames
+  are taken = inr (work taken, done taken, refl)
 
   most : now.limits.packets ≡ begun.limits.packets
   most = ap (λ (l : Limits). l.packets) h.limits
@@ -154,7 +169,7 @@ module _ (front : List ℕ) (head : Head) (begun now : EncodeProgress) (bytes : 
   -- the run refuses a picture
   refused : (taken : List ℕ) (p : Image) → IsPicture head.w head.h p
       → ((rest : List ℕ) → next_of head.w head.h (taken ++ rest) ≡ Ok (Some (i420 p, rest)))
-      → (f : EncodeAllFault) → IsPictureRefused now p f → (written : Option (List ℕ)) → IsEndedBehind (length now.packets) begun.limits begun.encoder.settings f (front ++ (bytes ++ taken)) written written
+      → (f : EncodeAllFault) → IsPictureRefused now p f → (written : Option (List ℕ)) → IsEndedBehind (length frames) begun.limits begun.encoder.settings f (front ++ (bytes ++ taken)) written written
   refused taken p is next fault.Magic r written = absurd r
   refused taken p is next fault.Size r written = absurd r
   refused taken p is next fault.Colour r written = absurd r
@@ -173,13 +188,12 @@ module _ (front : List ℕ) (head : Head) (begun now : EncodeProgress) (bytes : 
   refused taken p is next fault.Device r written = absurd r
   refused taken p is next fault.Memory r written = inr (work taken, counted taken)
 
-  -- and has the same packets as before
-  pub refused_same : (taken : List ℕ) (p : Image) → IsPicture head.w head.h p
+  pub refused_behind : (taken : List ℕ) (p : Image) → IsPicture head.w head.h p
       → ((rest : List ℕ) → next_of head.w head.h (taken ++ rest) ≡ Ok (Some (i420 p, rest)))
-      → (f : EncodeAllFault) → IsPictureRefused now p f → (packets : List (List ℕ)) → packets ≡ now.packets
-      → (written : Option (List ℕ)) → IsEndedBehind (length packets) begun.limits begun.encoder.settings f (front ++ (bytes ++ taken)) written written
-  refused_same taken p is next f r packets same written =
-      subst (λ (ps : List (List ℕ)). IsEndedBehind (length ps) begun.limits begun.encoder.settings f (front ++ (bytes ++ taken)) written written) (sym same) (refused taken p is next f r written)
+      → (f : EncodeAllFault) → IsPictureRefused now p f
+      → AreFramesOf begun.limits begun.encoder.settings (front ++ (bytes ++ taken)) frames
+      × ((written : Option (List ℕ)) → IsEndedBehind (length frames) begun.limits begun.encoder.settings f (front ++ (bytes ++ taken)) written written)
+  refused_behind taken p is next f r = (are taken, refused taken p is next f r)
 
   -- the source has a fault behind these pictures
   shown_end : (f : SourceFault) (taken : List ℕ) → ((rest : List ℕ) → next_of head.w head.h (taken ++ rest) ≡ Err f) → next_of head.w head.h taken ≡ Err f
@@ -187,19 +201,21 @@ module _ (front : List ℕ) (head : Head) (begun now : EncodeProgress) (bytes : 
 
   pub failed : (f : SourceFault) (before after : Option (List ℕ)) → Fails (next_of head.w head.h) f before after
       → (taken : List ℕ) × Consumes before after taken
-      × ((written : Option (List ℕ)) → IsEndedBehind (length now.packets) begun.limits begun.encoder.settings (encode_fault_of f) (front ++ (bytes ++ taken)) written written)
-  failed source.Magic before after s = (s.taken, s.consumed, λ written. inr (work s.taken, counted s.taken, shown_end source.Magic s.taken s.shown))
-  failed source.Size before after s = (s.taken, s.consumed, λ written. inr (work s.taken, counted s.taken, shown_end source.Size s.taken s.shown))
-  failed source.Colour before after s = (s.taken, s.consumed, λ written. inr (work s.taken, counted s.taken, shown_end source.Colour s.taken s.shown))
-  failed source.Interlaced before after s = (s.taken, s.consumed, λ written. inr (work s.taken, counted s.taken, shown_end source.Interlaced s.taken s.shown))
-  failed source.Torn before after s = (s.taken, s.consumed, λ written. inr (work s.taken, counted s.taken, s.shown))
-  failed source.Device before after s = (s.0, s.1, λ written. inl (refl, inr (work s.0, counted s.0)))
+      × AreFramesOf begun.limits begun.encoder.settings (front ++ (bytes ++ taken)) frames
+      × ((written : Option (List ℕ)) → IsEndedBehind (length frames) begun.limits begun.encoder.settings (encode_fault_of f) (front ++ (bytes ++ taken)) written written)
+  failed source.Magic before after s = (s.taken, s.consumed, are s.taken, λ written. inr (work s.taken, counted s.taken, shown_end source.Magic s.taken s.shown))
+  failed source.Size before after s = (s.taken, s.consumed, are s.taken, λ written. inr (work s.taken, counted s.taken, shown_end source.Size s.taken s.shown))
+  failed source.Colour before after s = (s.taken, s.consumed, are s.taken, λ written. inr (work s.taken, counted s.taken, shown_end source.Colour s.taken s.shown))
+  failed source.Interlaced before after s = (s.taken, s.consumed, are s.taken, λ written. inr (work s.taken, counted s.taken, shown_end source.Interlaced s.taken s.shown))
+  failed source.Torn before after s = (s.taken, s.consumed, are s.taken, λ written. inr (work s.taken, counted s.taken, s.shown))
+  failed source.Device before after s = (s.0, s.1, are s.0, λ written. inl (refl, inr (work s.0, counted s.0)))
   failed source.Memory before after s = absurd s
 
   pub next_failed : (f : SourceFault) (before after : Option (List ℕ)) → (f ≢ source.Memory → Fails (next_of head.w head.h) f before after)
       → (f ≡ source.Memory → after ≡ before)
       → (taken : List ℕ) × Consumes before after taken
-      × ((written : Option (List ℕ)) → IsEndedBehind (length now.packets) begun.limits begun.encoder.settings (encode_fault_of f) (front ++ (bytes ++ taken)) written written)
+      × AreFramesOf begun.limits begun.encoder.settings (front ++ (bytes ++ taken)) frames
+      × ((written : Option (List ℕ)) → IsEndedBehind (length frames) begun.limits begun.encoder.settings (encode_fault_of f) (front ++ (bytes ++ taken)) written written)
   next_failed source.Magic before after s m = failed source.Magic before after (s (λ e. cc))
   next_failed source.Size before after s m = failed source.Size before after (s (λ e. cc))
   next_failed source.Colour before after s m = failed source.Colour before after (s (λ e. cc))
@@ -207,14 +223,14 @@ module _ (front : List ℕ) (head : Head) (begun now : EncodeProgress) (bytes : 
   next_failed source.Torn before after s m = failed source.Torn before after (s (λ e. cc))
   next_failed source.Device before after s m = failed source.Device before after (s (λ e. cc))
   next_failed source.Memory before after s m =
-      let C : Option (List ℕ) → Type 0 = λ a. Consumes before a [] in ([], subst C (sym (m refl)) (Consumes-nil before), λ written. inr (work [], counted []))
+      let C : Option (List ℕ) → Type 0 = λ a. Consumes before a [] in ([], subst C (sym (m refl)) (Consumes-nil before), are [], λ written. inr (work [], counted []))
 
   -- all pictures were encoded
   pub ended : (before after : Option (List ℕ)) → ShowsAtEnd (next_of head.w head.h) (Ok None) before after
       → (taken : List ℕ) × Consumes before after taken × IsAtEnd after
-      × ((w : Work) × IsDone begun.limits begun.encoder.settings (front ++ (bytes ++ taken)) w × HasAllPictures w × (w.head ≡ head) × HasWorkFrames w now)
+      × ((w : Work) × IsDone begun.limits begun.encoder.settings (front ++ (bytes ++ taken)) w × HasAllPictures w × (w.head ≡ head) × HasWorkFrames w now × (w.frames ≡ frames))
   ended before after s =
-      (s.taken, s.consumed, s.at_end, (work s.taken, done s.taken, s.shown, refl, record { packets = h.packets; error = h.error }))
+      (s.taken, s.consumed, s.at_end, (work s.taken, done s.taken, s.shown, refl, record { packets = h.packets; bytes = h.bytes_are; error = h.error }, refl))
 
 -- ---- the head
 
@@ -273,30 +289,37 @@ at_next head begun now new bytes frames p before after h s f is a =
 -- ---- the whole file
 
 -- what encoding the pictures of a source came to, by the reader that it was opened over
-pub opened_ends : (pixels : ℕ) (limits : Limits) (settings : Settings) (result : Result (Unit {0}) EncodeAllFault) (after : EncodeProgress) (head now : Head) (before opened left : Option (List ℕ))
+pub opened_ends : (pixels : ℕ) (limits : Limits) (settings : Settings) (result : Result (Unit {0}) EncodeAllFault) (after : EncodeProgress) (told told' : List EncodeReport → Type 0) (head now : Head) (before opened left : Option (List ℕ))
     → now ≡ head → opened ≡ before
-    → ((front : List ℕ) → IsHeadLine pixels front now → (bytes : List ℕ) × Consumes opened left bytes × EndsEncode limits settings result now (front ++ bytes) after)
-    → (front : List ℕ) → IsHeadLine pixels front head → (bytes : List ℕ) × Consumes before left bytes × EndsEncode limits settings result head (front ++ bytes) after
-opened_ends pixels limits settings result after head now before opened left is bytes_are ends =
+    → ((front : List ℕ) → IsHeadLine pixels front now → (bytes : List ℕ) × (frames : List EncodedFrame) × Consumes opened left bytes
+    × IsWrittenFurther told told' (reports_to frames) × EndsEncode limits settings result now (front ++ bytes) frames after)
+    → (front : List ℕ) → IsHeadLine pixels front head → (bytes : List ℕ) × (frames : List EncodedFrame) × Consumes before left bytes
+    × IsWrittenFurther told told' (reports_to frames) × EndsEncode limits settings result head (front ++ bytes) frames after
+opened_ends pixels limits settings result after told told' head now before opened left is bytes_are ends =
     let E : Head → Option (List ℕ) → Type 0 = λ h o. (front : List ℕ) → IsHeadLine pixels front h
-    → (bytes : List ℕ) × Consumes o left bytes × EndsEncode limits settings result h (front ++ bytes) after in
+    → (bytes : List ℕ) × (frames : List EncodedFrame) × Consumes o left bytes
+    × IsWrittenFurther told told' (reports_to frames) × EndsEncode limits settings result h (front ++ bytes) frames after in
     subst (E head) bytes_are (subst (λ (h : Head). E h opened) is ends)
 
 -- the head, and then what encoding the pictures behind it came to
-pub work_ends : (limits : Limits) (settings : Settings) (dim : Dim) (encoder : EncoderState) (run after : EncodeProgress) (head : Head) (before mid left : Option (List ℕ)) (result : Result (Unit {0}) EncodeAllFault)
+pub work_ends : (limits : Limits) (settings : Settings) (dim : Dim) (encoder : EncoderState) (run after : EncodeProgress) (told told' : List EncodeReport → Type 0) (head : Head) (before mid left : Option (List ℕ)) (result : Result (Unit {0}) EncodeAllFault)
     → run ≡ start limits encoder → encoder ≡ initial_encoder dim settings
     → Shows (file_head limits.pixels) (λ rest. Ok (head, rest)) before mid
-    → ((front : List ℕ) → IsHeadLine run.limits.pixels front head → (bytes : List ℕ) × Consumes mid left bytes × EndsEncode run.limits run.encoder.settings result head (front ++ bytes) after)
-    → (file : List ℕ) × Consumes before left file × EndsEncode limits settings result head file after
-work_ends limits settings dim encoder run after head before mid left result begun opened s ends =
+    → ((front : List ℕ) → IsHeadLine run.limits.pixels front head → (bytes : List ℕ) × (frames : List EncodedFrame) × Consumes mid left bytes
+    × IsWrittenFurther told told' (reports_to frames) × EndsEncode run.limits run.encoder.settings result head (front ++ bytes) frames after)
+    → (file : List ℕ) × (frames : List EncodedFrame) × Consumes before left file
+    × IsWrittenFurther told told' (reports_to frames) × EndsEncode limits settings result head file frames after
+work_ends limits settings dim encoder run after told told' head before mid left result begun opened s ends =
     let same : run.limits ≡ limits = ap (λ (r : EncodeProgress). r.limits) begun in
     let set : run.encoder.settings ≡ settings = ap (λ (r : EncodeProgress). r.encoder.settings) begun ∙ ap (λ (e : EncoderState). e.settings) opened in
     let line : IsHeadLine run.limits.pixels s.taken head = subst (λ (l : Limits). IsHeadLine l.pixels s.taken head) (sym same) s.shown in
     let e = ends s.taken line in
-    let E : Limits → Settings → Type 0 = λ l x. EndsEncode l x result head (s.taken ++ e.0) after in (
+    let E : Limits → Settings → Type 0 = λ l x. EndsEncode l x result head (s.taken ++ e.0) e.1 after in (
       s.taken ++ e.0,
-      Consumes-trans before mid left s.taken e.0 s.consumed e.1,
-      subst (λ (l : Limits). E l settings) same (subst (E run.limits) set e.2),
+      e.1,
+      Consumes-trans before mid left s.taken e.0 s.consumed e.2,
+      e.3,
+      subst (λ (l : Limits). E l settings) same (subst (E run.limits) set e.4),
     )
 
 -- ---- no more reads than these
@@ -341,8 +364,8 @@ within_limits limits now head old mid new same small line pictures =
     let all = mul-le (limits.packets + 1) (each head) (limits.packets + 1) (1025 + 3 * limits.pixels) (omega arith) fits in
     omega arith
 
-module _ (limits : Limits) (settings : Settings) (head : Head) (file : List ℕ) (after : EncodeProgress) (packets : List (List ℕ)) (same : packets ≡ after.packets)
-    (e : (w : Work) × IsDone limits settings file w × HasAllPictures w × (w.head ≡ head) × HasWorkFrames w after) where
+module _ (limits : Limits) (settings : Settings) (head : Head) (file : List ℕ) (frames : List EncodedFrame) (after : EncodeProgress) (packets : List (List ℕ)) (same : packets ≡ after.packets)
+    (e : (w : Work) × IsDone limits settings file w × HasAllPictures w × (w.head ≡ head) × HasWorkFrames w after × (w.frames ≡ frames)) where
   packets_are : packets ≡ map packet_of e.0.frames
   packets_are = same ∙ e.4.packets
 
@@ -354,29 +377,39 @@ module _ (limits : Limits) (settings : Settings) (head : Head) (file : List ℕ)
       (All-map P packet_of e.0.frames
       (All-weaker (λ (f : EncodedFrame). length f.packet ≤ limits.packet_bytes) (λ (f : EncodedFrame). length f.packet < 2 ^ 32) (λ f h. omega arith) e.0.frames e.1.small))
 
-  -- as many pictures as packets
-  all_counted : length e.0.frames ≡ length after.packets
-  all_counted = sym (length-map e.0.frames packet_of) ∙ sym (ap length e.4.packets)
+  -- as many packets as pictures
+  all_counted : length after.packets ≡ length e.0.frames
+  all_counted = ap length e.4.packets ∙ length-map e.0.frames packet_of
+
+  pub all_frames : AreFramesOf limits settings file frames
+  all_frames = inr (e.0, e.1, e.5)
 
   text_is : ivf_text head packets ≡ encoded_file e.0
   text_is = ap (λ (h : Head). ivf_text h packets) (sym e.3) ∙ ap (ivf_text e.0.head) packets_are
 
-  pub written_front : (before now : Option (List ℕ)) → AppendsPrefix before now (ivf_text head packets) → IsEndedBehind (length after.packets) limits settings fault.Device file before now
-  written_front before now w = let P : List ℕ → Type 0 = λ t. AppendsPrefix before now t in inr (e.0, (e.1, all_counted), e.2, subst P text_is w)
+  pub written_front : (before now : Option (List ℕ)) → AppendsPrefix before now (ivf_text head packets) → IsEndedBehind (length frames) limits settings fault.Device file before now
+  written_front before now w = let P : List ℕ → Type 0 = λ t. AppendsPrefix before now t in inr (e.0, (e.1, ap length e.5), e.2, subst P text_is w)
 
-  pub written_whole : (before now : Option (List ℕ)) (report : EncodeReport) → report ≡ record { frames = length after.packets; error = after.error }
-      → Appends before now (ivf_text head packets) → IsAnswerBehind (length after.packets) limits settings (Ok report) file before now
+  pub written_whole : (before now : Option (List ℕ)) (report : EncodeReport) → report ≡ record { frames = length after.packets; bytes = after.bytes; error = after.error }
+      → Appends before now (ivf_text head packets) → IsAnswerBehind (length frames) limits settings (Ok report) file before now
   written_whole before now report is w = let P : List ℕ → Type 0 = λ t. Appends before now t in (
     record {
       work = e.0;
       done = e.1;
       whole = e.2;
-      frames = ap (λ (r : EncodeReport). r.frames) is ∙ sym all_counted;
+      frames = ap (λ (r : EncodeReport). r.frames) is ∙ all_counted;
+      bytes = ap (λ (r : EncodeReport). r.bytes) is ∙ e.4.bytes;
       error = ap (λ (r : EncodeReport). r.error) is ∙ e.4.error;
       writes = subst P text_is w;
     },
-    ap (λ (r : EncodeReport). r.frames) is,
+    ap (λ (r : EncodeReport). r.frames) is ∙ (all_counted ∙ ap length e.5),
   )
+
+  pub reported_whole : (report : EncodeReport) → report ≡ record { frames = length after.packets; bytes = after.bytes; error = after.error } → report ≡ frames_report frames
+  reported_whole report is =
+      let same : ◌≡◌ {A = EncodeReport} (record { frames = length after.packets; bytes = after.bytes; error = after.error }) (frames_report e.0.frames) =
+      λ i. record { frames = all_counted i; bytes = e.4.bytes i; error = e.4.error i } in
+      is ∙ (same ∙ ap frames_report e.5)
 
 -- ---- the answer, by where the work ended
 

@@ -10,20 +10,22 @@ use Rattle.vp_encode.specs.declared.report.EncodeAllFault.{EncodeAllFault}
 use Rattle.vp_encode.specs.declared.report.EncodeAllFault.TheVariants as fault
 use Rattle.vp_encode.specs.Encoder.{EncoderState, AreAllowed}
 use Rattle.vp_encode.specs.Encoded.{EncodedFrame, IsEncoded, AreEncoded, initial_encoder, error_of, errors_of}
+use Rattle.vp_encode.specs.Encoded.{lengths_of}
 use Rattle.vp_encode.specs.Pictures.{BeginWith}
-use Rattle.vp_encode.specs.File.{Work, IsDone, HasAllPictures, IsEndedBehind, source_of, packet_of}
+use Rattle.vp_encode.specs.File.{Work, IsDone, HasAllPictures, IsEndedBehind, AreFramesOf, source_of, packet_of}
 use Rattle.vp_encode.specs.TooLong.{IsTooLong}
 
--- the limits, the encoder, its packets so far, and the sum of their squared errors
+-- the limits, the encoder, its packets so far, the sum of their lengths, and that of their squared errors
 pub record EncodeProgress : Type 0 where
   pub limits : Limits
   pub encoder : EncoderState
   pub packets : List (List ℕ)
+  pub bytes : ℕ
   pub error : ℕ
 
 -- before the first picture
 abbrev pub start : Limits → EncoderState → EncodeProgress
-start limits encoder = record { limits = limits; encoder = encoder; packets = []; error = 0 }
+start limits encoder = record { limits = limits; encoder = encoder; packets = []; bytes = 0; error = 0 }
 
 -- ---- one picture; a refused picture adds no packet
 
@@ -34,6 +36,7 @@ pub record IsAdded (old : EncodeProgress) (f : EncodedFrame) (new : EncodeProgre
   pub encoded : IsEncoded old.encoder f new.encoder
   pub limits : new.limits ≡ old.limits
   pub packets : new.packets ≡ old.packets ++ f.packet ∷ []
+  pub bytes : new.bytes ≡ old.bytes + length f.packet
   pub error : new.error ≡ old.error + error_of f
 
 -- picture p is refused with this fault: too many pictures, a partition too long, or a packet too large
@@ -77,6 +80,7 @@ pub record IsAt (head : Head) (begun now : EncodeProgress) (bytes : List ℕ) (f
   pub dim : now.encoder.dim ≡ begun.encoder.dim
   pub limits : now.limits ≡ begun.limits
   pub packets : now.packets ≡ map packet_of frames
+  pub bytes_are : now.bytes ≡ lengths_of frames
   pub error : now.error ≡ errors_of frames
   pub few : length frames ≤ begun.limits.packets
   pub small : All (λ f. length f.packet ≤ begun.limits.packet_bytes) frames
@@ -84,11 +88,14 @@ pub record IsAt (head : Head) (begun now : EncodeProgress) (bytes : List ℕ) (f
 -- exactly the frames of the work are added
 pub record HasWorkFrames (w : Work) (r : EncodeProgress) : Type 0 where
   pub packets : r.packets ≡ map packet_of w.frames
+  pub bytes : r.bytes ≡ lengths_of w.frames
   pub error : r.error ≡ errors_of w.frames
 
--- all pictures of a file with this head are encoded, or encoding ended before anything was written
-abbrev pub EndsEncode : Limits → Settings → Result (Unit {0}) EncodeAllFault → Head → List ℕ → EncodeProgress → Type 0
-EndsEncode limits settings (Ok done) head file r = (w : Work) × IsDone limits settings file w × HasAllPictures w
-    × (w.head ≡ head) × HasWorkFrames w r
-EndsEncode limits settings (Err fault) head file r = (written : Option (List ℕ))
-    → IsEndedBehind (length r.packets) limits settings fault file written written
+-- all pictures of a file with this head are encoded into these frames, or encoding ended after them before anything
+-- was written
+abbrev pub EndsEncode : Limits → Settings → Result (Unit {0}) EncodeAllFault → Head → List ℕ → List EncodedFrame
+    → EncodeProgress → Type 0
+EndsEncode limits settings (Ok done) head file frames r = (w : Work) × IsDone limits settings file w × HasAllPictures w
+    × (w.head ≡ head) × HasWorkFrames w r × (w.frames ≡ frames)
+EndsEncode limits settings (Err fault) head file frames r = AreFramesOf limits settings file frames
+    × ((written : Option (List ℕ)) → IsEndedBehind (length frames) limits settings fault file written written)

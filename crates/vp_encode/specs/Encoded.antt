@@ -1,5 +1,5 @@
 -- A sequence of encoded frames: each packet is the choice for its source, and decodes to its reconstruction.
-use Rattle.std.specs.Prelude.{◌≡◌, ◌≤◌, ◌*◌, ◌+◌, ℕ, List, [], ◌∷◌, None, if◌then◌else◌}
+use Rattle.std.specs.Prelude.{◌≡◌, ◌≤◌, ◌*◌, ◌+◌, ℕ, List, [], ◌∷◌, None, if◌then◌else◌, length}
 use Rattle.std.specs.List.{sum_by}
 use Rattle.vp_base.specs.declared.limits.Dim.{Dim}
 use Rattle.vp_base.specs.declared.limits.Limits.{Limits}
@@ -41,3 +41,11 @@ error_of f = squared_distance f.source f.recon
 -- the sum over all frames
 abbrev pub errors_of : List EncodedFrame → ℕ
 errors_of frames = sum_by error_of frames
+
+-- the length of the packet
+abbrev pub packet_length : EncodedFrame → ℕ
+packet_length f = length f.packet
+
+-- the sum over all frames
+abbrev pub lengths_of : List EncodedFrame → ℕ
+lengths_of frames = sum_by packet_length frames

@@ -1,7 +1,7 @@
 -- The results of encoding a source file: the report or the fault, and the output. Faults are in the order of the work.
 -- Pinned by tests on whole files and on failing reads and writes.
-use Rattle.std.specs.Prelude.{◌≡◌, ◌≢◌, ◌≤◌, ◌<◌, ◌+◌, ◌*◌, ◌⊎◌, ℕ, zero, suc, List, [], ◌∷◌, ◌++◌, Option, None}
-use Rattle.std.specs.Prelude.{Result, Ok, Err, OnOk, length, map}
+use Rattle.std.specs.Prelude.{◌≡◌, ◌≢◌, ◌≤◌, ◌<◌, ◌+◌, ◌*◌, ◌⊎◌, ℕ, List, [], ◌∷◌, ◌++◌, Option, None}
+use Rattle.std.specs.Prelude.{Result, Ok, Err, IfOk, OnOk, length, map}
 use Rattle.std.specs.List.{All, enumerate_from}
 use Rattle.std.specs.Io.KnownBytes.{Appends, Consumes, IsAtEnd}
 use Rattle.vp_base.specs.declared.limits.Dim.{Dim}
@@ -20,7 +20,7 @@ use Rattle.vp_encode.specs.declared.report.EncodeReport.{EncodeReport}
 use Rattle.vp_encode.specs.declared.report.EncodeAllFault.{EncodeAllFault}
 use Rattle.vp_encode.specs.declared.report.EncodeAllFault.TheVariants as fault
 use Rattle.vp_encode.specs.Encoder.{EncoderState, AreAllowed}
-use Rattle.vp_encode.specs.Encoded.{EncodedFrame, IsEncoded, AreEncoded, initial_encoder, errors_of}
+use Rattle.vp_encode.specs.Encoded.{EncodedFrame, IsEncoded, AreEncoded, initial_encoder, lengths_of, errors_of}
 use Rattle.vp_encode.specs.Pictures.{BeginWith}
 use Rattle.vp_encode.specs.TooLong.{IsTooLong}
 
@@ -97,6 +97,7 @@ pub record IsEncodeReported (limits : Limits) (settings : Settings) (report : En
   pub done : IsDone limits settings file work
   pub whole : HasAllPictures work
   pub frames : report.frames ≡ length work.frames
+  pub bytes : report.bytes ≡ lengths_of work.frames
   pub error : report.error ≡ errors_of work.frames
   pub writes : Appends before after (encoded_file work)
 
@@ -185,26 +186,44 @@ pub record IsAnswerOver {R W : Type 0} (remaining : R → Option (List ℕ)) (co
   pub quiet : result ≢ Err fault.Device
       → (counted_failures reader' ≡ counted_failures reader) × (counted_failures writer' ≡ counted_failures writer)
 
--- 1, 2, .. n
-abbrev pub numbers_to : ℕ → List ℕ
-numbers_to zero = []
-numbers_to (suc n) = numbers_to n ++ suc n ∷ []
+-- ---- what a progress callback receives
 
--- the progress callback receives these numbers after any earlier ones
-abbrev pub IsWrittenFurther : (before after : List ℕ → Type 0) → List ℕ → Type 0
-IsWrittenFurther before after numbers = (earlier : List ℕ) → before earlier → after (earlier ++ numbers)
+-- the report of these frames
+abbrev pub frames_report : List EncodedFrame → EncodeReport
+frames_report frames = record { frames = length frames; bytes = lengths_of frames; error = errors_of frames }
 
--- the progress callback receives 1, 2, .. up to the number of pictures encoded
+-- after earlier frames: the report after each of these
+abbrev pub reports_behind : List EncodedFrame → List EncodedFrame → List EncodeReport
+reports_behind earlier [] = []
+reports_behind earlier (f ∷ frames) = frames_report (earlier ++ f ∷ []) ∷ reports_behind (earlier ++ f ∷ []) frames
+
+-- the reports of the first frame, of the first two, .. of all of them
+abbrev pub reports_to : List EncodedFrame → List EncodeReport
+reports_to frames = reports_behind [] frames
+
+-- the progress callback receives these reports after any earlier ones
+abbrev pub IsWrittenFurther : (before after : List EncodeReport → Type 0) → List EncodeReport → Type 0
+IsWrittenFurther before after reports = (earlier : List EncodeReport) → before earlier → after (earlier ++ reports)
+
+-- none, or the frames of the work done
+abbrev pub AreFramesOf : Limits → Settings → List ℕ → List EncodedFrame → Type 0
+AreFramesOf limits settings file frames =
+    (frames ≡ []) ⊎ ((w : Work) × IsDone limits settings file w × (w.frames ≡ frames))
+
+-- The progress callback receives the reports of the first picture, of the first two, .. up to that of all pictures
+-- encoded, which a report equals.
 pub record IsWatched {R W : Type 0} (remaining : R → Option (List ℕ)) (contents : W
     → Option (List ℕ)) (limits : Limits) (settings : Settings)
     (result : Result EncodeReport EncodeAllFault) (reader reader' : Counted R) (writer writer' : Counted W)
-    (before after : List ℕ → Type 0) : Type 0 where
-  pub pictures : ℕ
-  pub told : IsWrittenFurther before after (numbers_to pictures)
+    (before after : List EncodeReport → Type 0) : Type 0 where
+  pub frames : List EncodedFrame
+  pub told : IsWrittenFurther before after (reports_to frames)
   pub file : List ℕ
   pub consumed : Consumes (counted_remaining remaining reader) (counted_remaining remaining reader') file
-  pub answer : IsAnswerBehind pictures limits settings result file (counted_contents contents writer)
+  pub encoded : AreFramesOf limits settings file frames
+  pub answer : IsAnswerBehind (length frames) limits settings result file (counted_contents contents writer)
       (counted_contents contents writer')
+  pub reported : IfOk result (λ report. report ≡ frames_report frames)
 
 -- ---- the number of reads
 

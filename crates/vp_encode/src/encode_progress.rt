@@ -10,12 +10,13 @@ use std::alloc::Global;
 use std::marker::Model;
 use vp_base::{ByteList, Limits, Picture};
 
-/// An encoder, the packets that it made of a file's pictures, and the sum of their squared errors.
+/// An encoder, the packets that it made of a file's pictures, and the sums of their lengths and squared errors.
 #[derive(Drop)]
 pub(crate) struct EncodeProgress {
     limits: Limits,
     encoder: Encoder,
     packets: Vec<ByteList>,
+    bytes: u64,
     error: u128,
 }
 
@@ -25,9 +26,16 @@ impl Model for EncodeProgress {
 
     ghost Value = { EncodeProgress };
 
-    ghost view = { λ a. record { limits = a.limits; encoder = a.encoder; packets = a.packets.items; error = a.error } };
+    ghost view = { λ a. record {
+      limits = a.limits;
+      encoder = a.encoder;
+      packets = a.packets.items;
+      bytes = a.bytes;
+      error = a.error;
+    } };
 
     ghost invariant = { λ a. (length a.packets.items ≤ a.limits.packets)
+        × (a.bytes ≤ length a.packets.items * 2 ^ 32)
         × (a.error ≤ length a.packets.items * 2 ^ 64) };
 }
 
@@ -40,6 +48,7 @@ impl EncodeProgress {
             limits,
             encoder,
             packets: Vec::new(alloc),
+            bytes: 0,
             error: 0,
         }
     }
@@ -62,9 +71,11 @@ impl EncodeProgress {
         if encoded.packet.len() > self.limits.packet_bytes as usize {
             return Err(EncodeAllFault::PacketTooLarge);
         }
+        let bytes = encoded.packet.len() as u64;
         if self.packets.push(encoded.packet).is_err() {
             return Err(EncodeAllFault::Memory);
         }
+        self.bytes += bytes;
         self.error += u128::from(encoded.squared_error);
         Ok(())
     }
@@ -76,19 +87,13 @@ impl EncodeProgress {
         self.packets.as_slice()
     }
 
-    /// Returns the number of pictures encoded.
-    pub(crate) fn frames(&self) -> u32
-        ensures { result ≡ length self.now.packets }
-    {
-        self.packets.len() as u32
-    }
-
-    /// Returns the report of all pictures.
+    /// Returns the report of the pictures encoded.
     pub(crate) fn report(&self) -> EncodeReport
-        ensures { result ≡ record { frames = length self.now.packets; error = self.now.error } }
+        ensures { result ≡ record { frames = length self.now.packets; bytes = self.now.bytes; error = self.now.error } }
     {
         EncodeReport {
-            frames: self.frames(),
+            frames: self.packets.len() as u32,
+            bytes: self.bytes,
             error: self.error,
         }
     }

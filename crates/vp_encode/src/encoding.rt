@@ -12,9 +12,10 @@ ghost use Rattle.vp_y4m.specs.Source.{reader_name, bytes_left, failures_of, read
 ghost use Rattle.vp_y4m.specs.Reads.{TakesInReads};
 ghost use Rattle.vp_y4m.specs.Text.{i420_length};
 ghost use Rattle.vp_encode.specs.declared.report.EncodeAllFault.{EncodeAllFault};
+ghost use Rattle.vp_encode.specs.declared.report.EncodeReport.{EncodeReport};
 ghost use Rattle.vp_encode.specs.Encoder.{AreAllowed};
-ghost use Rattle.vp_encode.specs.Encoded.{initial_encoder};
-ghost use Rattle.vp_encode.specs.File.{IsAnswerOver, IsWrittenFurther, IsWatched, ivf_text, most_reads, numbers_to};
+ghost use Rattle.vp_encode.specs.Encoded.{EncodedFrame, initial_encoder};
+ghost use Rattle.vp_encode.specs.File.{IsAnswerOver, IsWrittenFurther, IsWatched, ivf_text, most_reads, reports_to};
 ghost use Rattle.vp_encode.specs.EncodeProgress.{start, IsHeadLine, EndsEncode};
 
 use crate::encode_progress::EncodeProgress;
@@ -29,12 +30,12 @@ use vp_y4m::{Source, SourceHead};
 
 /// The progress callback of encoding a file.
 pub trait Watcher {
-    /// The numbers that it has received so far, in order.
-    ghost told: { Self → List ℕ → Type 0 };
+    /// The reports that it has received so far, in order.
+    ghost told: { Self → List EncodeReport → Type 0 };
 
-    /// Receives the number of pictures encoded so far.
-    fn encoded(&mut self, frames: u32)
-        ensures { (before : List ℕ) → told self.old before → told self.new (before ++ frames ∷ []) };
+    /// Receives the head of the source, and the report of the pictures encoded so far.
+    fn encoded(&mut self, head: &SourceHead, report: EncodeReport)
+        ensures { (before : List EncodeReport) → told self.old before → told self.new (before ++ report ∷ []) };
 }
 
 /// A progress callback that does nothing.
@@ -44,7 +45,7 @@ pub struct Unwatched;
 impl Watcher for Unwatched {
     ghost told = { λ _ _. ⊤ };
 
-    fn encoded(&mut self, _frames: u32) {}
+    fn encoded(&mut self, _head: &SourceHead, _report: EncodeReport) {}
 }
 
 /// Encodes a YUV4MPEG2 file to its end, and writes an IVF file with its size and rate. The times of the packets are 0,
@@ -74,8 +75,8 @@ pub fn encode_all<R: Read, W: Write>(
     encode_all_watched(alloc, reader, writer, settings, limits, &mut Unwatched)
 }
 
-/// Encodes a file as `encode_all` does. The progress callback receives 1, 2, .. up to the number of pictures encoded,
-/// whether encoding succeeds or fails.
+/// Encodes a file as `encode_all` does. The progress callback receives the reports of the first picture, of the first
+/// two, .. up to that of all pictures encoded, whether encoding succeeds or fails.
 pub fn encode_all_watched<R: Read, W: Write, T: Watcher>(
     alloc: Global,
     reader: &mut Counted<R>,
@@ -119,9 +120,10 @@ fn encode_source<R: Read, T: Watcher>(
     requires width { run.old.encoder.dim.w ≡ head.dim.w }
     requires height { run.old.encoder.dim.h ≡ head.dim.h }
     ensures ends { (front : List ℕ) → IsHeadLine run.old.limits.pixels front (head_model head)
-        → (bytes : List ℕ)
+        → (bytes : List ℕ) × (frames : List EncodedFrame)
         × Consumes (counted_remaining R.remaining reader.old) (counted_remaining R.remaining reader.new) bytes
-        × EndsEncode run.old.limits run.old.encoder.settings result (head_model head) (front ++ bytes) run.new }
+        × IsWrittenFurther (T.told watcher.old) (T.told watcher.new) (reports_to frames)
+        × EndsEncode run.old.limits run.old.encoder.settings result (head_model head) (front ++ bytes) frames run.new }
     ensures end { OnOk result (IsAtEnd (counted_remaining R.remaining reader.new)) }
     ensures torn { result ≡ Err EncodeAllFault.Torn → IsAtEnd (counted_remaining R.remaining reader.new) }
     ensures device { result ≡ Err EncodeAllFault.Device → HasFailed (counted_failures reader.old)
@@ -131,15 +133,15 @@ fn encode_source<R: Read, T: Watcher>(
         (counted_reads reader.old) (counted_reads reader.new) }
     ensures within { counted_reads reader.new ≤ counted_reads reader.old
         + (run.old.limits.packets + 1) * (1025 + i420_length head.dim.w head.dim.h) }
-    ensures watched { IsWrittenFurther (T.told watcher.old) (T.told watcher.new) (numbers_to (length run.new.packets)) }
 {
     let mut source = Source::open(alloc, reader, head);
-    encode_pictures(&mut source, run, watcher)
+    encode_pictures(&mut source, &head, run, watcher)
 }
 
-/// Encodes the pictures that follow a file's head.
+/// Encodes the pictures that follow a file's head, which the callback receives.
 fn encode_pictures<R: Read, T: Watcher>(
     source: &mut Source<'_, R>,
+    head: &SourceHead,
     run: &mut EncodeProgress,
     watcher: &mut T,
 ) -> Result<(), EncodeAllFault>
@@ -150,9 +152,11 @@ fn encode_pictures<R: Read, T: Watcher>(
     requires height { run.old.encoder.dim.h ≡ (head_of source.old).h }
     ensures same_reference { reader_name source.new ≡ reader_name source.old }
     ensures ends { (front : List ℕ) → IsHeadLine run.old.limits.pixels front (head_of source.old)
-        → (bytes : List ℕ)
+        → (bytes : List ℕ) × (frames : List EncodedFrame)
         × Consumes (bytes_left R.remaining source.old) (bytes_left R.remaining source.new) bytes
-        × EndsEncode run.old.limits run.old.encoder.settings result (head_of source.old) (front ++ bytes) run.new }
+        × IsWrittenFurther (T.told watcher.old) (T.told watcher.new) (reports_to frames)
+        × EndsEncode run.old.limits run.old.encoder.settings result (head_of source.old) (front ++ bytes) frames
+        run.new }
     ensures end { OnOk result (IsAtEnd (bytes_left R.remaining source.new)) }
     ensures torn { result ≡ Err EncodeAllFault.Torn → IsAtEnd (bytes_left R.remaining source.new) }
     ensures device { result ≡ Err EncodeAllFault.Device → HasFailed (failures_of source.old) (failures_of source.new) }
@@ -161,11 +165,10 @@ fn encode_pictures<R: Read, T: Watcher>(
         (reads_of source.old) (reads_of source.new) }
     ensures within { reads_of source.new ≤ reads_of source.old
         + (run.old.limits.packets + 1) * (1025 + i420_length (head_of source.old).w (head_of source.old).h) }
-    ensures watched { IsWrittenFurther (T.told watcher.old) (T.told watcher.new) (numbers_to (length run.new.packets)) }
 {
     while let Some(picture) = source.next_picture()? {
         run.picture(&picture)?;
-        watcher.encoded(run.frames());
+        watcher.encoded(head, run.report());
     }
     Ok(())
 }

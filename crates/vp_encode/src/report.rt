@@ -14,6 +14,8 @@ use vp_y4m::SourceFault;
 pub struct EncodeReport {
     /// The number of pictures.
     pub frames: u32,
+    /// The sum of the lengths of their packets, in bytes.
+    pub bytes: u64,
     /// The sum of the squared errors of all pictures, over the shown pixels of Y, U and V.
     pub error: u128,
 }

@@ -7,7 +7,8 @@ use std::alloc::{AllocError, Global};
 use std::process::Abort;
 use std::test::Fail;
 use vp_base::{Counted, FailAt, Limits};
-use vp_encode::{EncodeAllFault, Settings, Watcher, encode_all, encode_all_watched};
+use vp_encode::{EncodeAllFault, EncodeReport, Settings, Watcher, encode_all, encode_all_watched};
+use vp_y4m::SourceHead;
 
 /// The header line of a source of 16 by 16 pixels, 30 pictures a second.
 const LINE: &[u8] = b"YUV4MPEG2 W16 H16 F30:1\n";
@@ -196,83 +197,102 @@ fn fails_at_the_first_write(rt: HostRuntime) -> Result<(), Fail> {
     Ok(())
 }
 
-/// A progress callback that records the numbers it receives, unless memory runs out.
+/// A progress callback that records the reports it receives, unless memory runs out.
 #[derive(Drop)]
-struct Keeping {
-    numbers: Vec<u32>,
-    refused: bool,
+pub(crate) struct Keeping {
+    pub(crate) reports: Vec<EncodeReport>,
+    pub(crate) refused: bool,
 }
 
 impl Watcher for Keeping {
-    ghost told = { λ w numbers. w.refused ≡ false → w.numbers.items ≡ numbers };
+    ghost told = { λ w reports. w.refused ≡ false → w.reports.items ≡ reports };
 
-    fn encoded(&mut self, frames: u32) {
-        if self.numbers.push(frames).is_err() {
+    fn encoded(&mut self, _head: &SourceHead, report: EncodeReport) {
+        if self.reports.push(report).is_err() {
             self.refused = true;
         }
     }
 }
 
-/// Encodes a source, and returns its fault.
+/// Returns the size of the packet whose 12 bytes of header begin here, if it is below 65536.
+fn packet_size(file: &[u8], place: usize) -> Option<usize> {
+    match file.get(place..place.saturating_add(4)) {
+        Some([low, high, 0, 0]) => {
+            Some(usize::from(*low).saturating_add(usize::from(*high).saturating_mul(256)))
+        }
+        _ => None,
+    }
+}
+
+/// Returns whether these are the reports of the first packet of a file, of the first two, .. of all of them, each
+/// without an error.
+pub(crate) fn are_reports_of(reports: &[EncodeReport], file: &[u8]) -> bool {
+    let (mut frames, mut bytes, mut place) = (0u32, 0u64, 32usize);
+    for report in reports {
+        let Some(size) = packet_size(file, place) else {
+            return false;
+        };
+        frames = frames.saturating_add(1);
+        bytes = bytes.saturating_add(size as u64);
+        place = place.saturating_add(12).saturating_add(size);
+        let error = 0;
+        if *report
+            != (EncodeReport {
+                frames,
+                bytes,
+                error,
+            })
+        {
+            return false;
+        }
+    }
+    place == file.len()
+}
+
+/// Encodes a source of three pictures. Returns its fault, the reports that the callback received, and the file.
 fn watched(
     alloc: Global,
-    source: &[u8],
     limits: Limits,
-    watcher: &mut Keeping,
-) -> Option<EncodeAllFault> {
-    let mut reader = Counted::new(source);
+) -> Result<(Option<EncodeAllFault>, Vec<EncodeReport>, Vec<u8>), AllocError> {
+    let bytes = source(alloc, 3)?;
+    let mut reader = Counted::new(bytes.as_slice());
     let mut writer = Counted::new(Vec::new(alloc));
-    encode_all_watched(
+    let mut watcher = Keeping {
+        reports: Vec::new(alloc),
+        refused: false,
+    };
+    let done = encode_all_watched(
         alloc,
         &mut reader,
         &mut writer,
         settings(0),
         limits,
-        watcher,
-    )
-    .err()
-}
-
-/// Returns the fault of a source under these limits. The progress callback must receive these numbers.
-fn told_by(
-    rt: &impl Abort,
-    alloc: Global,
-    source: &[u8],
-    limits: Limits,
-    numbers: &[u32],
-) -> Option<EncodeAllFault> {
-    let mut watcher = Keeping {
-        numbers: Vec::new(alloc),
-        refused: false,
-    };
-    let fault = watched(alloc, source, limits, &mut watcher);
-    equal(rt, &watcher.numbers.as_slice(), &numbers);
-    fault
-}
-
-/// Returns the fault of a source of three pictures, as `told_by` does.
-fn told(
-    rt: &impl Abort,
-    alloc: Global,
-    limits: Limits,
-    numbers: &[u32],
-) -> Result<Option<EncodeAllFault>, AllocError> {
-    let bytes = source(alloc, 3)?;
-    Ok(told_by(rt, alloc, &bytes, limits, numbers))
+        &mut watcher,
+    );
+    let Keeping {
+        reports,
+        refused: _,
+    } = watcher;
+    Ok((done.err(), reports, writer.into_inner()))
 }
 
 #[test]
 fn pictures_are_told(rt: HostRuntime) -> Result<(), Fail> {
-    let fault = told(&rt, rt.alloc(), Limits::usual(), &[1, 2, 3])?;
+    let (fault, reports, file) = watched(rt.alloc(), Limits::usual())?;
     equal(&rt, &fault, &None);
+    equal(&rt, &reports.len(), &3);
+    assert!(rt; are_reports_of(&reports, &file));
     Ok(())
 }
 
 /// The third picture is refused.
 #[test]
 fn pictures_before_a_fault_are_told(rt: HostRuntime) -> Result<(), Fail> {
-    let fault = told(&rt, rt.alloc(), limits(16_777_216, 2), &[1, 2])?;
+    let (_, whole, _) = watched(rt.alloc(), Limits::usual())?;
+    let (fault, reports, file) = watched(rt.alloc(), limits(16_777_216, 2))?;
     equal(&rt, &fault, &Some(EncodeAllFault::TooMany));
+    equal(&rt, &(reports.len(), file.len()), &(2, 0));
+    assert!(rt; whole.starts_with(&reports));
     Ok(())
 }
 

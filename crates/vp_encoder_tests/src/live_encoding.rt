@@ -3,6 +3,7 @@
 //! themselves.
 
 use crate::check::equal;
+use crate::encoding_files::{Keeping, are_reports_of};
 use std::alloc::{AllocError, Global};
 use std::cell::Cell;
 use std::io;
@@ -135,6 +136,30 @@ fn live_file_of_two_frames(rt: HostRuntime) -> Result<(), Fail> {
         &(3, written.bytes.len()),
     );
     assert!(rt; shows(rt.alloc(), &written.bytes, &[128, 200])?);
+    Ok(())
+}
+
+/// Each report is that of the packets so far.
+#[test]
+fn live_pictures_are_told(rt: HostRuntime) -> Result<(), Fail> {
+    let bytes = source(rt.alloc(), &[128, 200])?;
+    let mut reader = Counted::new(bytes.as_slice());
+    let mut writer = Counted::new(Vec::new(rt.alloc()));
+    let mut watcher = Keeping {
+        reports: Vec::new(rt.alloc()),
+        refused: false,
+    };
+    let end = encode_live(
+        rt.alloc(),
+        &mut reader,
+        &mut writer,
+        settings(0),
+        Limits::usual(),
+        &mut watcher,
+    );
+    equal(&rt, &end.ok().as_ref(), &watcher.reports.last());
+    equal(&rt, &watcher.reports.len(), &2);
+    assert!(rt; are_reports_of(&watcher.reports, &writer.into_inner()));
     Ok(())
 }
 

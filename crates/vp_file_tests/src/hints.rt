@@ -104,8 +104,7 @@ fn a_metered_reader_reads_on(rt: HostRuntime) {
 
 #[test]
 fn a_tally_remembers(rt: HostRuntime) {
-    let meter = Meter::new(&rt);
-    let mut tally = Tally::new(Vec::new(rt.alloc()), &meter);
+    let mut tally = Tally::new(Vec::new(rt.alloc()));
     equal(&rt, &tally.write(&TWO).unwrap_or(0), &TWO.len());
     let seen = tally.into_seen();
     equal(&rt, &seen.packets().whole, &2);

@@ -3,6 +3,7 @@
 use crate::seen::Seen;
 use std::fmt;
 use std::num::nearest_u64_to_f64;
+use vp_base::Dim;
 
 /// What is known of an IVF file that is written: its size in pixels, the frames a second, and its bytes so far.
 #[derive(Clone, Copy, Drop)]
@@ -24,6 +25,19 @@ impl Film {
             rate: number_at(head, 16, 4),
             scale: number_at(head, 20, 4),
             bytes: seen.bytes(),
+        }
+    }
+
+    /// Takes it from the packets of a file with `rate / scale` frames a second: their number, and the sum of their
+    /// lengths. The file has 32 bytes before them, and 12 before each; its size saturates.
+    pub fn of_packets(dim: Dim, rate: u32, scale: u32, packets: u32, bytes: u64) -> Film {
+        let heads = 32 + 12 * u64::from(packets);
+        Film {
+            width: u64::from(dim.w),
+            height: u64::from(dim.h),
+            rate: u64::from(rate),
+            scale: u64::from(scale),
+            bytes: bytes.saturating_add(heads),
         }
     }
 

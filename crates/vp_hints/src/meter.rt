@@ -35,7 +35,6 @@ pub struct Meter<'a, H> {
     unit: Cell<Option<Unit>>,
     size: Cell<Option<u64>>,
     read: Cell<u64>,
-    film: Cell<Option<Film>>,
     times: Cell<Option<(Instant, Instant)>>,
 }
 
@@ -47,7 +46,6 @@ impl<'a, H> Meter<'a, H> {
             unit: Cell::new(None),
             size: Cell::new(None),
             read: Cell::new(0),
-            film: Cell::new(None),
             times: Cell::new(None),
         }
     }
@@ -61,13 +59,7 @@ impl<'a, H> Meter<'a, H> {
     pub fn begin(&self, size: Option<u64>) {
         self.size.set(size);
         self.read.set(0);
-        self.film.set(None);
         self.times.set(None);
-    }
-
-    /// Takes what was seen of the film that is written.
-    pub fn has_written(&self, seen: &Seen) {
-        self.film.set(Some(Film::of(seen)));
     }
 }
 
@@ -80,16 +72,16 @@ impl<H: Clock + Eprint> Meter<'_, H> {
         }
     }
 
-    /// Tells the number of frames that were made, if frames are counted, and the sum of their squared errors, if that
-    /// is known.
-    pub fn has_made(&self, frames: u32, error: Option<u128>) {
+    /// Tells the number of frames that were made, if frames are counted, the film that they are, and the sum of their
+    /// squared errors.
+    pub fn has_made(&self, frames: u32, film: Film, error: u128) {
         if self.unit.get() == Some(Unit::Frames) {
-            self.tell(Unit::Frames, u64::from(frames), error);
+            self.tell(Unit::Frames, u64::from(frames), Some((film, error)));
         }
     }
 
     // Prints how far the work is, not oftener than twice a second.
-    fn tell(&self, unit: Unit, count: u64, error: Option<u128>) {
+    fn tell(&self, unit: Unit, count: u64, made: Option<(Film, u128)>) {
         let Ok(now) = Instant::now(self.system) else {
             return;
         };
@@ -108,8 +100,7 @@ impl<H: Clock + Eprint> Meter<'_, H> {
             millis: millis(start, now),
             read: self.read.get(),
             size: self.size.get(),
-            film: self.film.get(),
-            error,
+            made,
         });
     }
 }
@@ -131,12 +122,11 @@ struct Standing {
     millis: u64,
     read: u64,
     size: Option<u64>,
-    film: Option<Film>,
-    error: Option<u128>,
+    made: Option<(Film, u128)>,
 }
 
 /// Writes `1,234 packets, 40 %, 812.5 a second, 0:12 left`; without the share and the rest if the size isn't known. Of
-/// a film that is written as it is encoded, ` 96.0 kbit/s, PSNR 38.2 dB,` comes before the rest.
+/// a film that is encoded, ` 96.0 kbit/s, PSNR 38.2 dB,` comes before the rest.
 impl fmt::Display for Standing {
     fn fmt<W: fmt::Write>(&self, f: &mut fmt::Formatter<W>) -> fmt::Result {
         let (count, unit) = (Grouped(self.count), self.unit);
@@ -148,8 +138,8 @@ impl fmt::Display for Standing {
         let tenths = share(self.count.saturating_mul(10_000), self.millis);
         let (pace, tenth) = (Grouped(tenths / 10), tenths % 10);
         write!(f, ", {pace}.{tenth} a second")?;
-        if let Some(film) = self.film {
-            write_quality(film, self.count, self.error, f)?;
+        if let Some((film, error)) = self.made {
+            write_quality(film, self.count, error, f)?;
         }
         match self.size {
             Some(size) => write_rest(self.millis, self.read, size, f),
@@ -158,24 +148,19 @@ impl fmt::Display for Standing {
     }
 }
 
-// Writes the bits a second and the peak signal-to-noise ratio of a film, as far as they are known.
+// Writes the bits a second of a film, if it has a rate, and the peak signal-to-noise ratio.
 fn write_quality<W: fmt::Write>(
     film: Film,
     frames: u64,
-    error: Option<u128>,
+    error: u128,
     f: &mut fmt::Formatter<W>,
 ) -> fmt::Result {
     if let Some(bits) = film.bits_a_second(frames) {
         let rate = BitRate(bits);
         write!(f, ", {rate}")?;
     }
-    match error {
-        Some(error) => {
-            let ratio = Ratio(film.samples(frames), error);
-            write!(f, ", {ratio}")
-        }
-        None => Ok(()),
-    }
+    let ratio = Ratio(film.samples(frames), error);
+    write!(f, ", {ratio}")
 }
 
 // Writes the time that is left, if a part of a size was read in a number of milliseconds.

@@ -6,46 +6,38 @@ ghost use Rattle.std.specs.Io.KnownBytes.{Keeps, WriteAppends};
 ghost use Rattle.vp_hints.specs.Seen.{more_seen, nothing_seen, seen_view};
 ghost use Rattle.vp_hints.specs.Tally.{tally_contents, tally_sight};
 
-use crate::meter::Meter;
 use crate::seen::Seen;
 use std::io;
 use std::io::Write;
 
-/// A writer that forwards each call to an inner one, remembers what was seen of the bytes that it took, and tells it to
-/// a meter.
+/// A writer that forwards each call to an inner one, and remembers what was seen of the bytes that it took.
 #[derive(Drop)]
-pub struct Tally<'a, W, H> {
+pub struct Tally<W> {
     inner: W,
     seen: Seen,
-    meter: &'a Meter<'a, H>,
 }
 
-impl<'a, W: Drop, H> Tally<'a, W, H> {
+impl<W: Drop> Tally<W> {
     /// Wraps a writer.
-    pub fn new(inner: W, meter: &'a Meter<'a, H>) -> Tally<'a, W, H>
+    pub fn new(inner: W) -> Tally<W>
         ensures { tally_sight result ≡ nothing_seen }
     {
         Tally {
             inner,
             seen: Seen::new(),
-            meter,
         }
     }
 
     /// What was seen of the bytes.
     pub fn into_seen(self) -> Seen
-        ensures { seen_view result ≡ tally_sight self.entry }
+        ensures { seen_view result ≡ tally_sight self }
     {
-        let Tally {
-            inner: _,
-            seen,
-            meter: _,
-        } = self;
+        let Tally { inner: _, seen } = self;
         seen
     }
 }
 
-impl<W: Write, H> Write for Tally<'_, W, H> {
+impl<W: Write> Write for Tally<W> {
     ghost contents = { tally_contents W.contents };
 
     fn write(&mut self, buf: &[u8]) -> io::Result<usize>
@@ -58,7 +50,6 @@ impl<W: Write, H> Write for Tally<'_, W, H> {
         let result = self.inner.write(buf);
         if let Ok(count) = &result {
             self.seen.pass(&buf[..*count]);
-            self.meter.has_written(&self.seen);
         }
         result
     }

@@ -1,5 +1,5 @@
 -- The answer of live encoding, by where the work ended.
-use Rattle.std.proofs.Common.{◌≡◌, ◌≢◌, ℕ, List, [], ◌++◌, Option, Result, Ok, Err, ◌⊎◌, refl, sym, subst, ◌∙◌, inl, inr}
+use Rattle.std.proofs.Common.{◌≡◌, ◌≢◌, ℕ, List, [], ◌++◌, length, Option, Result, Ok, Err, ◌⊎◌, refl, sym, ap, subst, ◌∙◌, inl, inr}
 use Rattle.std.specs.Io.KnownBytes.{Appends, Consumes, IsAtEnd}
 use Rattle.std.proofs.KnownBytes.{Consumes-trans}
 use Rattle.std.proofs.lemmas.List.{append-nil}
@@ -16,7 +16,8 @@ use Rattle.vp_encode.specs.declared.report.EncodeReport.{EncodeReport}
 use Rattle.vp_encode.specs.declared.report.EncodeAllFault.{EncodeAllFault}
 use Rattle.vp_encode.specs.declared.report.EncodeAllFault.TheVariants as fault
 use Rattle.vp_encode.specs.Encoder.{EncoderState, AreAllowed}
-use Rattle.vp_encode.specs.File.{Work, IsDone, IsWrittenFurther, encode_fault_of, numbers_to}
+use Rattle.vp_encode.specs.Encoded.{EncodedFrame}
+use Rattle.vp_encode.specs.File.{Work, IsDone, AreFramesOf, IsWrittenFurther, encode_fault_of, frames_report, reports_to}
 use Rattle.vp_encode.proofs.FileLemmas.{head_answer, settings_answer, settings_refused, told_none}
 use Rattle.vp_live.specs.Live.{IsLiveOver, IsLiveEnded, IsLiveReported, live_text}
 use Rattle.vp_live.specs.Progress.{LiveProgress, IsLiveAt, EndsLive}
@@ -24,27 +25,29 @@ use Rattle.vp_live.proofs.LiveLemmas.{head_ends}
 
 -- before the first picture
 abbrev pub begun_with : Limits → EncoderState → LiveProgress
-begun_with limits encoder = record { limits = limits; encoder = encoder; frames = 0; error = 0 }
+begun_with limits encoder = record { limits = limits; encoder = encoder; frames = 0; bytes = 0; error = 0 }
 
 -- the head, and then what the pictures behind it came to
-pub live_ends : (limits : Limits) (settings : Settings) (encoder : EncoderState) (run after : LiveProgress) (head : Head) (before mid left written headed now : Option (List ℕ)) (result : Result (Unit {0}) EncodeAllFault)
+pub live_ends : (limits : Limits) (settings : Settings) (encoder : EncoderState) (run after : LiveProgress) (told told' : List EncodeReport → Type 0) (head : Head) (before mid left written headed now : Option (List ℕ)) (result : Result (Unit {0}) EncodeAllFault)
     → run ≡ begun_with limits encoder
     → (s : Shows (file_head limits.pixels) (λ rest. Ok (head, rest)) before mid)
     → IsLiveAt settings head s.taken [] (begun_with limits encoder)
     → Appends written headed (live_text head [])
     → ((settings : Settings) (line : List ℕ) (start : Option (List ℕ)) → IsLiveAt settings head line [] run → Appends start headed (live_text head [])
-    → (bytes : List ℕ) × Consumes mid left bytes × EndsLive run.limits settings result (line ++ bytes) after start now)
-    → (file : List ℕ) × Consumes before left file × EndsLive limits settings result file after written now
-live_ends limits settings encoder run after head before mid left written headed now result is s begun text ends =
+    → (bytes : List ℕ) × (frames : List EncodedFrame) × Consumes mid left bytes × IsWrittenFurther told told' (reports_to frames)
+    × EndsLive run.limits settings result (line ++ bytes) frames after start now)
+    → (file : List ℕ) × (frames : List EncodedFrame) × Consumes before left file × IsWrittenFurther told told' (reports_to frames)
+    × EndsLive limits settings result file frames after written now
+live_ends limits settings encoder run after told told' head before mid left written headed now result is s begun text ends =
     let B : LiveProgress → Type 0 = λ r. IsLiveAt settings head s.taken [] r in
     let e = ends settings s.taken written (subst B (sym is) begun) text in
-    let E : LiveProgress → Type 0 = λ r. EndsLive r.limits settings result (s.taken ++ e.0) after written now in
-    (s.taken ++ e.0, Consumes-trans before mid left s.taken e.0 s.consumed e.1, subst E is e.2)
+    let E : LiveProgress → Type 0 = λ r. EndsLive r.limits settings result (s.taken ++ e.0) e.1 after written now in
+    (s.taken ++ e.0, e.1, Consumes-trans before mid left s.taken e.0 s.consumed e.2, e.3, subst E is e.4)
 
 module _ {R W : Type 0} (remaining : R → Option (List ℕ)) (contents : W → Option (List ℕ)) (limits : Limits) (settings : Settings)
     (result : Result EncodeReport EncodeAllFault) (reader reader' : Counted R) where
   -- at the head's line
-  pub head_over : {A : Type 0} (writer : Counted W) (told : List ℕ → Type 0) (f : SourceFault) → result ≡ Err (encode_fault_of f)
+  pub head_over : {A : Type 0} (writer : Counted W) (told : List EncodeReport → Type 0) (f : SourceFault) → result ≡ Err (encode_fault_of f)
       → Fails (file_head limits.pixels) f (counted_remaining remaining reader) (counted_remaining remaining reader')
       → (let r : Result A SourceFault = Err f in r ≡ Err source.Device → HasFailed (counted_failures reader) (counted_failures reader'))
       → (let r : Result A SourceFault = Err f in r ≢ Err source.Device → counted_failures reader' ≡ counted_failures reader)
@@ -53,10 +56,12 @@ module _ {R W : Type 0} (remaining : R → Option (List ℕ)) (contents : W → 
       let k = head_answer remaining contents limits settings result reader reader' {A = A} writer f is fails device quiet in
       let t = head_ends limits settings f (counted_remaining remaining reader) (counted_remaining remaining reader') fails in
       record {
-        pictures = 0;
+        frames = [];
         file = t.0;
         consumed = t.1;
         answer = rw is (t.2 (counted_contents contents writer));
+        encoded = inl refl;
+        reported = rw is tt;
         told_further = told_none told;
         end = k.end;
         torn = k.torn;
@@ -65,7 +70,7 @@ module _ {R W : Type 0} (remaining : R → Option (List ℕ)) (contents : W → 
       }
 
   -- at the settings
-  pub settings_over : (writer : Counted W) (told : List ℕ → Type 0) (head : Head) → result ≡ Err fault.Settings
+  pub settings_over : (writer : Counted W) (told : List EncodeReport → Type 0) (head : Head) → result ≡ Err fault.Settings
       → Shows (file_head limits.pixels) (λ rest. Ok (head, rest)) (counted_remaining remaining reader) (counted_remaining remaining reader')
       → ¬ AreAllowed settings → counted_failures reader' ≡ counted_failures reader
       → IsLiveOver remaining contents limits settings result reader reader' writer writer told told
@@ -73,10 +78,12 @@ module _ {R W : Type 0} (remaining : R → Option (List ℕ)) (contents : W → 
       let r = settings_refused limits settings head (counted_remaining remaining reader) (counted_remaining remaining reader') (counted_contents contents writer) s refused in
       let k = settings_answer remaining contents limits settings result reader reader' writer is s.taken s.consumed r quiet in
       record {
-        pictures = 0;
+        frames = [];
         file = s.taken;
         consumed = s.consumed;
         answer = rw is (inl (inr (inl (refl, r.0, r.1, r.2)), refl, refl));
+        encoded = inl refl;
+        reported = rw is tt;
         told_further = told_none told;
         end = k.end;
         torn = k.torn;
@@ -85,7 +92,7 @@ module _ {R W : Type 0} (remaining : R → Option (List ℕ)) (contents : W → 
       }
 
   -- at a write of the head
-  pub write_over : (writer writer' : Counted W) (told : List ℕ → Type 0) (head : Head) (encoder : EncoderState) → result ≡ Err fault.Device
+  pub write_over : (writer writer' : Counted W) (told : List EncodeReport → Type 0) (head : Head) (encoder : EncoderState) → result ≡ Err fault.Device
       → (s : Shows (file_head limits.pixels) (λ rest. Ok (head, rest)) (counted_remaining remaining reader) (counted_remaining remaining reader'))
       → IsLiveAt settings head s.taken [] (begun_with limits encoder)
       → AppendsPrefix (counted_contents contents writer) (counted_contents contents writer') (live_text head [])
@@ -95,10 +102,12 @@ module _ {R W : Type 0} (remaining : R → Option (List ℕ)) (contents : W → 
       let w : Work = record { head = head; frames = []; encoder = encoder; rest = [] } in
       let B : List ℕ → Type 0 = λ b. IsDone limits settings b w in
       record {
-        pictures = 0;
+        frames = [];
         file = s.taken;
         consumed = s.consumed;
         answer = rw is (inr (inr (refl, inl (w, (subst B (append-nil s.taken) (begun.done []), refl), refl, front))));
+        encoded = inl refl;
+        reported = rw is tt;
         told_further = told_none told;
         end = rw is tt;
         torn = λ e. cc;
@@ -107,22 +116,25 @@ module _ {R W : Type 0} (remaining : R → Option (List ℕ)) (contents : W → 
       }
 
   -- behind the head
-  pub ended_over : {A : Type 0} (writer writer' : Counted W) (told told' : List ℕ → Type 0) (f : EncodeAllFault) → result ≡ Err f
-      → (pictures : ℕ) → IsWrittenFurther told told' (numbers_to pictures)
+  pub ended_over : {A : Type 0} (writer writer' : Counted W) (told told' : List EncodeReport → Type 0) (f : EncodeAllFault) → result ≡ Err f
+      → (frames : List EncodedFrame) → IsWrittenFurther told told' (reports_to frames)
       → (file : List ℕ) → Consumes (counted_remaining remaining reader) (counted_remaining remaining reader') file
-      → IsLiveEnded pictures limits settings f file (counted_contents contents writer) (counted_contents contents writer')
+      → AreFramesOf limits settings file frames
+      → IsLiveEnded (length frames) limits settings f file (counted_contents contents writer) (counted_contents contents writer')
       → (reads writes : ℕ) → reads ≡ counted_failures reader → writes ≡ counted_failures writer
       → (let r : Result A EncodeAllFault = Err f in r ≡ Err fault.Torn → IsAtEnd (counted_remaining remaining reader'))
       → (let r : Result A EncodeAllFault = Err f in r ≡ Err fault.Device → HasFailed reads (counted_failures reader') ⊎ HasFailed writes (counted_failures writer'))
       → (let r : Result A EncodeAllFault = Err f in r ≢ Err fault.Device → (counted_failures reader' ≡ reads) × (counted_failures writer' ≡ writes))
       → IsLiveOver remaining contents limits settings result reader reader' writer writer' told told'
-  ended_over {A = A} writer writer' told told' f is pictures further file consumed ended reads writes read written torn device quiet =
+  ended_over {A = A} writer writer' told told' f is frames further file consumed are ended reads writes read written torn device quiet =
       let F : ℕ → Type 0 = λ n. HasFailed n (counted_failures reader') ⊎ HasFailed writes (counted_failures writer') in
       let G : ℕ → Type 0 = λ n. HasFailed (counted_failures reader) (counted_failures reader') ⊎ HasFailed n (counted_failures writer') in
       record {
-        pictures = pictures;
+        frames = frames;
         file = file;
         consumed = consumed;
+        encoded = are;
+        reported = rw is tt;
         answer = rw is ended;
         told_further = further;
         end = rw is tt;
@@ -132,18 +144,21 @@ module _ {R W : Type 0} (remaining : R → Option (List ℕ)) (contents : W → 
       }
 
   -- at the source's end
-  pub reported_over : (writer writer' : Counted W) (told told' : List ℕ → Type 0) (report : EncodeReport) → result ≡ Ok report
-      → IsWrittenFurther told told' (numbers_to report.frames)
+  pub reported_over : (writer writer' : Counted W) (told told' : List EncodeReport → Type 0) (report : EncodeReport) → result ≡ Ok report
+      → (frames : List EncodedFrame) → IsWrittenFurther told told' (reports_to frames)
       → (file : List ℕ) → Consumes (counted_remaining remaining reader) (counted_remaining remaining reader') file
+      → AreFramesOf limits settings file frames → report ≡ frames_report frames
       → IsLiveReported limits settings report file (counted_contents contents writer) (counted_contents contents writer')
       → IsAtEnd (counted_remaining remaining reader')
       → counted_failures reader' ≡ counted_failures reader → counted_failures writer' ≡ counted_failures writer
       → IsLiveOver remaining contents limits settings result reader reader' writer writer' told told'
-  reported_over writer writer' told told' report is further file consumed reported at_end read written = record {
-    pictures = report.frames;
+  reported_over writer writer' told told' report is frames further file consumed are same reported at_end read written = record {
+    frames = frames;
     file = file;
     consumed = consumed;
-    answer = rw is (reported, refl);
+    encoded = are;
+    answer = rw is (reported, ap (λ (r : EncodeReport). r.frames) same);
+    reported = rw is same;
     told_further = further;
     end = rw is at_end;
     torn = λ e. cc;

@@ -1,11 +1,10 @@
 -- A source's pictures are encoded and written, one after another.
-use Rattle.std.proofs.Common.{◌≡◌, ◌≢◌, ℕ, ◌+◌, ◌≤◌, ◌<◌, List, [], ◌∷◌, ◌++◌, length, map, Option, Some, None, Result, Ok, Err, ◌⊎◌, refl, sym, ap, subst, ◌∙◌, inl, inr, append_assoc, add-zero, add-one, suc, ◌*◌, arith}
-use Rattle.std.specs.List.{sum_by}
+use Rattle.std.proofs.Common.{◌≡◌, ◌≢◌, ℕ, ◌+◌, ◌≤◌, ◌<◌, List, [], ◌∷◌, ◌++◌, length, map, Option, Some, None, Result, Ok, Err, ◌⊎◌, refl, sym, ap, subst, ◌∙◌, inl, inr, append_assoc, ◌*◌, arith}
 use Rattle.std.specs.Io.KnownBytes.{Appends, Consumes}
 use Rattle.std.proofs.KnownBytes.{Consumes-nil}
 use Rattle.std.proofs.lemmas.List.{length-append, append-nil, map-append}
 use Rattle.std.proofs.lemmas.List.Elements.{All-nil, All-push}
-use Rattle.std.proofs.lemmas.List.Sums.{sum_by-cons, sum_by-append}
+use Rattle.std.proofs.lemmas.List.Sums.{sum_by_push}
 use Rattle.vp_base.specs.declared.limits.Dim.{Dim}
 use Rattle.vp_base.specs.declared.limits.Limits.{Limits}
 use Rattle.vp_base.specs.Image.{Image, i420}
@@ -21,11 +20,11 @@ use Rattle.vp_encode.specs.declared.settings.Settings.{Settings}
 use Rattle.vp_encode.specs.declared.report.EncodeAllFault.{EncodeAllFault}
 use Rattle.vp_encode.specs.declared.report.EncodeAllFault.TheVariants as fault
 use Rattle.vp_encode.specs.Encoder.{EncoderState, AreAllowed}
-use Rattle.vp_encode.specs.Encoded.{EncodedFrame, IsEncoded, AreEncoded, initial_encoder, error_of}
+use Rattle.vp_encode.specs.Encoded.{EncodedFrame, IsEncoded, AreEncoded, initial_encoder, packet_length, error_of}
 use Rattle.vp_encode.specs.Pictures.{IsPicture, BeginWith}
-use Rattle.vp_encode.specs.File.{Work, IsDone, HasDone, HasOneMore, IsWrittenFurther, source_of, encode_fault_of, numbers_to}
+use Rattle.vp_encode.specs.File.{Work, IsDone, HasDone, HasOneMore, AreFramesOf, source_of, encode_fault_of, frames_report}
 use Rattle.vp_live.specs.Live.{IsRefused, IsHeadFault, IsNextFault, IsLiveEnded, IsLiveReported, live_text, live_file}
-use Rattle.vp_live.specs.Progress.{LiveProgress, IsMade, IsCounted, TakesPicture, IsLiveAt, frames_text}
+use Rattle.vp_live.specs.Progress.{LiveProgress, IsMade, IsCounted, IsLiveAt, frames_text, report_so_far}
 use Rattle.vp_encode.proofs.FileLemmas.{within_more}
 use Rattle.vp_live.proofs.TextLemmas.{written_file}
 
@@ -41,15 +40,11 @@ encoded_more : (e : EncoderState) (fs : List EncodedFrame) (mid : EncoderState) 
 encoded_more e [] mid f last is h = let P : EncoderState → Type 0 = λ x. IsEncoded x f last in (last, subst P is h, refl)
 encoded_more e (g ∷ fs) mid f last r h = (r.0, r.1, encoded_more r.0 fs mid f last r.2 h)
 
-errors_more : (frames : List EncodedFrame) (f : EncodedFrame) → sum_by error_of (frames ++ f ∷ []) ≡ sum_by error_of frames + error_of f
-errors_more frames f =
-    sum_by-append error_of frames (f ∷ []) ∙ ap (λ n. sum_by error_of frames + n) (sum_by-cons error_of f [] ∙ add-zero (error_of f))
-
 -- before the first picture
 pub at_start : (settings : Settings) (head : Head) (line : List ℕ) (dim : Dim) (run : LiveProgress) → AreAllowed settings → dim.w ≡ head.w → dim.h ≡ head.h
-    → run.encoder ≡ initial_encoder dim settings → run.frames ≡ 0 → run.error ≡ 0
+    → run.encoder ≡ initial_encoder dim settings → run.frames ≡ 0 → run.bytes ≡ 0 → run.error ≡ 0
     → ((rest : List ℕ) → file_head run.limits.pixels (line ++ rest) ≡ Ok (head, rest)) → IsLiveAt settings head line [] run
-at_start settings head line dim run allowed width height first none zero shown = record {
+at_start settings head line dim run allowed width height first none empty zero shown = record {
   done = λ rest. record {
     body = rest;
     headed = shown rest;
@@ -63,6 +58,7 @@ at_start settings head line dim run allowed width height first none zero shown =
     small = All-nil (λ f. length f.packet ≤ run.limits.packet_bytes);
   };
   frames_are = none;
+  bytes_are = empty;
   error_is = zero;
 }
 
@@ -99,36 +95,22 @@ at_more settings head line bytes taken frames old new p f h is next c =
             small = All-push P frames f d.small c.made.small;
           }));
       frames_are = let more = c.frames in let same = h.frames_are in omega (arith, length-append frames (f ∷ []));
-      error_is = c.error ∙ (ap (λ n. n + error_of f) h.error_is ∙ sym (errors_more frames f));
+      bytes_are = c.bytes ∙ (ap (λ n. n + packet_length f) h.bytes_are ∙ sym (sum_by_push packet_length frames f));
+      error_is = c.error ∙ (ap (λ n. n + error_of f) h.error_is ∙ sym (sum_by_push error_of frames f));
     }
 
 -- nothing is read behind the line yet
 pub at_first : (settings : Settings) (head : Head) (line : List ℕ) (run : LiveProgress) → IsLiveAt settings head line [] run → IsLiveAt settings head (line ++ []) [] run
 at_first settings head line run h = let B : List ℕ → Type 0 = λ b. IsLiveAt settings head b [] run in subst B (sym (append-nil line)) h
 
--- ---- the number of frames, and what the callback is told
+-- ---- the number of frames, and their report
 
 pub counted_more : (old new : LiveProgress) (p : Image) (f : EncodedFrame) (frames : List EncodedFrame) → IsCounted old p f new → old.frames ≡ length frames → new.frames ≡ length (frames ++ f ∷ [])
 counted_more old new p f frames c same = let more = c.frames in omega (arith, length-append frames (f ∷ []))
 
-pub told_first : (n : ℕ) (told : List ℕ → Type 0) → n ≡ 0 → IsWrittenFurther told told (numbers_to n)
-told_first n told none = λ earlier is.
-    subst (λ (m : ℕ). told (earlier ++ numbers_to m)) (sym none) (subst told (sym (append-nil earlier)) is)
-
-pub told_more : (before mid after : List ℕ → Type 0) (old new : LiveProgress) (p : Image) (f : EncodedFrame) (frames : ℕ) → IsWrittenFurther before mid (numbers_to old.frames)
-    → IsCounted old p f new → frames ≡ new.frames → IsWrittenFurther mid after (frames ∷ []) → IsWrittenFurther before after (numbers_to new.frames)
-told_more before mid after old new p f frames told counted is more = λ earlier was.
-    let many : new.frames ≡ suc old.frames = counted.frames ∙ add-one old.frames in
-    let told_now = more (earlier ++ numbers_to old.frames) (told earlier was) in
-    subst (λ (n : ℕ). after (earlier ++ numbers_to n)) (sym many)
-    (subst after (append_assoc earlier (numbers_to old.frames) (suc old.frames ∷ []))
-    (subst (λ (n : ℕ). after ((earlier ++ numbers_to old.frames) ++ n ∷ [])) (is ∙ many) told_now))
-
--- a picture that is not encoded, or not written, is not counted
-pub told_same : (before after : List ℕ → Type 0) (old new : LiveProgress) (p : Image) (f : EncodeAllFault) (mid left : Option (List ℕ)) → TakesPicture old p (Err f) new mid left
-    → IsWrittenFurther before after (numbers_to old.frames) → IsWrittenFurther before after (numbers_to new.frames)
-told_same before after old new p f mid left (inl r) told = subst (λ (n : ℕ). IsWrittenFurther before after (numbers_to n)) (sym r.1) told
-told_same before after old new p f mid left (inr r) told = subst (λ (n : ℕ). IsWrittenFurther before after (numbers_to n)) (sym r.4) told
+pub reported_at : (settings : Settings) (head : Head) (bytes : List ℕ) (frames : List EncodedFrame) (run : LiveProgress) → IsLiveAt settings head bytes frames run
+    → report_so_far run ≡ frames_report frames
+reported_at settings head bytes frames run h = λ i. record { frames = h.frames_are i; bytes = h.bytes_are i; error = h.error_is i }
 
 pub none_yet : (n most : ℕ) → n ≡ 0 → n ≤ most
 none_yet n most none = omega arith
@@ -187,8 +169,11 @@ module _ (settings : Settings) (head : Head) (line bytes : List ℕ) (frames : L
       let B : List ℕ → Type 0 = λ b. IsDone run.limits settings b (work rest) in
       subst L same (subst B (append_assoc line bytes rest) (h.done rest))
 
-  counted : (rest : List ℕ) → HasDone run.frames limits settings (line ++ (bytes ++ rest)) (work rest)
-  counted rest = (done rest, sym h.frames_are)
+  counted : (rest : List ℕ) → HasDone (length frames) limits settings (line ++ (bytes ++ rest)) (work rest)
+  counted rest = (done rest, refl)
+
+  are : (rest : List ℕ) → AreFramesOf limits settings (line ++ (bytes ++ rest)) frames
+  are rest = inr (work rest, done rest, refl)
 
   whole : Appends before now (live_file (work []))
   whole = written_file before start now head frames headed written
@@ -204,14 +189,15 @@ module _ (settings : Settings) (head : Head) (line bytes : List ℕ) (frames : L
 
   -- the source fails
   pub source_ends : (f : SourceFault) (left left' : Option (List ℕ)) → (f ≢ source.Memory → Fails (next_of head.w head.h) f left left') → (f ≡ source.Memory → left' ≡ left)
-      → (taken : List ℕ) × Consumes left left' taken × IsLiveEnded run.frames limits settings (encode_fault_of f) (line ++ (bytes ++ taken)) before now
+      → (taken : List ℕ) × Consumes left left' taken × AreFramesOf limits settings (line ++ (bytes ++ taken)) frames
+      × IsLiveEnded (length frames) limits settings (encode_fault_of f) (line ++ (bytes ++ taken)) before now
   source_ends f left left' s m =
       let t = fails_at (next_of head.w head.h) f left left' s m in
-      (t.0, t.1, inr (inl (work t.0, counted t.0, next_fault f t.0 t.2, whole)))
+      (t.0, t.1, are t.0, inr (inl (work t.0, counted t.0, next_fault f t.0 t.2, whole)))
 
   -- one more picture is refused
   refused : (taken : List ℕ) (p : Image) → HasOneMore (work taken) p → (f : EncodeAllFault) → IsRefused run.limits run.encoder run.frames p f
-      → IsLiveEnded run.frames limits settings f (line ++ (bytes ++ taken)) before now
+      → IsLiveEnded (length frames) limits settings f (line ++ (bytes ++ taken)) before now
   refused taken p more f r =
       let L : Limits → Type 0 = λ l. IsRefused l run.encoder (length frames) p f in
       let N : ℕ → Type 0 = λ n. IsRefused run.limits run.encoder n p f in
@@ -220,7 +206,7 @@ module _ (settings : Settings) (head : Head) (line bytes : List ℕ) (frames : L
   -- its packet is not written as a whole
   cut_short : (taken : List ℕ) (p : Image) → HasOneMore (work taken) p → (f : EncodedFrame) (next : EncoderState) → IsMade run p f next
       → (after : Option (List ℕ)) → AppendsPrefix now after (packet_text run.frames f.packet)
-      → IsLiveEnded run.frames limits settings fault.Device (line ++ (bytes ++ taken)) before after
+      → IsLiveEnded (length frames) limits settings fault.Device (line ++ (bytes ++ taken)) before after
   cut_short taken p more f next made after front =
       let M : Image → Type 0 = λ q. HasOneMore (work taken) q in
       let N : ℕ → Type 0 = λ n. AppendsPrefix now after (packet_text n f.packet) in
@@ -246,23 +232,24 @@ module _ (settings : Settings) (head : Head) (line bytes : List ℕ) (frames : L
       → (IsRefused run.limits run.encoder run.frames p f × (new ≡ run.frames) × (after ≡ now))
       ⊎ ((f ≡ fault.Device) × (made : EncodedFrame) × (next : EncoderState) × IsMade run p made next × (new ≡ run.frames)
       × AppendsPrefix now after (packet_text run.frames made.packet))
-      → IsLiveEnded new limits settings f (line ++ (bytes ++ taken)) before after
+      → AreFramesOf limits settings (line ++ (bytes ++ taken)) frames × IsLiveEnded (length frames) limits settings f (line ++ (bytes ++ taken)) before after
   picture_ends taken p is next f new after (inl r) =
-      let N : ℕ → Type 0 = λ n. IsLiveEnded n limits settings f (line ++ (bytes ++ taken)) before after in
-      let A : Option (List ℕ) → Type 0 = λ a. IsLiveEnded run.frames limits settings f (line ++ (bytes ++ taken)) before a in
-      subst N (sym r.1) (subst A (sym r.2) (refused taken p (one_more taken p is next) f r.0))
+      let A : Option (List ℕ) → Type 0 = λ a. IsLiveEnded (length frames) limits settings f (line ++ (bytes ++ taken)) before a in
+      (are taken, subst A (sym r.2) (refused taken p (one_more taken p is next) f r.0))
   picture_ends taken p is next f new after (inr r) =
-      let N : ℕ → Type 0 = λ n. IsLiveEnded n limits settings f (line ++ (bytes ++ taken)) before after in
-      let F : EncodeAllFault → Type 0 = λ g. IsLiveEnded run.frames limits settings g (line ++ (bytes ++ taken)) before after in
-      subst N (sym r.4) (subst F (sym r.0) (cut_short taken p (one_more taken p is next) r.1 r.2 r.3 after r.5))
+      let F : EncodeAllFault → Type 0 = λ g. IsLiveEnded (length frames) limits settings g (line ++ (bytes ++ taken)) before after in
+      (are taken, subst F (sym r.0) (cut_short taken p (one_more taken p is next) r.1 r.2 r.3 after r.5))
 
   -- all pictures are encoded and written
   pub all_end : (left left' : Option (List ℕ)) → ShowsAtEnd (next_of head.w head.h) (Ok None) left left'
-      → (taken : List ℕ) × Consumes left left' taken × IsLiveReported limits settings (record { frames = run.frames; error = run.error }) (line ++ (bytes ++ taken)) before now
+      → (taken : List ℕ) × Consumes left left' taken × AreFramesOf limits settings (line ++ (bytes ++ taken)) frames
+      × (report_so_far run ≡ frames_report frames) × IsLiveReported limits settings (report_so_far run) (line ++ (bytes ++ taken)) before now
   all_end left left' s = (
     s.taken,
     s.consumed,
-    record { work = work s.taken; done = done s.taken; whole = s.shown; frames = h.frames_are; error = h.error_is; writes = whole },
+    are s.taken,
+    reported_at settings head (line ++ bytes) frames run h,
+    record { work = work s.taken; done = done s.taken; whole = s.shown; frames = h.frames_are; bytes = h.bytes_are; error = h.error_is; writes = whole },
   )
 
 -- what is known of a source, by the head and the reader that it was opened over

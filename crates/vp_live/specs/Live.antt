@@ -1,6 +1,7 @@
 -- Live encoding: what is written while a source is read, and the results. Pinned by the tests `live_file_of_two_frames`,
 -- `torn_source_leaves_its_frames` and `live_write_fails`.
-use Rattle.std.specs.Prelude.{◌≡◌, ◌≢◌, ◌≤◌, ◌<◌, ◌⊎◌, ℕ, List, [], Option, Result, Ok, Err, OnOk, length, map}
+use Rattle.std.specs.Prelude.{◌≡◌, ◌≢◌, ◌≤◌, ◌<◌, ◌⊎◌, ℕ, List, [], Option, Result, Ok, Err, IfOk, OnOk, length}
+use Rattle.std.specs.Prelude.{map}
 use Rattle.std.specs.List.{enumerate_from}
 use Rattle.std.specs.Io.KnownBytes.{Appends, Consumes, IsAtEnd}
 use Rattle.vp_base.specs.declared.limits.Limits.{Limits}
@@ -16,10 +17,10 @@ use Rattle.vp_encode.specs.declared.report.EncodeReport.{EncodeReport}
 use Rattle.vp_encode.specs.declared.report.EncodeAllFault.{EncodeAllFault}
 use Rattle.vp_encode.specs.declared.report.EncodeAllFault.TheVariants as fault
 use Rattle.vp_encode.specs.Encoder.{EncoderState, AreAllowed}
-use Rattle.vp_encode.specs.Encoded.{EncodedFrame, IsEncoded, errors_of}
+use Rattle.vp_encode.specs.Encoded.{EncodedFrame, IsEncoded, lengths_of, errors_of}
 use Rattle.vp_encode.specs.TooLong.{IsTooLong}
 use Rattle.vp_encode.specs.File.{Work, IsDone, HasDone, HasAllPictures, HasOneMore, IsWrittenFurther, encode_fault_of}
-use Rattle.vp_encode.specs.File.{numbers_to, packet_of, timed}
+use Rattle.vp_encode.specs.File.{AreFramesOf, packet_of, frames_report, reports_to, timed}
 
 -- ---- the output: an IVF file whose head counts 0 packets; the times of the packets are 0, 1, ..
 
@@ -85,6 +86,7 @@ pub record IsLiveReported (limits : Limits) (settings : Settings) (report : Enco
   pub done : IsDone limits settings file work
   pub whole : HasAllPictures work
   pub frames : report.frames ≡ length work.frames
+  pub bytes : report.bytes ≡ lengths_of work.frames
   pub error : report.error ≡ errors_of work.frames
   pub writes : Appends before after (live_file work)
 
@@ -107,17 +109,20 @@ IsLiveAnswer pictures limits settings (Err f) file before after = IsLiveEnded pi
 
 -- ---- the whole work, from a reader to a writer
 
--- the result of live encoding, if the reader's and the writer's bytes are known; the progress callback receives 1, 2, ..
--- up to the number of pictures whose packets are written
+-- The result of live encoding, if the reader's and the writer's bytes are known. The progress callback receives the
+-- reports of the first picture, of the first two, .. up to that of all pictures whose packets are written, which the
+-- returned report equals.
 pub record IsLiveOver {R W : Type 0} (remaining : R → Option (List ℕ)) (contents : W → Option (List ℕ))
     (limits : Limits) (settings : Settings) (result : Result EncodeReport EncodeAllFault) (reader reader' : Counted R)
-    (writer writer' : Counted W) (told told' : List ℕ → Type 0) : Type 0 where
-  pub pictures : ℕ
+    (writer writer' : Counted W) (told told' : List EncodeReport → Type 0) : Type 0 where
+  pub frames : List EncodedFrame
   pub file : List ℕ
   pub consumed : Consumes (counted_remaining remaining reader) (counted_remaining remaining reader') file
-  pub answer : IsLiveAnswer pictures limits settings result file (counted_contents contents writer)
+  pub encoded : AreFramesOf limits settings file frames
+  pub answer : IsLiveAnswer (length frames) limits settings result file (counted_contents contents writer)
       (counted_contents contents writer')
-  pub told_further : IsWrittenFurther told told' (numbers_to pictures)
+  pub reported : IfOk result (λ report. report ≡ frames_report frames)
+  pub told_further : IsWrittenFurther told told' (reports_to frames)
   -- a report and `Torn` are returned only at the reader's end
   pub end : OnOk result (IsAtEnd (counted_remaining remaining reader'))
   pub torn : result ≡ Err fault.Torn → IsAtEnd (counted_remaining remaining reader')

@@ -11,16 +11,22 @@ use Rattle.vp_encode.specs.declared.settings.Settings.{Settings}
 use Rattle.vp_encode.specs.declared.report.EncodeAllFault.{EncodeAllFault}
 use Rattle.vp_encode.specs.declared.report.EncodeAllFault.TheVariants as fault
 use Rattle.vp_encode.specs.Encoder.{EncoderState}
-use Rattle.vp_encode.specs.Encoded.{EncodedFrame, IsEncoded, error_of, errors_of}
-use Rattle.vp_encode.specs.File.{IsDone, packet_of, timed}
+use Rattle.vp_encode.specs.declared.report.EncodeReport.{EncodeReport}
+use Rattle.vp_encode.specs.Encoded.{EncodedFrame, IsEncoded, lengths_of, error_of, errors_of}
+use Rattle.vp_encode.specs.File.{IsDone, AreFramesOf, packet_of, frames_report, timed}
 use Rattle.vp_live.specs.Live.{IsRefused, IsLiveReported, IsLiveEnded}
 
--- the limits, the encoder, the number of its packets so far, and the sum of their squared errors
+-- the limits, the encoder, the number of its packets so far, the sum of their lengths, and that of their squared errors
 pub record LiveProgress : Type 0 where
   pub limits : Limits
   pub encoder : EncoderState
   pub frames : ℕ
+  pub bytes : ℕ
   pub error : ℕ
+
+-- the report of them
+abbrev pub report_so_far : LiveProgress → EncodeReport
+report_so_far r = record { frames = r.frames; bytes = r.bytes; error = r.error }
 
 -- the frame of these
 abbrev pub frame : Image → List ℕ → Image → EncodedFrame
@@ -38,6 +44,7 @@ pub record IsCounted (old : LiveProgress) (p : Image) (f : EncodedFrame) (new : 
   pub made : IsMade old p f new.encoder
   pub limits : new.limits ≡ old.limits
   pub frames : new.frames ≡ old.frames + 1
+  pub bytes : new.bytes ≡ old.bytes + length f.packet
   pub error : new.error ≡ old.error + error_of f
 
 -- picture p is encoded and its packet is written; or it is refused, and nothing is written; or the write fails
@@ -60,15 +67,17 @@ pub record IsLiveAt (settings : Settings) (head : Head) (bytes : List ℕ) (fram
     rest = rest;
   })
   pub frames_are : r.frames ≡ length frames
+  pub bytes_are : r.bytes ≡ lengths_of frames
   pub error_is : r.error ≡ errors_of frames
 
 -- the packets of these frames as the file has them
 abbrev pub frames_text : List EncodedFrame → List ℕ
 frames_text frames = packets_text (map timed (enumerate_from 0 (map packet_of frames)))
 
--- all pictures are encoded and written, or live encoding ended
-abbrev pub EndsLive : Limits → Settings → Result (Unit {0}) EncodeAllFault → List ℕ → LiveProgress → Option (List ℕ)
-    → Option (List ℕ) → Type 0
-EndsLive limits settings (Ok done) file r before after =
-    IsLiveReported limits settings (record { frames = r.frames; error = r.error }) file before after
-EndsLive limits settings (Err f) file r before after = IsLiveEnded r.frames limits settings f file before after
+-- all pictures are encoded into these frames and written, or live encoding ended after them
+abbrev pub EndsLive : Limits → Settings → Result (Unit {0}) EncodeAllFault → List ℕ → List EncodedFrame → LiveProgress
+    → Option (List ℕ) → Option (List ℕ) → Type 0
+EndsLive limits settings (Ok done) file frames r before after = AreFramesOf limits settings file frames
+    × (report_so_far r ≡ frames_report frames) × IsLiveReported limits settings (report_so_far r) file before after
+EndsLive limits settings (Err f) file frames r before after = AreFramesOf limits settings file frames
+    × IsLiveEnded (length frames) limits settings f file before after

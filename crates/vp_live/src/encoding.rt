@@ -1,6 +1,6 @@
 //! Encodes a source while it is read.
 
-ghost use Rattle.std.specs.Prelude.{◌≡◌, ◌≢◌, ◌≤◌, ◌+◌, ◌*◌, ◌++◌, ◌∷◌, ◌⊎◌, ℕ, List, [], ⊤, Option, length};
+ghost use Rattle.std.specs.Prelude.{◌≡◌, ◌≢◌, ◌≤◌, ◌+◌, ◌*◌, ◌++◌, ◌⊎◌, ℕ, List, [], Option, length};
 ghost use Rattle.std.specs.Prelude.{OnOk, IfSome, Err};
 ghost use Rattle.std.specs.Io.KnownBytes.{Appends, Consumes, IsAtEnd};
 ghost use Rattle.vp_base.specs.Counted.{counted_remaining, counted_contents, counted_failures, counted_reads};
@@ -12,7 +12,8 @@ ghost use Rattle.vp_y4m.specs.Reads.{TakesInReads};
 ghost use Rattle.vp_y4m.specs.Text.{i420_length};
 ghost use Rattle.vp_encode.specs.declared.settings.Settings.{Settings};
 ghost use Rattle.vp_encode.specs.declared.report.EncodeAllFault.{EncodeAllFault};
-ghost use Rattle.vp_encode.specs.File.{IsWrittenFurther, most_reads, numbers_to};
+ghost use Rattle.vp_encode.specs.Encoded.{EncodedFrame};
+ghost use Rattle.vp_encode.specs.File.{IsWrittenFurther, most_reads, reports_to};
 ghost use Rattle.vp_live.specs.Live.{IsLiveOver, live_text};
 ghost use Rattle.vp_live.specs.Progress.{IsLiveAt, EndsLive};
 
@@ -21,34 +22,19 @@ use crate::writing::write_head;
 use std::alloc::Global;
 use std::io::{Read, Write};
 use vp_base::{Counted, Limits};
-use vp_encode::{EncodeAllFault, EncodeReport, Encoder, Settings, Unwatched};
+use vp_encode::{EncodeAllFault, EncodeReport, Encoder, Settings, Watcher};
 use vp_y4m::{Source, SourceHead};
-
-/// The progress callback of live encoding.
-pub trait LiveWatcher {
-    /// The numbers of pictures that it has received so far, in order.
-    ghost told: { Self → List ℕ → Type 0 };
-
-    /// Receives the number of pictures whose packets are written so far, and the sum of their squared errors.
-    fn encoded(&mut self, frames: u32, error: u128)
-        ensures { (before : List ℕ) → told self.old before → told self.new (before ++ frames ∷ []) };
-}
-
-impl LiveWatcher for Unwatched {
-    ghost told = { λ _ _. ⊤ };
-
-    fn encoded(&mut self, _frames: u32, _error: u128) {}
-}
 
 /// Encodes a YUV4MPEG2 source while it is read, and writes an IVF file with its size and rate. The head counts 0
 /// packets, as it is written before their number is known. Each packet is written and flushed before the next picture
 /// is read, so that the memory is that of one picture and the references. The times of the packets are 0, 1, and so on.
-/// The progress callback receives 1, 2, .. up to the number of pictures whose packets are written.
+/// The progress callback receives the reports of the first picture, of the first two, .. up to that of all pictures
+/// whose packets are written.
 ///
 /// Errors, in the order of the work: a fault of the head, and `Settings`, write nothing. Then for each picture its
 /// fault, `TooMany`, `TooLong` and `PacketTooLarge` leave the whole packets of all pictures before it. If a write or
 /// a flush fails, a prefix of the head, or of the next packet after them, is written.
-pub fn encode_live<R: Read, W: Write, T: LiveWatcher>(
+pub fn encode_live<R: Read, W: Write, T: Watcher>(
     alloc: Global,
     reader: &mut Counted<R>,
     writer: &mut Counted<W>,
@@ -76,7 +62,7 @@ pub fn encode_live<R: Read, W: Write, T: LiveWatcher>(
 }
 
 /// Encodes the pictures that follow a file's head, and writes their packets after that of the live file.
-fn encode_source<R: Read, W: Write, T: LiveWatcher>(
+fn encode_source<R: Read, W: Write, T: Watcher>(
     alloc: Global,
     reader: &mut Counted<R>,
     head: SourceHead,
@@ -91,9 +77,10 @@ fn encode_source<R: Read, W: Write, T: LiveWatcher>(
     ensures ends { (settings : Settings) (line : List ℕ) (before : Option (List ℕ))
         → IsLiveAt settings (head_model head) line [] run.old
         → Appends before (counted_contents W.contents writer.old) (live_text (head_model head) [])
-        → (bytes : List ℕ)
+        → (bytes : List ℕ) × (frames : List EncodedFrame)
         × Consumes (counted_remaining R.remaining reader.old) (counted_remaining R.remaining reader.new) bytes
-        × EndsLive run.old.limits settings result (line ++ bytes) run.new before
+        × IsWrittenFurther (T.told watcher.old) (T.told watcher.new) (reports_to frames)
+        × EndsLive run.old.limits settings result (line ++ bytes) frames run.new before
         (counted_contents W.contents writer.new) }
     ensures end { OnOk result (IsAtEnd (counted_remaining R.remaining reader.new)) }
     ensures torn { result ≡ Err EncodeAllFault.Torn → IsAtEnd (counted_remaining R.remaining reader.new) }
@@ -106,15 +93,16 @@ fn encode_source<R: Read, W: Write, T: LiveWatcher>(
         (counted_reads reader.old) (counted_reads reader.new) }
     ensures within { counted_reads reader.new ≤ counted_reads reader.old
         + (run.old.limits.packets + 1) * (1025 + i420_length head.dim.w head.dim.h) }
-    ensures watched { IsWrittenFurther (T.told watcher.old) (T.told watcher.new) (numbers_to run.new.frames) }
 {
     let mut source = Source::open(alloc, reader, head);
-    encode_pictures(&mut source, run, writer, watcher)
+    encode_pictures(&mut source, &head, run, writer, watcher)
 }
 
-/// Encodes the pictures that follow a file's head, and writes their packets after that of the live file.
-fn encode_pictures<R: Read, W: Write, T: LiveWatcher>(
+/// Encodes the pictures that follow a file's head, and writes their packets after that of the live file. The callback
+/// receives the file's head.
+fn encode_pictures<R: Read, W: Write, T: Watcher>(
     source: &mut Source<'_, R>,
+    head: &SourceHead,
     run: &mut LiveProgress,
     writer: &mut Counted<W>,
     watcher: &mut T,
@@ -128,9 +116,10 @@ fn encode_pictures<R: Read, W: Write, T: LiveWatcher>(
     ensures ends { (settings : Settings) (line : List ℕ) (before : Option (List ℕ))
         → IsLiveAt settings (head_of source.old) line [] run.old
         → Appends before (counted_contents W.contents writer.old) (live_text (head_of source.old) [])
-        → (bytes : List ℕ)
+        → (bytes : List ℕ) × (frames : List EncodedFrame)
         × Consumes (bytes_left R.remaining source.old) (bytes_left R.remaining source.new) bytes
-        × EndsLive run.old.limits settings result (line ++ bytes) run.new before
+        × IsWrittenFurther (T.told watcher.old) (T.told watcher.new) (reports_to frames)
+        × EndsLive run.old.limits settings result (line ++ bytes) frames run.new before
         (counted_contents W.contents writer.new) }
     ensures end { OnOk result (IsAtEnd (bytes_left R.remaining source.new)) }
     ensures torn { result ≡ Err EncodeAllFault.Torn → IsAtEnd (bytes_left R.remaining source.new) }
@@ -142,11 +131,10 @@ fn encode_pictures<R: Read, W: Write, T: LiveWatcher>(
         (reads_of source.old) (reads_of source.new) }
     ensures within { reads_of source.new ≤ reads_of source.old
         + (run.old.limits.packets + 1) * (1025 + i420_length (head_of source.old).w (head_of source.old).h) }
-    ensures watched { IsWrittenFurther (T.told watcher.old) (T.told watcher.new) (numbers_to run.new.frames) }
 {
     while let Some(picture) = source.next_picture()? {
         run.picture(&picture, writer)?;
-        watcher.encoded(run.frames(), run.error());
+        watcher.encoded(head, run.report());
     }
     Ok(())
 }

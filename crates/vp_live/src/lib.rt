@@ -6,5 +6,5 @@ mod laws;
 mod progress;
 mod writing;
 
-pub use encoding::{LiveWatcher, encode_live};
+pub use encoding::encode_live;
 pub use laws::{live_files_are_encoded_files, live_files_play_back};

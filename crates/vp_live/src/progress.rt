@@ -11,12 +11,13 @@ use std::marker::Model;
 use vp_base::{Counted, Limits, Picture};
 use vp_encode::{EncodeAllFault, EncodeFault, EncodeReport, Encoded, Encoder};
 
-/// An encoder, the number of the packets that it made, and the sum of their squared errors.
+/// An encoder, the number of the packets that it made, the sum of their lengths, and that of their squared errors.
 #[derive(Drop)]
 pub(crate) struct LiveProgress {
     limits: Limits,
     encoder: Encoder,
     frames: u32,
+    bytes: u64,
     error: u128,
 }
 
@@ -26,9 +27,16 @@ impl Model for LiveProgress {
 
     ghost Value = { LiveProgress };
 
-    ghost view = { λ a. record { limits = a.limits; encoder = a.encoder; frames = a.frames; error = a.error } };
+    ghost view = { λ a. record {
+      limits = a.limits;
+      encoder = a.encoder;
+      frames = a.frames;
+      bytes = a.bytes;
+      error = a.error;
+    } };
 
-    ghost invariant = { λ a. (a.frames ≤ a.limits.packets) × (a.error ≤ a.frames * 2 ^ 64) };
+    ghost invariant = { λ a. (a.frames ≤ a.limits.packets) × (a.bytes ≤ a.frames * 2 ^ 32)
+        × (a.error ≤ a.frames * 2 ^ 64) };
 }
 
 impl LiveProgress {
@@ -39,12 +47,13 @@ impl LiveProgress {
 
     /// Creates the state before the first picture.
     pub(crate) fn new(encoder: Encoder, limits: Limits) -> LiveProgress
-        ensures { result ≡ record { limits = limits; encoder = encoder; frames = 0; error = 0 } }
+        ensures { result ≡ record { limits = limits; encoder = encoder; frames = 0; bytes = 0; error = 0 } }
     {
         LiveProgress {
             limits,
             encoder,
             frames: 0,
+            bytes: 0,
             error: 0,
         }
     }
@@ -55,6 +64,7 @@ impl LiveProgress {
         requires height { picture.now.height ≡ self.old.encoder.dim.h }
         ensures limits { self.new.limits ≡ self.old.limits }
         ensures frames { self.new.frames ≡ self.old.frames }
+        ensures bytes { self.new.bytes ≡ self.old.bytes }
         ensures error { self.new.error ≡ self.old.error }
         ensures made { MatchResult result
             (λ r. IsMade self.old picture.now (frame picture.now r.packet r.recon.value) self.new.encoder)
@@ -102,30 +112,18 @@ impl LiveProgress {
             return Err(EncodeAllFault::Device);
         }
         self.frames += 1;
+        self.bytes += encoded.packet.len() as u64;
         self.error += u128::from(encoded.squared_error);
         Ok(())
     }
 
-    /// Returns the number of pictures whose packets are written.
-    pub(crate) fn frames(&self) -> u32
-        ensures { result ≡ self.now.frames }
-    {
-        self.frames
-    }
-
-    /// Returns the sum of their squared errors.
-    pub(crate) fn error(&self) -> u128
-        ensures { result ≡ self.now.error }
-    {
-        self.error
-    }
-
-    /// Returns the report of these pictures.
+    /// Returns the report of the pictures whose packets are written.
     pub(crate) fn report(&self) -> EncodeReport
-        ensures { result ≡ record { frames = self.now.frames; error = self.now.error } }
+        ensures { result ≡ record { frames = self.now.frames; bytes = self.now.bytes; error = self.now.error } }
     {
         EncodeReport {
             frames: self.frames,
+            bytes: self.bytes,
             error: self.error,
         }
     }

@@ -1,3 +1,4 @@
+use Rattle.std.proofs.Common.{length}
 use Rattle.vp_app.proofs.encode.encode_over.Goals as goal
 
 pub returns-then-encoding : goal.returns-then-encoding
@@ -8,7 +9,7 @@ returns-then-encoding g c =
       usual = record { pixels = usual.pixels; packet_bytes = usual.packet_bytes; packets = usual.packets; cache_is = usual.cache };
       file = done.file;
       consumed = done.consumed;
-      answer = rw (c.if-encoding.true, ← c.settings_of-settings.ensures) (done.pictures, done.answer);
+      answer = rw (c.if-encoding.true, ← c.settings_of-settings.ensures) (length done.frames, done.answer);
       end = done.end;
       torn = done.torn;
       device = done.device;

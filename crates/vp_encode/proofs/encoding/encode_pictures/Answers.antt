@@ -1,4 +1,4 @@
-use Rattle.std.proofs.Common.{ℕ, List, ◌++◌, ◌∷◌, [], None, Ok, Err, length, refl, sym, ap, subst, ◌∙◌}
+use Rattle.std.proofs.Common.{◌++◌, ◌∷◌, [], None, Ok, Err, length, refl, sym, ap, ◌∙◌}
 use Rattle.std.proofs.lemmas.Result.{err_from_is_err_and}
 use Rattle.std.proofs.KnownBytes.{Consumes-nil, Consumes-trans}
 use Rattle.vp_base.specs.declared.limits.Dim.{Dim}
@@ -7,9 +7,8 @@ use Rattle.vp_y4m.specs.Frames.{GivesPicture}
 use Rattle.vp_y4m.specs.Reads.{ShowsAtEnd}
 use Rattle.vp_y4m.specs.Pictures.{next_of}
 use Rattle.vp_y4m.proofs.ReadLemmas.{no_reads, one_at_most, one_at_an_answer, reads_more, reads_then}
-use Rattle.vp_encode.specs.File.{IsWrittenFurther, numbers_to}
 use Rattle.vp_encode.specs.EncodeProgress.{IsBegun}
-use Rattle.vp_encode.proofs.FileLemmas.{ok_is_no_error, none_at_most, no_fewer, at_start, next_failed, refused_same, ended, faulty_answer, given_answer, end_answer, is_picture, at_next, told_first, told_more, few_now, within_next, within_more}
+use Rattle.vp_encode.proofs.FileLemmas.{ok_is_no_error, none_at_most, no_fewer, at_start, next_failed, refused_behind, ended, faulty_answer, given_answer, end_answer, is_picture, at_next, told_none, told_more, reported_at, few_now, within_next, within_more}
 use Rattle.vp_encode.proofs.encoding.encode_pictures.Goals as goal
 
 pub loop-picture-init : goal.loop-picture-init
@@ -22,7 +21,7 @@ loop-picture-init g c = (
   refl,
   c.requires.open,
   refl,
-  told_first c.args.run.now (g.T.Watcher.told c.args.watcher.now) c.requires.start,
+  told_none (g.T.Watcher.told c.args.watcher.now),
   no_reads 0 _ _,
   no_fewer _ _,
 )
@@ -39,8 +38,10 @@ returns-in_err-picture-clause-ends g c = λ front line.
     (λ e. ap (bytes_left g.R.Read.remaining) (c.in_err-picture.ensures.memory inv.6 (ap Err e))) in
     rw (p.1, p.2) (
       inv.0 ++ now.0,
+      inv.1,
       Consumes-trans (bytes_left g.R.Read.remaining c.args.source.now) (bytes_left g.R.Read.remaining c.loop-picture.source) (bytes_left g.R.Read.remaining c.next_picture.new.self) inv.0 now.0 inv.2 now.1,
-      now.2,
+      inv.8,
+      (now.2, now.3),
     )
 
 pub returns-in_err-picture-2-clause-ends : goal.returns-in_err-picture-2-clause-ends
@@ -54,14 +55,11 @@ returns-in_err-picture-2-clause-ends g c = λ front line.
     let is = is_picture (head_of c.args.source.now).w (head_of c.args.source.now).h c.in-Some.picture (bytes_left g.R.Read.remaining c.loop-picture.source) (bytes_left g.R.Read.remaining c.next_picture.new.self) given in
     rw (p.1, p.2) (
       inv.0 ++ given.shown.taken,
+      inv.1,
       Consumes-trans (bytes_left g.R.Read.remaining c.args.source.now) (bytes_left g.R.Read.remaining c.loop-picture.source) (bytes_left g.R.Read.remaining c.next_picture.new.self) inv.0 given.shown.taken inv.2 given.shown.consumed,
-      refused_same front (head_of c.args.source.now) c.args.run.now c.loop-picture.run inv.0 inv.1 b inv.3 given.shown.taken c.in-Some.picture is given.shown.shown c.in_err-picture-2.field-0.0 c.in_err-picture-2.ensures.0 c.picture-in-Some.new.self.packets c.in_err-picture-2.ensures.1,
+      inv.8,
+      refused_behind front (head_of c.args.source.now) c.args.run.now c.loop-picture.run inv.0 inv.1 b inv.3 given.shown.taken c.in-Some.picture is given.shown.shown c.in_err-picture-2.field-0.0 c.in_err-picture-2.ensures.0,
     )
-
-pub returns-in_err-picture-2-clause-watched : goal.returns-in_err-picture-2-clause-watched
-returns-in_err-picture-2-clause-watched g c =
-    let T : List (List ℕ) → Type 0 = λ ps. IsWrittenFurther (g.T.Watcher.told c.args.watcher.now) (g.T.Watcher.told c.loop-picture.watcher) (numbers_to (length ps)) in
-    subst T (sym c.in_err-picture-2.ensures.1) c.loop-picture.invariant.8
 
 pub loop-picture-preserved : goal.loop-picture-preserved
 loop-picture-preserved g c =
@@ -69,17 +67,19 @@ loop-picture-preserved g c =
     let given : GivesPicture (head_of c.args.source.now).w (head_of c.args.source.now).h c.in-Some.picture (bytes_left g.R.Read.remaining c.loop-picture.source) (bytes_left g.R.Read.remaining c.next_picture.new.self) =
     given_answer (head_of c.args.source.now) (head_of c.loop-picture.source) c.in_ok-picture.field-0 c.in-Some.picture
     (bytes_left g.R.Read.remaining c.loop-picture.source) (bytes_left g.R.Read.remaining c.next_picture.new.self) inv.5 c.in-Some.is (c.in_ok-picture.ensures.answer inv.6 ok_is_no_error) in
-    let f = c.in_ok-picture-2.ensures in (
+    let f = c.in_ok-picture-2.ensures in
+    let next = at_next (head_of c.args.source.now) c.args.run.now c.loop-picture.run c.picture-in-Some.new.self inv.0 inv.1 c.in-Some.picture
+    (bytes_left g.R.Read.remaining c.loop-picture.source) (bytes_left g.R.Read.remaining c.next_picture.new.self) inv.3 given f.0 f.1 f.2 in (
       inv.0 ++ given.shown.taken,
       inv.1 ++ f.0 ∷ [],
       Consumes-trans (bytes_left g.R.Read.remaining c.args.source.now) (bytes_left g.R.Read.remaining c.loop-picture.source) (bytes_left g.R.Read.remaining c.next_picture.new.self) inv.0 given.shown.taken inv.2 given.shown.consumed,
-      at_next (head_of c.args.source.now) c.args.run.now c.loop-picture.run c.picture-in-Some.new.self inv.0 inv.1 c.in-Some.picture
-          (bytes_left g.R.Read.remaining c.loop-picture.source) (bytes_left g.R.Read.remaining c.next_picture.new.self) inv.3 given f.0 f.1 f.2,
+      next,
       c.in_ok-picture.ensures.same_reference ∙ inv.4,
       c.in_ok-picture.ensures.head ∙ inv.5,
       c.in_ok-picture.ensures.progress inv.6 ok_is_no_error ∙ ap progress_after (ap Ok c.in-Some.is),
       c.in_ok-picture.ensures.quiet inv.6 ok_is_no_error ∙ inv.7,
-      told_more (g.T.Watcher.told c.args.watcher.now) (g.T.Watcher.told c.loop-picture.watcher) (g.T.Watcher.told c.encoded.new.self) c.loop-picture.run c.picture-in-Some.new.self f.0 c.frames.result inv.8 f.2 c.frames.ensures c.encoded.ensures,
+      told_more (g.T.Watcher.told c.args.watcher.now) (g.T.Watcher.told c.loop-picture.watcher) (g.T.Watcher.told c.encoded.new.self) inv.1 f.0 c.report.result inv.8
+          (reported_at (head_of c.args.source.now) c.args.run.now c.picture-in-Some.new.self (inv.0 ++ given.shown.taken) (inv.1 ++ f.0 ∷ []) next c.report.result c.report.ensures) c.encoded.ensures,
       reads_then 0 _ _ _ _ _ _ inv.9 (rw c.in-Some.is at c.in_ok-picture.ensures.reads),
       within_next (head_of c.args.source.now) (head_of c.loop-picture.source) _ _ _ c.loop-picture.run c.picture-in-Some.new.self f.0 inv.5 f.2 inv.10 c.in_ok-picture.ensures.within,
     )
@@ -93,7 +93,9 @@ returns-clause-ends g c = λ front line.
     (bytes_left g.R.Read.remaining c.loop-picture.source) (bytes_left g.R.Read.remaining c.next_picture.new.self) inv.5 c.in_default.is (c.in_ok-picture.ensures.answer inv.6 ok_is_no_error) in
     let now = ended front (head_of c.args.source.now) c.args.run.now c.loop-picture.run inv.0 inv.1 b inv.3 (bytes_left g.R.Read.remaining c.loop-picture.source) (bytes_left g.R.Read.remaining c.next_picture.new.self) last in (
       inv.0 ++ now.0,
+      inv.1,
       Consumes-trans (bytes_left g.R.Read.remaining c.args.source.now) (bytes_left g.R.Read.remaining c.loop-picture.source) (bytes_left g.R.Read.remaining c.next_picture.new.self) inv.0 now.0 inv.2 now.1,
+      inv.8,
       now.3,
     )
 

@@ -34,7 +34,7 @@ returns c =
     } in
     let more : c.push.new.self.items ≡ c.self.inside.packets.items ++ c.in-Ok.encoded.packet ∷ [] = grind (arith, common_steps) in
     let P : EncodeProgress → Type 0 = λ r. (f : EncodedFrame) × (f.source ≡ c.args.picture.now)
-    × IsAdded r f (record { limits = c.self.inside.limits; encoder = c.encode.new.self; packets = c.push.new.self.items; error = c.self.inside.error + c.from.result }) in
+    × IsAdded r f (record { limits = c.self.inside.limits; encoder = c.encode.new.self; packets = c.push.new.self.items; bytes = c.self.inside.bytes + c.len-bytes.result; error = c.self.inside.error + c.from.result }) in
     subst P c.self.view_is (
       frame,
       refl,
@@ -44,6 +44,7 @@ returns c =
         encoded = made;
         limits = refl;
         packets = more;
+        bytes = ap (λ n. c.self.inside.bytes + n) c.len-bytes.ensures;
         error = ap (λ n. c.self.inside.error + n) (c.from.ensures ∙ c.in-Ok.ensures.error);
       },
     )
