@@ -14,10 +14,10 @@ use Rattle.vp_search.specs.Sums.{sum_below}
 use Rattle.vp_search.specs.Differences.{sum_of_differences, strided_block, block16}
 use Rattle.vp_search.specs.Blocks.{predicted_block, quarter_cost}
 use Rattle.vp_search.specs.FirstLeast.{IsFirstLeast}
-use Rattle.vp_search.specs.Refined.{candidates_around, neighbour, IsBestOf}
+use Rattle.vp_search.specs.Refined.{neighbour}
 use Rattle.vp_search.specs.Columns.{IsWithin, filtered, IsColumn, AreWithin}
 use Rattle.vp_search.proofs.SumLemmas.{sum_below-add, sum_of_differences-same}
-use Rattle.vp_search.proofs.RefinedLemmas.{below_nine, at_place}
+use Rattle.vp_search.proofs.RefinedLemmas.{below_nine}
 
 -- four rows more
 pub rows_more : (i : ℕ) (f g : ℕ → ℕ → ℕ)

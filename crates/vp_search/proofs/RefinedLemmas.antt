@@ -1,5 +1,5 @@
 -- Lemmas on the neighbours of a vector.
-use Rattle.std.proofs.Common.{◌≡◌, ◌≢◌, ℕ, ℤ, zero, suc, ◌+◌, ◌<◌, ◌≤◌, ◌+ℤ◌, ◌-ℤ◌, List, length, set, get_or, get_or-set_other, get_or-set_same, below_more, refl, sym, ap, subst, inl, inr, pos, ◌∙◌, arith}
+use Rattle.std.proofs.Common.{◌≡◌, ℕ, ℤ, zero, suc, ◌<◌, ◌≤◌, ◌+ℤ◌, ◌-ℤ◌, List, get_or, refl, sym, ap, subst, inl, inr, pos, ◌∙◌, arith}
 use Rattle.std.specs.Prelude.{unsigned_abs}
 use Rattle.std.proofs.lemmas.Int.{ints}
 use Rattle.std.proofs.lemmas.Bool.{cases_lt}

@@ -39,6 +39,10 @@ window_cost block window range v = sum_of_differences 16 16 (strided_block block
 abbrev pub first_rows : List ℕ → List ℕ → ℕ → ℕ
 first_rows block window at = sum_of_differences 4 16 (strided_block block 0 16) (strided_block window at WINDOW_WIDTH)
 
+-- the sum of differences of the whole block
+abbrev pub all_rows : List ℕ → List ℕ → ℕ → ℕ
+all_rows block window at = sum_of_differences 16 16 (strided_block block 0 16) (strided_block window at WINDOW_WIDTH)
+
 -- a vector within range, with its cost if that is below the limit
 pub record IsFoundInWindow (scope : Scope) (cost : WholeVector → ℕ) (found : Found) : Type 0 where
   pub near : IsNear scope.range found.vector

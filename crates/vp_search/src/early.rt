@@ -2,9 +2,9 @@
 //! these that they can't be the best.
 
 ghost use Rattle.std.specs.Prelude.{◌≡◌, ℕ, ◌+◌, ◌*◌, ◌<◌, ◌≤◌, length, IfSome, None};
-ghost use Rattle.vp_search.specs.Window.{first_rows};
+ghost use Rattle.vp_search.specs.Window.{first_rows, all_rows};
 
-use crate::difference::first_rows;
+use crate::difference::{first_rows, sad_within};
 use crate::window::WINDOW_WIDTH;
 
 /// Two blocks of a row of a window, of which the second begins a pixel behind the first: how many pairs stand before
@@ -46,6 +46,42 @@ pub(crate) fn next_pair(
         let two = first_rows(block, window, at + 1, WINDOW_WIDTH);
         if one.min(two) <= limit {
             return Some(Pair { number, one, two });
+        }
+    }
+    None
+}
+
+/// A block of a row of a window: its column, and its sum of absolute differences.
+#[derive(Clone, Copy)]
+pub(crate) struct Within {
+    pub(crate) column: usize,
+    pub(crate) cost: u32,
+}
+
+/// The first of the vectors from column `from` to `end`, without `end`, of a row that begins at index `begin`, that
+/// costs at most `limit`. The loop stores nothing, so that eight rows of `block` stay in registers.
+pub(crate) fn next_within_limit(
+    block: &[u8],
+    window: &[u8],
+    begin: usize,
+    from: usize,
+    end: usize,
+    limit: u32,
+) -> Option<Within>
+    requires block { 256 ≤ length block.now }
+    requires window { begin + end + 15 * WINDOW_WIDTH + 15 ≤ length window.now }
+    requires end { from ≤ end }
+    ensures place { IfSome result (λ found. (from ≤ found.column) × (found.column < end)) }
+    ensures cost { IfSome result (λ found. found.cost ≡ all_rows block.now window.now (begin + found.column)) }
+    ensures skipped { IfSome result (λ found. (k : ℕ) → begin + from ≤ k → k < begin + found.column
+        → limit < all_rows block.now window.now k) }
+    ensures none { result ≡ None → (k : ℕ) → begin + from ≤ k → k < begin + end
+        → limit < all_rows block.now window.now k }
+{
+    for column in from..end {
+        let cost = sad_within(block, window, begin + column, WINDOW_WIDTH, limit);
+        if cost <= limit {
+            return Some(Within { column, cost });
         }
     }
     None

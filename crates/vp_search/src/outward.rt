@@ -15,7 +15,7 @@ ghost use Rattle.vp_search.specs.Bounds.{IsBound};
 ghost use Rattle.vp_search.specs.Summed.{IsSummedSearch};
 
 use crate::difference::{first_rows, rest_within, sad_within};
-use crate::early::{Pair, next_pair};
+use crate::early::{Pair, next_pair, next_within_limit};
 use crate::summed::SquareSums;
 use crate::sums::{bounds_at, next_within, within};
 use crate::vector::{Found, Scope, vector_at, vector_length};
@@ -400,10 +400,19 @@ fn consider_each(block: &[u8], window: &[u8], scope: Scope, best: Found, i: usiz
     ensures here { (j : ℕ) → j ≤ 2 * scope.range → IsNoWorse result.cost result.vector
         (window_cost block.now window.now scope.range (vector_at scope.range i j)) (vector_at scope.range i j) }
 {
+    let begin = i * WINDOW_WIDTH;
+    let end = 2 * usize::from(scope.range) + 1;
     let mut found = best;
-    for j in 0..2 * usize::from(scope.range) + 1 {
-        let place = Spot { row: i, column: j };
-        found = consider(block, window, scope, found, place);
+    let mut column = 0;
+    while let Some(next) = next_within_limit(block, window, begin, column, end, found.cost) {
+        found = lesser(
+            found,
+            Found {
+                vector: vector_at(i, next.column, scope.range),
+                cost: next.cost,
+            },
+        );
+        column = next.column + 1;
     }
     found
 }

@@ -183,14 +183,16 @@ struct View<'a> {
     unbounded: Unbounded,
 }
 
-/// How many macroblocks are searched without sums after one whose last rows had no bounds: 1, then 3, then 7 each time.
-/// `distance` is the number of columns since the last one with sums in this row; in another row it is only a guess.
+/// How many macroblocks are searched without sums after one whose last rows had no bounds: 1; where vectors are
+/// compared after four rows, 1, then 3, then 7 each time. `distance` is the number of columns since the last one with
+/// sums in this row; in another row it is only a guess.
 fn macroblocks_after(rows: Unbounded, distance: usize) -> Unbounded {
     if rows.left == 0 {
         return rows;
     }
+    let most = if rows.early { 4 } else { 1 };
     Unbounded {
-        left: (2 * distance.clamp(1, 4) - 1) as u8,
+        left: (2 * distance.clamp(1, most) - 1) as u8,
         early: rows.early,
     }
 }

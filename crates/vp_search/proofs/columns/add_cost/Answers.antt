@@ -1,6 +1,4 @@
-use Rattle.std.proofs.Common.{◌≡◌, ◌∙◌, ℕ, ◌+◌, ◌*◌, ◌<◌, ◌≤◌, ap₂, sym, arith}
-use Rattle.std.specs.Int.{abs_diff}
-use Rattle.vp_search.specs.Sums.{sum_below}
+use Rattle.std.proofs.Common.{◌∙◌, ℕ, ◌+◌, ◌*◌, ap₂, sym, arith}
 use Rattle.vp_search.specs.Differences.{block16}
 use Rattle.vp_search.specs.Columns.{filtered}
 use Rattle.vp_search.proofs.SumLemmas.{sum_below-none}

@@ -1,4 +1,4 @@
-use Rattle.std.proofs.Common.{◌≡◌, ◌∙◌, ℕ, ℤ, ◌+◌, ◌*◌, ◌/◌, ◌%◌, List, ap, subst, refl}
+use Rattle.std.proofs.Common.{◌∙◌, ℕ, ℤ, ◌+◌, ◌*◌, ◌/◌, ◌%◌, List, ap, subst, refl}
 use Rattle.vp_search.specs.Differences.{sum_of_differences, strided_block, block16}
 use Rattle.vp_search.specs.Columns.{IsWithin, filtered}
 use Rattle.vp_search.proofs.ColumnLemmas.{filtered_cost, whole_row_cost}

@@ -1,4 +1,4 @@
-use Rattle.std.proofs.Common.{◌≡◌, ◌∙◌, ℕ, ℤ, ◌+◌, ◌*◌, List, get_or, ap, subst, refl, lit<}
+use Rattle.std.proofs.Common.{◌∙◌, ℕ, ℤ, ◌+◌, ◌*◌, List, get_or, ap, subst, refl, lit<}
 use Rattle.vp_inter.specs.Filter.{filter_six}
 use Rattle.vp_search.specs.Columns.{IsWithin}
 use Rattle.vp_search.proofs.ColumnLemmas.{half_cost}

@@ -1,4 +1,4 @@
-use Rattle.std.proofs.Common.{◌≡◌, ◌∙◌, ℕ, ◌+◌, ◌*◌, ◌<◌, List, get_or, ap, refl, arith}
+use Rattle.std.proofs.Common.{◌≡◌, ◌∙◌, ℕ, ◌+◌, ◌*◌, List, get_or, ap, refl, arith}
 use Rattle.vp_inter.specs.Filter.{filter_six}
 use Rattle.vp_search.specs.Differences.{strided_block, block16}
 use Rattle.vp_search.specs.Columns.{filtered}

@@ -1,4 +1,4 @@
-use Rattle.std.proofs.Common.{◌≡◌, ℕ, ◌+◌, ◌*◌, ◌≤◌, ◌<◌, get_or, ◌∙◌, arith}
+use Rattle.std.proofs.Common.{◌≡◌, ◌+◌, ◌*◌, ◌≤◌, get_or, ◌∙◌, arith}
 use Rattle.std.specs.Int.{abs_diff}
 use Rattle.vp_search.specs.Differences.{strided_block}
 use Rattle.vp_search.specs.Sums.{sum_below}

@@ -1,4 +1,4 @@
-use Rattle.std.proofs.Common.{◌<◌, sym, ◌∙◌, arith}
+use Rattle.std.proofs.Common.{sym, ◌∙◌, arith}
 use Rattle.vp_search.specs.Window.{window_cost}
 use Rattle.vp_search.proofs.OrderLemmas.{zero_least}
 use Rattle.vp_search.proofs.outward.search_from_centre.Goals as goal

@@ -1,4 +1,4 @@
-use Rattle.std.proofs.Common.{◌≡◌, ℕ, ℤ, pos, ◌+◌, ◌*ℤ◌, ◌+ℤ◌, suc, zero, subst, arith}
+use Rattle.std.proofs.Common.{◌≡◌, ℕ, pos, ◌+◌, ◌*ℤ◌, ◌+ℤ◌, suc, zero, subst, arith}
 use Rattle.vp_search.specs.Differences.{block16}
 use Rattle.vp_search.specs.Blocks.{quarter_cost}
 use Rattle.vp_search.specs.Columns.{IsWithin}

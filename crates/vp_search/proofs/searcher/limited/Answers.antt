@@ -1,4 +1,4 @@
-use Rattle.std.proofs.Common.{◌≡◌, ◌∙◌, ◌<◌, min, arith}
+use Rattle.std.proofs.Common.{◌≡◌, ◌∙◌, arith}
 use Rattle.vp_search.proofs.searcher.limited.Goals as goal
 
 pub returns-clause-kept : goal.returns-clause-kept
