@@ -1,35 +1,22 @@
 -- The macroblocks of a row, and the rows of a picture.
-use Rattle.std.proofs.Common.{◌≡◌, ◌∙◌, ℕ, ◌+◌, ◌*◌, ◌==◌, Bool, true, false, cond, refl, ap, sym, subst}
+use Rattle.std.proofs.Common.{◌≡◌, ◌∙◌, ℕ, ◌+◌, ◌*◌, Option, refl, ap, sym, subst}
 use Rattle.vp_base.specs.declared.place.Place.{Place}
 use Rattle.vp_base.specs.Raster.{Raster}
 use Rattle.vp_base.specs.Image.{Image, macroblocks, IsAligned}
 use Rattle.vp_base.specs.Over.{over}
 use Rattle.vp_base.proofs.OverLemmas.{over-none, over-more, over-kept}
 use Rattle.vp_loop.specs.declared.strength.Level.{Level}
-use Rattle.vp_loop.specs.Edges.{block_filtered}
-use Rattle.vp_loop.specs.Filtered.{colour_filtered, macroblock_filtered, row_filtered, filtered}
+use Rattle.vp_loop.specs.declared.limits.EdgeLimits.{EdgeLimits}
+use Rattle.vp_loop.specs.Edges.{edge_limits, chroma_limits, block_filtered}
+use Rattle.vp_loop.specs.Filtered.{macroblock_filtered, row_filtered, filtered}
 use Rattle.vp_loop.proofs.StepLemmas.{width-edge_lines, height-edge_lines}
 use Rattle.vp_loop.proofs.EdgeLemmas.{keeps_block}
 
-pub width-block_filtered : (size : ℕ) (level : Level) (x y : ℕ) (p : Raster) → (block_filtered size level x y p).width ≡ p.width
+pub width-block_filtered : (size : ℕ) (limits : Option EdgeLimits) (x y : ℕ) (p : Raster) → (block_filtered size limits x y p).width ≡ p.width
 width-block_filtered = keeps_block (λ (q : Raster). q.width) width-edge_lines
 
-pub height-block_filtered : (size : ℕ) (level : Level) (x y : ℕ) (p : Raster) → (block_filtered size level x y p).height ≡ p.height
+pub height-block_filtered : (size : ℕ) (limits : Option EdgeLimits) (x y : ℕ) (p : Raster) → (block_filtered size limits x y p).height ≡ p.height
 height-block_filtered = keeps_block (λ (q : Raster). q.height) height-edge_lines
-
-width-colour_filtered : (level : Level) (x y : ℕ) (p : Raster) → (colour_filtered level x y p).width ≡ p.width
-width-colour_filtered level x y p = go (level.interior == 0)
-  where
-    go : (b : Bool) → (cond b p (block_filtered 8 level x y p)).width ≡ p.width
-    go true = refl
-    go false = width-block_filtered 8 level x y p
-
-height-colour_filtered : (level : Level) (x y : ℕ) (p : Raster) → (colour_filtered level x y p).height ≡ p.height
-height-colour_filtered level x y p = go (level.interior == 0)
-  where
-    go : (b : Bool) → (cond b p (block_filtered 8 level x y p)).height ≡ p.height
-    go true = refl
-    go false = height-block_filtered 8 level x y p
 
 -- the sizes of a picture and its planes
 pub record Sizes : Type 0 where
@@ -56,12 +43,13 @@ sizes p = record {
 
 pub sizes-macroblock_filtered : (level : Level) (column row : ℕ) (p : Image) → sizes (macroblock_filtered level column row p) ≡ sizes p
 sizes-macroblock_filtered level column row p =
-    let a = width-block_filtered 16 level (16 * column) (16 * row) p.luma in
-    let b = height-block_filtered 16 level (16 * column) (16 * row) p.luma in
-    let c = width-colour_filtered level (8 * column) (8 * row) p.u in
-    let d = height-colour_filtered level (8 * column) (8 * row) p.u in
-    let e = width-colour_filtered level (8 * column) (8 * row) p.v in
-    let f = height-colour_filtered level (8 * column) (8 * row) p.v in
+    let chroma = chroma_limits (edge_limits level) in
+    let a = width-block_filtered 16 (edge_limits level) (16 * column) (16 * row) p.luma in
+    let b = height-block_filtered 16 (edge_limits level) (16 * column) (16 * row) p.luma in
+    let c = width-block_filtered 8 chroma (8 * column) (8 * row) p.u in
+    let d = height-block_filtered 8 chroma (8 * column) (8 * row) p.u in
+    let e = width-block_filtered 8 chroma (8 * column) (8 * row) p.v in
+    let f = height-block_filtered 8 chroma (8 * column) (8 * row) p.v in
     λ i. record { width = p.width; height = p.height; luma_width = a i; luma_height = b i; u_width = c i; u_height = d i; v_width = e i; v_height = f i }
 
 -- ---- the first n macroblocks of a row

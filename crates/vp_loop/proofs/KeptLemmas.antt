@@ -1,5 +1,5 @@
 -- A part of a block is written, and the rest, which stays as it is, is not.
-use Rattle.std.proofs.Common.{◌≡◌, ◌∙◌, ℕ, zero, suc, ◌+◌, ◌-◌, ◌<◌, ◌≤◌, ◌==◌, Bool, true, false, cond, List, [], length, get_or, refl, ap, sym, subst, arith, rules, inl, inr, length-drop}
+use Rattle.std.proofs.Common.{◌≡◌, ◌∙◌, ℕ, zero, suc, ◌+◌, ◌-◌, ◌<◌, ◌≤◌, ◌==◌, Bool, true, false, cond, not, eqb, List, [], length, get_or, refl, ap, sym, subst, arith, rules, inl, inr, length-drop}
 use Rattle.std.specs.List.{slice_range}
 use Rattle.std.proofs.lemmas.List.{length-take, places}
 use Rattle.std.proofs.lemmas.Bool.{cases_lt}
@@ -9,14 +9,19 @@ use Rattle.vp_base.specs.Block.{with_block, is_in_block, IsWhole}
 use Rattle.vp_base.proofs.BlockLemmas.{pixel-with_block, IsWhole-with_block, same_raster}
 use Rattle.vp_loop.specs.declared.lines.Line.{Line}
 use Rattle.vp_loop.specs.declared.lines.LineStep.{LineStep}
-use Rattle.vp_loop.specs.declared.lines.EdgeKind.TheVariants.{Simple, Inner}
-use Rattle.vp_loop.specs.declared.strength.Level.{Level}
+use Rattle.vp_loop.specs.declared.limits.EdgeLimits.{EdgeLimits}
+use Rattle.vp_loop.specs.declared.limits.FilterKind.{FilterKind}
+use Rattle.vp_loop.specs.declared.limits.FilterKind.TheVariants as filter_is
 use Rattle.vp_loop.specs.LineSteps.{is_changed, filtered_line, stepped}
 use Rattle.vp_loop.specs.Lanes.{KeepsEnds, middle_of}
-use Rattle.vp_loop.specs.Edges.{along, down, line_at, pixel_at, edge_lines, inner_step}
+use Rattle.vp_loop.specs.Edges.{vertical, horizontal, line_at, pixel_at, edge_lines, inner_step}
 use Rattle.vp_loop.proofs.StepLemmas.{stepped_ends, pixel_at-line_at}
-use Rattle.vp_loop.proofs.WriteLemmas.{edge_along, edge_down}
+use Rattle.vp_loop.proofs.WriteLemmas.{edge_vertical, edge_horizontal}
 use Rattle.vp_loop.proofs.TransposeLemmas.{below_four}
+
+-- a bool that isn't 0
+pub is_set : (n : ℕ) → (n ≡ 0 → ⊥) → not (eqb n 0) ≡ true
+is_set n h = grind (arith, nat_tests)
 
 -- ---- what the steps keep
 
@@ -29,19 +34,17 @@ second_kept true l m same = same
 second_kept false l m same = (refl, refl)
 
 -- a step inside a macroblock
-abbrev inside : Bool → Level → LineStep
-inside simple level = record { kind = cond simple Simple Inner; limit = level.inner; interior = level.interior; hev = level.hev }
+inside_kept : (kind : FilterKind) (limits : EdgeLimits) (limit : ℕ) (l : Line) → let step = inner_step (record limits { kind = kind }) limit in
+    ((filtered_line step l).p2 ≡ l.p2) × ((filtered_line step l).q2 ≡ l.q2)
+inside_kept filter_is.Simple limits limit l = (refl, refl)
+inside_kept filter_is.Normal limits limit l = (refl, refl)
 
-inside_kept : (simple : Bool) (level : Level) (l : Line) → ((filtered_line (inside simple level) l).p2 ≡ l.p2) × ((filtered_line (inside simple level) l).q2 ≡ l.q2)
-inside_kept true level l = (refl, refl)
-inside_kept false level l = (refl, refl)
-
-pub keeps_two : (level : Level) → KeepsEnds 2 (inner_step level)
+pub keeps_two : (limits : EdgeLimits) (limit : ℕ) → KeepsEnds 2 (inner_step limits limit)
 unfolding stepped
-keeps_two level l zero h = stepped_ends (inner_step level) l
-keeps_two level l (suc zero) h =
-    second_kept (is_changed (inner_step level) l) l (filtered_line (inner_step level) l) (inside_kept (level.interior == 0) level l)
-keeps_two level l (suc (suc n)) h = absurd (omega arith)
+keeps_two limits limit l zero h = stepped_ends (inner_step limits limit) l
+keeps_two limits limit l (suc zero) h =
+    second_kept (is_changed (inner_step limits limit) l) l (filtered_line (inner_step limits limit) l) (inside_kept limits.kind limits limit l)
+keeps_two limits limit l (suc (suc n)) h = absurd (omega arith)
 
 end_kept : (k : ℕ) (step : LineStep) → KeepsEnds k step → (l : Line) (r : ℕ) → r < 8 → (k ≤ r → 8 - k ≤ r) → pixel_at (stepped step l) r ≡ pixel_at l r
 end_kept k step keeps l r small outside =
@@ -86,11 +89,11 @@ module _ (p : Raster) (x y w h s t u v : ℕ) (f g : ℕ → ℕ → ℕ) (left 
 not_in_rows : (x y n k i j : ℕ) → is_in_block x y n 8 i j ≡ true → is_in_block x (y + k) n (8 - k - k) i j ≡ false → k ≤ j - y → 8 - k ≤ j - y
 not_in_rows x y n k i j e d low = grind (arith, nat_tests)
 
-pub rows_down : (step : LineStep) (n k x y : ℕ) (p : Raster) (rs : List (List ℕ)) → length rs ≡ 8 → IsWhole p → x + n ≤ p.width → y + 8 ≤ p.height
+pub rows_horizontal : (step : LineStep) (n k x y : ℕ) (p : Raster) (rs : List (List ℕ)) → length rs ≡ 8 → IsWhole p → x + n ≤ p.width → y + 8 ≤ p.height
     → k ≤ 4 → KeepsEnds k step
-    → ((r c : ℕ) → r < 8 → c < n → get_or (get_or rs r []) c 0 ≡ pixel_at (stepped step (line_at down p (x + c) y)) r)
-    → with_block p x (y + k) n (length (slice_range rs k (8 - k))) (λ r c. get_or (get_or (slice_range rs k (8 - k)) r []) c 0) ≡ edge_lines down step n x y p
-rows_down step n k x y p rs long whole columns rows few keeps same =
+    → ((r c : ℕ) → r < 8 → c < n → get_or (get_or rs r []) c 0 ≡ pixel_at (stepped step (line_at horizontal p (x + c) y)) r)
+    → with_block p x (y + k) n (length (slice_range rs k (8 - k))) (λ r c. get_or (get_or (slice_range rs k (8 - k)) r []) c 0) ≡ edge_lines horizontal step n x y p
+rows_horizontal step n k x y p rs long whole columns rows few keeps same =
     let part : List (List ℕ) = slice_range rs k (8 - k) in
     let f : ℕ → ℕ → ℕ = λ r c. get_or (get_or rs r []) c 0 in
     let g : ℕ → ℕ → ℕ = λ r c. get_or (get_or part r []) c 0 in
@@ -110,15 +113,15 @@ rows_down step n k x y p rs long whole columns rows few keeps same =
     let right = here.1 in
     let low = here.2 in
     let high = here.3 in
-    let l = line_at down p (x + (i - x)) y in
+    let l = line_at horizontal p (x + (i - x)) y in
     let small : j - y < 8 = omega arith in
     let column : x + (i - x) ≡ i = omega arith in
     let line : y + (j - y) ≡ j = omega arith in
     same (j - y) (i - x) small (omega arith)
     ∙ (end_kept k step keeps l (j - y) small (not_in_rows x y n k i j e d)
-    ∙ (pixel_at-line_at down p (x + (i - x)) y (j - y) small
+    ∙ (pixel_at-line_at horizontal p (x + (i - x)) y (j - y) small
     ∙ (ap (λ (m : ℕ). pixel p m (y + (j - y))) column ∙ ap (λ (m : ℕ). pixel p i m) line))))
-    ∙ edge_down step n x y p f whole columns rows same)
+    ∙ edge_horizontal step n x y p f whole columns rows same)
 
 -- ---- the four columns at a vertical edge
 
@@ -128,12 +131,12 @@ not_in_columns x y n i j e d low = grind (arith, nat_tests)
 middle_pixel : (l : Line) (c : ℕ) → c < 4 → get_or (middle_of l) c 0 ≡ pixel_at l (2 + c)
 middle_pixel l = below_four (λ c. get_or (middle_of l) c 0 ≡ pixel_at l (2 + c)) refl refl refl refl
 
-pub middles_along : (step : LineStep) (n x y : ℕ) (p : Raster) (rs : List (List ℕ)) → length rs ≡ n → IsWhole p → x + 8 ≤ p.width → y + n ≤ p.height
+pub middles_vertical : (step : LineStep) (n x y : ℕ) (p : Raster) (rs : List (List ℕ)) → length rs ≡ n → IsWhole p → x + 8 ≤ p.width → y + n ≤ p.height
     → KeepsEnds 2 step
-    → ((r : ℕ) → r < n → get_or rs r [] ≡ middle_of (stepped step (line_at along p x (y + r))))
-    → with_block p (x + 2) y 4 (length rs) (λ r c. get_or (get_or rs r []) c 0) ≡ edge_lines along step n x y p
-middles_along step n x y p rs long whole columns rows keeps same =
-    let f : ℕ → ℕ → ℕ = λ r c. pixel_at (stepped step (line_at along p x (y + r))) c in
+    → ((r : ℕ) → r < n → get_or rs r [] ≡ middle_of (stepped step (line_at vertical p x (y + r))))
+    → with_block p (x + 2) y 4 (length rs) (λ r c. get_or (get_or rs r []) c 0) ≡ edge_lines vertical step n x y p
+middles_vertical step n x y p rs long whole columns rows keeps same =
+    let f : ℕ → ℕ → ℕ = λ r c. pixel_at (stepped step (line_at vertical p x (y + r))) c in
     let g : ℕ → ℕ → ℕ = λ r c. get_or (get_or rs r []) c 0 in
     ap (λ (m : ℕ). with_block p (x + 2) y 4 m g) long
     ∙ (kept_part p x y 8 n (x + 2) y 4 n f g (omega arith) (omega arith) (omega arith) (omega arith)
@@ -144,7 +147,7 @@ middles_along step n x y p rs long whole columns rows keeps same =
     let low = here.2 in
     let high = here.3 in
     let place : 2 + (i - (x + 2)) ≡ i - x = omega arith in
-    let l = stepped step (line_at along p x (y + (j - y))) in
+    let l = stepped step (line_at vertical p x (y + (j - y))) in
     ap (λ (v : List ℕ). get_or v (i - (x + 2)) 0) (same (j - y) (omega arith))
     ∙ (middle_pixel l (i - (x + 2)) (omega arith) ∙ ap (λ (m : ℕ). pixel_at l m) place))
     (λ i j e d.
@@ -152,11 +155,11 @@ middles_along step n x y p rs long whole columns rows keeps same =
     let left = here.0 in
     let right = here.1 in
     let low = here.2 in
-    let l = line_at along p x (y + (j - y)) in
+    let l = line_at vertical p x (y + (j - y)) in
     let small : i - x < 8 = omega arith in
     let column : x + (i - x) ≡ i = omega arith in
     let line : y + (j - y) ≡ j = omega arith in
     end_kept 2 step keeps l (i - x) small (not_in_columns x y n i j e d)
-    ∙ (pixel_at-line_at along p x (y + (j - y)) (i - x) small
+    ∙ (pixel_at-line_at vertical p x (y + (j - y)) (i - x) small
     ∙ (ap (λ (m : ℕ). pixel p m (y + (j - y))) column ∙ ap (λ (m : ℕ). pixel p i m) line)))
-    ∙ edge_along step n x y p f whole columns rows (λ r c h g. refl))
+    ∙ edge_vertical step n x y p f whole columns rows (λ r c h g. refl))

@@ -2,7 +2,6 @@ pub mod Shift
 pub mod FilterValueLemmas
 pub mod StillLemmas
 pub mod StepLemmas
-pub mod PlaneLemmas
 pub mod EdgeLemmas
 pub mod FrameLemmas
 pub mod LawLemmas
@@ -13,9 +12,9 @@ pub mod LaneLines
 pub mod NearLemmas
 pub mod TransposeLemmas
 pub mod ArrayLemmas
-pub mod Loads
 pub mod RowReads
 pub mod RowWrites
 pub mod WriteLemmas
 pub mod KeptLemmas
 pub mod LevelLemmas
+pub mod SentinelLemmas

@@ -1,10 +1,13 @@
 -- Work on different planes, and a macroblock plane by plane or edge by edge.
-use Rattle.std.proofs.Common.{◌≡◌, ℕ, ◌*◌, ◌==◌, Bool, true, false, cond, refl, arith}
+use Rattle.std.proofs.Common.{◌≡◌, ℕ, ◌*◌, ◌==◌, Bool, true, false, cond, Option, Some, None, refl, arith}
 use Rattle.std.proofs.lemmas.Bool.Decides.{nat_tests}
 use Rattle.vp_base.specs.Raster.{Raster}
 use Rattle.vp_base.specs.Image.{Image}
-use Rattle.vp_loop.specs.Edges.{along, down, block_edges, block_filtered}
-use Rattle.vp_loop.specs.Laws.{own_edge, edges_inside, PlanesCommute, EdgeByEdge}
+use Rattle.vp_loop.specs.declared.limits.EdgeLimits.{EdgeLimits}
+use Rattle.vp_loop.specs.declared.limits.FilterKind.{FilterKind}
+use Rattle.vp_loop.specs.declared.limits.FilterKind.TheVariants as filter_is
+use Rattle.vp_loop.specs.Edges.{edge_limits, chroma_limits, block_edges, block_filtered}
+use Rattle.vp_loop.specs.Laws.{filtered_by_edges, PlanesCommute, EdgeByEdge}
 
 -- plane 0 where a, 1 where only b, else 2
 abbrev look : Bool → Bool → Image → Raster
@@ -32,27 +35,21 @@ planes_commute j k f g p jin kin other = go (j == 0) (j == 1) (k == 0) (k == 1) 
 
 pub edge_by_edge : EdgeByEdge
 unfolding block_filtered block_edges
-edge_by_edge level column row p = go (level.edge == 0) (level.interior == 0)
+edge_by_edge level column row p = go (edge_limits level)
   where
-    stage : Bool → (ℕ → ℕ → ℕ → Raster → Raster) → Image → Image
-    stage simple f q = record q {
-      luma = f 16 (16 * column) (16 * row) q.luma;
-      u = cond simple q.u (f 8 (8 * column) (8 * row) q.u);
-      v = cond simple q.v (f 8 (8 * column) (8 * row) q.v);
-    }
-
-    block : ℕ → ℕ → ℕ → Raster → Raster
-    block size x y q =
-        edges_inside down level size x y (own_edge down level size x y (edges_inside along level size x y (own_edge along level size x y q)))
-
-    go : (edge simple : Bool)
-        → cond edge p (stage simple (edges_inside down level) (stage simple (own_edge down level) (stage simple (edges_inside along level) (stage simple (own_edge along level) p))))
-        ≡ record p {
-          luma = cond edge p.luma (block 16 (16 * column) (16 * row) p.luma);
-          u = cond simple p.u (cond edge p.u (block 8 (8 * column) (8 * row) p.u));
-          v = cond simple p.v (cond edge p.v (block 8 (8 * column) (8 * row) p.v));
+    by_kind : (kind : FilterKind) (limits : EdgeLimits) → let all = Some (record limits { kind = kind }) in
+        filtered_by_edges all column row p ≡ record p {
+          luma = block_filtered 16 all (16 * column) (16 * row) p.luma;
+          u = block_filtered 8 (chroma_limits all) (8 * column) (8 * row) p.u;
+          v = block_filtered 8 (chroma_limits all) (8 * column) (8 * row) p.v;
         }
-    go true true = refl
-    go true false = refl
-    go false true = refl
-    go false false = refl
+    by_kind filter_is.Simple limits = refl
+    by_kind filter_is.Normal limits = refl
+
+    go : (limits : Option EdgeLimits) → filtered_by_edges limits column row p ≡ record p {
+      luma = block_filtered 16 limits (16 * column) (16 * row) p.luma;
+      u = block_filtered 8 (chroma_limits limits) (8 * column) (8 * row) p.u;
+      v = block_filtered 8 (chroma_limits limits) (8 * column) (8 * row) p.v;
+    }
+    go None = refl
+    go (Some limits) = by_kind limits.kind limits

@@ -10,7 +10,7 @@ use Rattle.vp_loop.specs.declared.lines.LineStep.{LineStep}
 use Rattle.vp_loop.specs.declared.lines.EdgeKind.{EdgeKind}
 use Rattle.vp_loop.specs.declared.lines.EdgeKind.TheVariants.{Simple, Inner, Macroblock}
 use Rattle.vp_loop.specs.LineSteps.{is_changed, is_high, macroblock_edge_filtered, filtered_line, stepped}
-use Rattle.vp_loop.specs.Edges.{Way, along, down, columns_of, rows_of, line_at, pixels_of, pixel_at, line_step, edge_lines}
+use Rattle.vp_loop.specs.Edges.{Orientation, vertical, horizontal, columns_of, rows_of, line_at, pixels_of, pixel_at, line_step, edge_lines}
 
 -- ---- a line by its pixels
 
@@ -21,80 +21,80 @@ same_line l m all =
     λ i. record { p3 = e0 i; p2 = e1 i; p1 = e2 i; p0 = e3 i; q0 = e4 i; q1 = e5 i; q2 = e6 i; q3 = e7 i }
 
 -- pixel k of the line that begins at x y
-abbrev pub column_at : Way → ℕ → ℕ → ℕ
-column_at along x k = x + k
-column_at down x k = x
+abbrev pub column_at : Orientation → ℕ → ℕ → ℕ
+column_at vertical x k = x + k
+column_at horizontal x k = x
 
-abbrev pub row_at : Way → ℕ → ℕ → ℕ
-row_at along y k = y
-row_at down y k = y + k
+abbrev pub row_at : Orientation → ℕ → ℕ → ℕ
+row_at vertical y k = y
+row_at horizontal y k = y + k
 
-along_pixel : (p : Raster) (x y k : ℕ) → k < 8 → pixel_at (line_at along p x y) k ≡ pixel p (x + k) y
+vertical_pixel : (p : Raster) (x y k : ℕ) → k < 8 → pixel_at (line_at vertical p x y) k ≡ pixel p (x + k) y
 unfolding line_at
-along_pixel p x y zero h = ap (λ (n : ℕ). pixel p n y) (let z : x ≡ x + 0 = omega arith in z)
-along_pixel p x y (suc zero) h = refl
-along_pixel p x y (suc (suc zero)) h = refl
-along_pixel p x y (suc (suc (suc zero))) h = refl
-along_pixel p x y (suc (suc (suc (suc zero)))) h = refl
-along_pixel p x y (suc (suc (suc (suc (suc zero))))) h = refl
-along_pixel p x y (suc (suc (suc (suc (suc (suc zero)))))) h = refl
-along_pixel p x y (suc (suc (suc (suc (suc (suc (suc zero))))))) h = refl
-along_pixel p x y (suc (suc (suc (suc (suc (suc (suc (suc n)))))))) h = absurd (omega arith)
+vertical_pixel p x y zero h = ap (λ (n : ℕ). pixel p n y) (let z : x ≡ x + 0 = omega arith in z)
+vertical_pixel p x y (suc zero) h = refl
+vertical_pixel p x y (suc (suc zero)) h = refl
+vertical_pixel p x y (suc (suc (suc zero))) h = refl
+vertical_pixel p x y (suc (suc (suc (suc zero)))) h = refl
+vertical_pixel p x y (suc (suc (suc (suc (suc zero))))) h = refl
+vertical_pixel p x y (suc (suc (suc (suc (suc (suc zero)))))) h = refl
+vertical_pixel p x y (suc (suc (suc (suc (suc (suc (suc zero))))))) h = refl
+vertical_pixel p x y (suc (suc (suc (suc (suc (suc (suc (suc n)))))))) h = absurd (omega arith)
 
-down_pixel : (p : Raster) (x y k : ℕ) → k < 8 → pixel_at (line_at down p x y) k ≡ pixel p x (y + k)
+horizontal_pixel : (p : Raster) (x y k : ℕ) → k < 8 → pixel_at (line_at horizontal p x y) k ≡ pixel p x (y + k)
 unfolding line_at
-down_pixel p x y zero h = ap (λ (n : ℕ). pixel p x n) (let z : y ≡ y + 0 = omega arith in z)
-down_pixel p x y (suc zero) h = refl
-down_pixel p x y (suc (suc zero)) h = refl
-down_pixel p x y (suc (suc (suc zero))) h = refl
-down_pixel p x y (suc (suc (suc (suc zero)))) h = refl
-down_pixel p x y (suc (suc (suc (suc (suc zero))))) h = refl
-down_pixel p x y (suc (suc (suc (suc (suc (suc zero)))))) h = refl
-down_pixel p x y (suc (suc (suc (suc (suc (suc (suc zero))))))) h = refl
-down_pixel p x y (suc (suc (suc (suc (suc (suc (suc (suc n)))))))) h = absurd (omega arith)
+horizontal_pixel p x y zero h = ap (λ (n : ℕ). pixel p x n) (let z : y ≡ y + 0 = omega arith in z)
+horizontal_pixel p x y (suc zero) h = refl
+horizontal_pixel p x y (suc (suc zero)) h = refl
+horizontal_pixel p x y (suc (suc (suc zero))) h = refl
+horizontal_pixel p x y (suc (suc (suc (suc zero)))) h = refl
+horizontal_pixel p x y (suc (suc (suc (suc (suc zero))))) h = refl
+horizontal_pixel p x y (suc (suc (suc (suc (suc (suc zero)))))) h = refl
+horizontal_pixel p x y (suc (suc (suc (suc (suc (suc (suc zero))))))) h = refl
+horizontal_pixel p x y (suc (suc (suc (suc (suc (suc (suc (suc n)))))))) h = absurd (omega arith)
 
-pub pixel_at-line_at : (way : Way) (p : Raster) (x y k : ℕ) → k < 8 → pixel_at (line_at way p x y) k ≡ pixel p (column_at way x k) (row_at way y k)
-pixel_at-line_at along p x y k h = along_pixel p x y k h
-pixel_at-line_at down p x y k h = down_pixel p x y k h
+pub pixel_at-line_at : (orientation : Orientation) (p : Raster) (x y k : ℕ) → k < 8 → pixel_at (line_at orientation p x y) k ≡ pixel p (column_at orientation x k) (row_at orientation y k)
+pixel_at-line_at vertical p x y k h = vertical_pixel p x y k h
+pixel_at-line_at horizontal p x y k h = horizontal_pixel p x y k h
 
 -- a line lies within a plane
-abbrev pub Within : Way → ℕ → ℕ → Raster → Type 0
-Within way x y p = (x + columns_of way ≤ p.width) × (y + rows_of way ≤ p.height)
+abbrev pub Within : Orientation → ℕ → ℕ → Raster → Type 0
+Within orientation x y p = (x + columns_of orientation ≤ p.width) × (y + rows_of orientation ≤ p.height)
 
-in_line : (way : Way) (x y k : ℕ) → k < 8 → is_in_block x y (columns_of way) (rows_of way) (column_at way x k) (row_at way y k) ≡ true
-in_line along x y k h = grind (arith, nat_tests)
-in_line down x y k h = grind (arith, nat_tests)
+in_line : (orientation : Orientation) (x y k : ℕ) → k < 8 → is_in_block x y (columns_of orientation) (rows_of orientation) (column_at orientation x k) (row_at orientation y k) ≡ true
+in_line vertical x y k h = grind (arith, nat_tests)
+in_line horizontal x y k h = grind (arith, nat_tests)
 
-column_in : (way : Way) (x k w : ℕ) → k < 8 → x + columns_of way ≤ w → column_at way x k < w
-column_in along x k w h f = omega arith
-column_in down x k w h f = omega arith
+column_in : (orientation : Orientation) (x k w : ℕ) → k < 8 → x + columns_of orientation ≤ w → column_at orientation x k < w
+column_in vertical x k w h f = omega arith
+column_in horizontal x k w h f = omega arith
 
-row_in : (way : Way) (y k n : ℕ) → k < 8 → y + rows_of way ≤ n → row_at way y k < n
-row_in along y k n h f = omega arith
-row_in down y k n h f = omega arith
+row_in : (orientation : Orientation) (y k n : ℕ) → k < 8 → y + rows_of orientation ≤ n → row_at orientation y k < n
+row_in vertical y k n h f = omega arith
+row_in horizontal y k n h f = omega arith
 
 -- two planes of one size that agree on a line's pixels have that line
-pub line_at-same : (way : Way) (p q : Raster) (x y : ℕ) → Within way x y p
-    → ((i j : ℕ) → i < p.width → j < p.height → is_in_block x y (columns_of way) (rows_of way) i j ≡ true → pixel p i j ≡ pixel q i j)
-    → line_at way p x y ≡ line_at way q x y
-line_at-same way p q x y fits same =
-    same_line (line_at way p x y) (line_at way q x y) (λ k h.
-    pixel_at-line_at way p x y k h
-    ∙ (same (column_at way x k) (row_at way y k) (column_in way x k p.width h fits.0) (row_in way y k p.height h fits.1) (in_line way x y k h)
-    ∙ sym (pixel_at-line_at way q x y k h)))
+pub line_at-same : (orientation : Orientation) (p q : Raster) (x y : ℕ) → Within orientation x y p
+    → ((i j : ℕ) → i < p.width → j < p.height → is_in_block x y (columns_of orientation) (rows_of orientation) i j ≡ true → pixel p i j ≡ pixel q i j)
+    → line_at orientation p x y ≡ line_at orientation q x y
+line_at-same orientation p q x y fits same =
+    same_line (line_at orientation p x y) (line_at orientation q x y) (λ k h.
+    pixel_at-line_at orientation p x y k h
+    ∙ (same (column_at orientation x k) (row_at orientation y k) (column_in orientation x k p.width h fits.0) (row_in orientation y k p.height h fits.1) (in_line orientation x y k h)
+    ∙ sym (pixel_at-line_at orientation q x y k h)))
 
-pub pixel-line_step : (way : Way) (step : LineStep) (x y : ℕ) (p : Raster) (i j : ℕ) → i < p.width → j < p.height
-    → pixel (line_step way step x y p) i j
-    ≡ cond (is_in_block x y (columns_of way) (rows_of way) i j) (pixel_at (stepped step (line_at way p x y)) ((j - y) + (i - x))) (pixel p i j)
-pixel-line_step way step x y p i j iin jin =
-    pixel-with_block p x y (columns_of way) (rows_of way) (λ r c. pixel_at (stepped step (line_at way p x y)) (r + c)) i j iin jin
+pub pixel-line_step : (orientation : Orientation) (step : LineStep) (x y : ℕ) (p : Raster) (i j : ℕ) → i < p.width → j < p.height
+    → pixel (line_step orientation step x y p) i j
+    ≡ cond (is_in_block x y (columns_of orientation) (rows_of orientation) i j) (pixel_at (stepped step (line_at orientation p x y)) ((j - y) + (i - x))) (pixel p i j)
+pixel-line_step orientation step x y p i j iin jin =
+    pixel-with_block p x y (columns_of orientation) (rows_of orientation) (λ r c. pixel_at (stepped step (line_at orientation p x y)) (r + c)) i j iin jin
 
 -- ---- lines along a row are written as a run
 
-pub line_step-along : (step : LineStep) (x y : ℕ) (p : Raster) → IsWhole p → x + 8 ≤ p.width → y < p.height
-    → with_run p x y (pixels_of (stepped step (line_at along p x y))) ≡ line_step along step x y p
-line_step-along step x y p whole fits yin =
-    let l = stepped step (line_at along p x y) in
+pub line_step-vertical : (step : LineStep) (x y : ℕ) (p : Raster) → IsWhole p → x + 8 ≤ p.width → y < p.height
+    → with_run p x y (pixels_of (stepped step (line_at vertical p x y))) ≡ line_step vertical step x y p
+line_step-vertical step x y p whole fits yin =
+    let l = stepped step (line_at vertical p x y) in
     let f = λ (r c : ℕ). pixel_at l (r + c) in
     let none = with_block_none p x y 8 f whole in
     let start : y + 0 ≡ y = omega arith in
@@ -104,62 +104,54 @@ line_step-along step x y p whole fits yin =
 
 -- ---- the lines of an edge
 
-pub edge_lines-none : (way : Way) (step : LineStep) (x y : ℕ) (p : Raster) → edge_lines way step 0 x y p ≡ p
+pub edge_lines-none : (orientation : Orientation) (step : LineStep) (x y : ℕ) (p : Raster) → edge_lines orientation step 0 x y p ≡ p
 unfolding edge_lines
-edge_lines-none along step x y p = over-none (λ j. line_step along step x (y + j)) p
-edge_lines-none down step x y p = over-none (λ j. line_step down step (x + j) y) p
+edge_lines-none vertical step x y p = over-none (λ j. line_step vertical step x (y + j)) p
+edge_lines-none horizontal step x y p = over-none (λ j. line_step horizontal step (x + j) y) p
 
-pub edge_lines-along : (step : LineStep) (n x y : ℕ) (p : Raster) → line_step along step x (y + n) (edge_lines along step n x y p) ≡ edge_lines along step (n + 1) x y p
+pub edge_lines-vertical : (step : LineStep) (n x y : ℕ) (p : Raster) → line_step vertical step x (y + n) (edge_lines vertical step n x y p) ≡ edge_lines vertical step (n + 1) x y p
 unfolding edge_lines
-edge_lines-along step n x y p = sym (over-more n (λ j. line_step along step x (y + j)) p)
+edge_lines-vertical step n x y p = sym (over-more n (λ j. line_step vertical step x (y + j)) p)
 
-pub edge_lines-down : (step : LineStep) (n x y : ℕ) (p : Raster) → line_step down step (x + n) y (edge_lines down step n x y p) ≡ edge_lines down step (n + 1) x y p
+pub edge_lines-horizontal : (step : LineStep) (n x y : ℕ) (p : Raster) → line_step horizontal step (x + n) y (edge_lines horizontal step n x y p) ≡ edge_lines horizontal step (n + 1) x y p
 unfolding edge_lines
-edge_lines-down step n x y p = sym (over-more n (λ j. line_step down step (x + j) y) p)
+edge_lines-horizontal step n x y p = sym (over-more n (λ j. line_step horizontal step (x + j) y) p)
 
-pub width-edge_lines : (way : Way) (step : LineStep) (n x y : ℕ) (p : Raster) → (edge_lines way step n x y p).width ≡ p.width
+pub width-edge_lines : (orientation : Orientation) (step : LineStep) (n x y : ℕ) (p : Raster) → (edge_lines orientation step n x y p).width ≡ p.width
 unfolding edge_lines
-width-edge_lines along step n x y p = over-kept (λ (q : Raster). q.width) n (λ j. line_step along step x (y + j)) p (λ k b. refl)
-width-edge_lines down step n x y p = over-kept (λ (q : Raster). q.width) n (λ j. line_step down step (x + j) y) p (λ k b. refl)
+width-edge_lines vertical step n x y p = over-kept (λ (q : Raster). q.width) n (λ j. line_step vertical step x (y + j)) p (λ k b. refl)
+width-edge_lines horizontal step n x y p = over-kept (λ (q : Raster). q.width) n (λ j. line_step horizontal step (x + j) y) p (λ k b. refl)
 
-pub height-edge_lines : (way : Way) (step : LineStep) (n x y : ℕ) (p : Raster) → (edge_lines way step n x y p).height ≡ p.height
+pub height-edge_lines : (orientation : Orientation) (step : LineStep) (n x y : ℕ) (p : Raster) → (edge_lines orientation step n x y p).height ≡ p.height
 unfolding edge_lines
-height-edge_lines along step n x y p = over-kept (λ (q : Raster). q.height) n (λ j. line_step along step x (y + j)) p (λ k b. refl)
-height-edge_lines down step n x y p = over-kept (λ (q : Raster). q.height) n (λ j. line_step down step (x + j) y) p (λ k b. refl)
+height-edge_lines vertical step n x y p = over-kept (λ (q : Raster). q.height) n (λ j. line_step vertical step x (y + j)) p (λ k b. refl)
+height-edge_lines horizontal step n x y p = over-kept (λ (q : Raster). q.height) n (λ j. line_step horizontal step (x + j) y) p (λ k b. refl)
 
-pub IsWhole-line_step : (way : Way) (step : LineStep) (x y : ℕ) (p : Raster) → IsWhole (line_step way step x y p)
-IsWhole-line_step way step x y p =
-    IsWhole-with_block p x y (columns_of way) (rows_of way) (λ r c. pixel_at (stepped step (line_at way p x y)) (r + c))
+pub IsWhole-line_step : (orientation : Orientation) (step : LineStep) (x y : ℕ) (p : Raster) → IsWhole (line_step orientation step x y p)
+IsWhole-line_step orientation step x y p =
+    IsWhole-with_block p x y (columns_of orientation) (rows_of orientation) (λ r c. pixel_at (stepped step (line_at orientation p x y)) (r + c))
 
 -- ---- a line that the mask leaves as it is
 
-pub stepped-changed : (step : LineStep) (l : Line) → is_changed step l ≡ true → stepped step l ≡ filtered_line step l
-unfolding stepped
-stepped-changed step l e = ap (λ (b : Bool). cond b (filtered_line step l) l) e
-
-pub stepped-kept : (step : LineStep) (l : Line) → is_changed step l ≡ false → stepped step l ≡ l
-unfolding stepped
-stepped-kept step l e = ap (λ (b : Bool). cond b (filtered_line step l) l) e
-
-in_along : (x y i j : ℕ) → is_in_block x y 8 1 i j ≡ true → (j ≡ y) × (x ≤ i) × (i < x + 8)
-in_along x y i j e = grind (arith, nat_tests)
+in_vertical : (x y i j : ℕ) → is_in_block x y 8 1 i j ≡ true → (j ≡ y) × (x ≤ i) × (i < x + 8)
+in_vertical x y i j e = grind (arith, nat_tests)
 
 own_pixel : (p : Raster) (x y i j : ℕ) (t : Bool) → is_in_block x y 8 1 i j ≡ t
-    → cond t (pixel_at (line_at along p x y) ((j - y) + (i - x))) (pixel p i j) ≡ pixel p i j
+    → cond t (pixel_at (line_at vertical p x y) ((j - y) + (i - x))) (pixel p i j) ≡ pixel p i j
 own_pixel p x y i j true e =
-    let here = in_along x y i j e in
+    let here = in_vertical x y i j e in
     let row : y ≡ j = sym here.0 in
     let left = here.1 in
     let right = here.2 in
-    pixel_at-line_at along p x y ((j - y) + (i - x)) (omega arith)
+    pixel_at-line_at vertical p x y ((j - y) + (i - x)) (omega arith)
     ∙ (ap (λ (n : ℕ). pixel p n y) (let column : x + ((j - y) + (i - x)) ≡ i = omega arith in column)
     ∙ ap (λ (m : ℕ). pixel p i m) row)
 own_pixel p x y i j false e = refl
 
-pub line_step-kept : (step : LineStep) (x y : ℕ) (p : Raster) → IsWhole p → stepped step (line_at along p x y) ≡ line_at along p x y → line_step along step x y p ≡ p
+pub line_step-kept : (step : LineStep) (x y : ℕ) (p : Raster) → IsWhole p → stepped step (line_at vertical p x y) ≡ line_at vertical p x y → line_step vertical step x y p ≡ p
 line_step-kept step x y p whole same =
-    same_raster (line_step along step x y p) p refl refl (IsWhole-line_step along step x y p) whole (λ i j iin jin.
-    pixel-line_step along step x y p i j iin jin
+    same_raster (line_step vertical step x y p) p refl refl (IsWhole-line_step vertical step x y p) whole (λ i j iin jin.
+    pixel-line_step vertical step x y p i j iin jin
     ∙ (ap (λ (l : Line). cond (is_in_block x y 8 1 i j) (pixel_at l ((j - y) + (i - x))) (pixel p i j)) same
     ∙ own_pixel p x y i j (is_in_block x y 8 1 i j) refl))
 
@@ -167,26 +159,7 @@ line_step-kept step x y p whole same =
 
 -- the first h rows of n lines that stand side by side
 unfoldable pub rows_written : LineStep → ℕ → ℕ → ℕ → ℕ → Raster → Raster
-rows_written step n x y h p = with_block p x y n h (λ r c. pixel_at (stepped step (line_at down p (x + c) y)) r)
-
-pub rows_written-none : (step : LineStep) (n x y : ℕ) (p : Raster) → IsWhole p → rows_written step n x y 0 p ≡ p
-unfolding rows_written
-rows_written-none step n x y p whole = with_block_none p x y n (λ r c. pixel_at (stepped step (line_at down p (x + c) y)) r) whole
-
-pub rows_written-more : (step : LineStep) (n x y h : ℕ) (p : Raster) (vs : List ℕ) → x + n ≤ p.width → y + h < p.height → length vs ≡ n
-    → ((c : ℕ) → c < n → get_or vs c 0 ≡ pixel_at (stepped step (line_at down p (x + c) y)) h)
-    → with_run (rows_written step n x y h p) x (y + h) vs ≡ rows_written step n x y (h + 1) p
-unfolding rows_written
-rows_written-more step n x y h p vs fits yfits long row =
-    with_block_more p x y n h (λ r c. pixel_at (stepped step (line_at down p (x + c) y)) r) vs fits yfits long row
-
-pub width-rows_written : (step : LineStep) (n x y h : ℕ) (p : Raster) → (rows_written step n x y h p).width ≡ p.width
-unfolding rows_written
-width-rows_written step n x y h p = refl
-
-pub height-rows_written : (step : LineStep) (n x y h : ℕ) (p : Raster) → (rows_written step n x y h p).height ≡ p.height
-unfolding rows_written
-height-rows_written step n x y h p = refl
+rows_written step n x y h p = with_block p x y n h (λ r c. pixel_at (stepped step (line_at horizontal p (x + c) y)) r)
 
 -- ---- no step changes the pixels at the ends of a line
 
@@ -218,7 +191,7 @@ in_other_row x y n h i j e = grind (arith, nat_tests)
 -- a row that the steps keep need not be written
 module _ (step : LineStep) (n x y h : ℕ) (p : Raster) (small : h < 8) (same : (l : Line) → pixel_at (stepped step l) h ≡ pixel_at l h) where
   abbrev written : ℕ → ℕ → ℕ
-  written i j = pixel_at (stepped step (line_at down p (x + (i - x)) y)) (j - y)
+  written i j = pixel_at (stepped step (line_at horizontal p (x + (i - x)) y)) (j - y)
 
   kept_pixel : (i j : ℕ) (t : Bool) → is_in_block x (y + h) n 1 i j ≡ t
       → cond (is_in_block x y n (h + 1) i j) (written i j) (pixel p i j) ≡ cond (is_in_block x y n h i j) (written i j) (pixel p i j)
@@ -226,11 +199,11 @@ module _ (step : LineStep) (n x y h : ℕ) (p : Raster) (small : h < 8) (same : 
       let here = in_last_row x y n h i j e in
       let row : j ≡ y + h = here.0 in
       let left = here.1 in
-      let l = line_at down p (x + (i - x)) y in
+      let l = line_at horizontal p (x + (i - x)) y in
       let own : written i j ≡ pixel p i j =
       ap (λ (k : ℕ). pixel_at (stepped step l) k) (let place : j - y ≡ h = omega arith in place)
       ∙ (same l
-      ∙ (pixel_at-line_at down p (x + (i - x)) y h small
+      ∙ (pixel_at-line_at horizontal p (x + (i - x)) y h small
       ∙ (ap (λ (m : ℕ). pixel p m (y + h)) (let column : x + (i - x) ≡ i = omega arith in column)
       ∙ ap (λ (m : ℕ). pixel p i m) (sym row)))) in
       ap (λ (t : Bool). cond t (written i j) (pixel p i j)) here.2
@@ -240,17 +213,11 @@ module _ (step : LineStep) (n x y h : ℕ) (p : Raster) (small : h < 8) (same : 
   row_kept : rows_written step n x y (h + 1) p ≡ rows_written step n x y h p
   unfolding rows_written
   row_kept =
-      let f = λ (r c : ℕ). pixel_at (stepped step (line_at down p (x + c) y)) r in
+      let f = λ (r c : ℕ). pixel_at (stepped step (line_at horizontal p (x + c) y)) r in
       same_raster (with_block p x y n (h + 1) f) (with_block p x y n h f) refl refl
       (IsWhole-with_block p x y n (h + 1) f) (IsWhole-with_block p x y n h f) (λ i j iin jin.
       pixel-with_block p x y n (h + 1) f i j iin jin
       ∙ (kept_pixel i j (is_in_block x (y + h) n 1 i j) refl ∙ sym (pixel-with_block p x y n h f i j iin jin)))
-
-pub rows_written-first : (step : LineStep) (n x y : ℕ) (p : Raster) → IsWhole p → rows_written step n x y 1 p ≡ p
-rows_written-first step n x y p whole = row_kept step n x y 0 p (omega arith) (λ l. (stepped_ends step l).0) ∙ rows_written-none step n x y p whole
-
-pub rows_written-last : (step : LineStep) (n x y : ℕ) (p : Raster) → rows_written step n x y 8 p ≡ rows_written step n x y 7 p
-rows_written-last step n x y p = row_kept step n x y 7 p (omega arith) (λ l. (stepped_ends step l).1)
 
 in_last_column : (x y n i j : ℕ) → is_in_block (x + n) y 1 8 i j ≡ true → (i ≡ x + n) × (is_in_block x y (suc n) 8 i j ≡ true)
 in_last_column x y n i j e = grind (arith, nat_tests)
@@ -267,47 +234,47 @@ not_before_last x y n i j e = grind (arith, nat_tests)
 -- one line more
 module _ (step : LineStep) (x y n : ℕ) (p : Raster) where
   abbrev f : ℕ → ℕ → ℕ
-  f r c = pixel_at (stepped step (line_at down p (x + c) y)) r
+  f r c = pixel_at (stepped step (line_at horizontal p (x + c) y)) r
 
   abbrev b : Raster
   b = with_block p x y n 8 f
 
-  own_line : x + suc n ≤ p.width → y + 8 ≤ p.height → line_at down b (x + n) y ≡ line_at down p (x + n) y
+  own_line : x + suc n ≤ p.width → y + 8 ≤ p.height → line_at horizontal b (x + n) y ≡ line_at horizontal p (x + n) y
   own_line fits high =
-      line_at-same down b p (x + n) y (omega arith, high) (λ i j iin jin here.
+      line_at-same horizontal b p (x + n) y (omega arith, high) (λ i j iin jin here.
       pixel-with_block p x y n 8 f i j iin jin
       ∙ ap (λ (t : Bool). cond t (f (j - y) (i - x)) (pixel p i j)) (not_before_last x y n i j here))
 
   column_pixel : x + suc n ≤ p.width → y + 8 ≤ p.height → (i j : ℕ) → i < p.width → j < p.height
       → (t : Bool) → is_in_block (x + n) y 1 8 i j ≡ t
-      → cond t (pixel_at (stepped step (line_at down b (x + n) y)) ((j - y) + (i - (x + n)))) (pixel b i j) ≡ cond (is_in_block x y (suc n) 8 i j) (f (j - y) (i - x)) (pixel p i j)
+      → cond t (pixel_at (stepped step (line_at horizontal b (x + n) y)) ((j - y) + (i - (x + n)))) (pixel b i j) ≡ cond (is_in_block x y (suc n) 8 i j) (f (j - y) (i - x)) (pixel p i j)
   column_pixel fits high i j iin jin true e =
       let here = in_last_column x y n i j e in
       let same : i ≡ x + n = here.0 in
       let place : (j - y) + (i - (x + n)) ≡ j - y = omega arith in
       let column : x + n ≡ x + (i - x) = omega arith in
-      ap (λ (l : Line). pixel_at (stepped step l) ((j - y) + (i - (x + n)))) (own_line fits high ∙ ap (λ (c : ℕ). line_at down p c y) column)
-      ∙ (ap (λ (k : ℕ). pixel_at (stepped step (line_at down p (x + (i - x)) y)) k) place
+      ap (λ (l : Line). pixel_at (stepped step l) ((j - y) + (i - (x + n)))) (own_line fits high ∙ ap (λ (c : ℕ). line_at horizontal p c y) column)
+      ∙ (ap (λ (k : ℕ). pixel_at (stepped step (line_at horizontal p (x + (i - x)) y)) k) place
       ∙ ap (λ (t : Bool). cond t (f (j - y) (i - x)) (pixel p i j)) (sym here.1))
   column_pixel fits high i j iin jin false e =
       pixel-with_block p x y n 8 f i j iin jin
       ∙ ap (λ (t : Bool). cond t (f (j - y) (i - x)) (pixel p i j)) (sym (in_other_column x y n i j e))
 
-  one_column : x + suc n ≤ p.width → y + 8 ≤ p.height → with_block p x y (suc n) 8 f ≡ line_step down step (x + n) y b
+  one_column : x + suc n ≤ p.width → y + 8 ≤ p.height → with_block p x y (suc n) 8 f ≡ line_step horizontal step (x + n) y b
   one_column fits high =
-      same_raster (with_block p x y (suc n) 8 f) (line_step down step (x + n) y b) refl refl
-      (IsWhole-with_block p x y (suc n) 8 f) (IsWhole-line_step down step (x + n) y b) (λ i j iin jin.
+      same_raster (with_block p x y (suc n) 8 f) (line_step horizontal step (x + n) y b) refl refl
+      (IsWhole-with_block p x y (suc n) 8 f) (IsWhole-line_step horizontal step (x + n) y b) (λ i j iin jin.
       pixel-with_block p x y (suc n) 8 f i j iin jin
-      ∙ sym (pixel-line_step down step (x + n) y b i j iin jin ∙ column_pixel fits high i j iin jin (is_in_block (x + n) y 1 8 i j) refl))
+      ∙ sym (pixel-line_step horizontal step (x + n) y b i j iin jin ∙ column_pixel fits high i j iin jin (is_in_block (x + n) y 1 8 i j) refl))
 
-pub rows_written-all : (step : LineStep) (n x y : ℕ) (p : Raster) → IsWhole p → x + n ≤ p.width → y + 8 ≤ p.height → rows_written step n x y 8 p ≡ edge_lines down step n x y p
+pub rows_written-all : (step : LineStep) (n x y : ℕ) (p : Raster) → IsWhole p → x + n ≤ p.width → y + 8 ≤ p.height → rows_written step n x y 8 p ≡ edge_lines horizontal step n x y p
 unfolding rows_written
 rows_written-all step zero x y p whole fits high =
-    let f = λ (r c : ℕ). pixel_at (stepped step (line_at down p (x + c) y)) r in
+    let f = λ (r c : ℕ). pixel_at (stepped step (line_at horizontal p (x + c) y)) r in
     same_raster (with_block p x y 0 8 f) p refl refl (IsWhole-with_block p x y 0 8 f) whole (λ i j iin jin.
     pixel-with_block p x y 0 8 f i j iin jin ∙ ap (λ (t : Bool). cond t (f (j - y) (i - x)) (pixel p i j)) (in_no_column x y i j))
-    ∙ sym (edge_lines-none down step x y p)
+    ∙ sym (edge_lines-none horizontal step x y p)
 rows_written-all step (suc n) x y p whole fits high =
     one_column step x y n p fits high
-    ∙ (ap (line_step down step (x + n) y) (rows_written-all step n x y p whole (omega arith) high)
-    ∙ (edge_lines-down step n x y p ∙ ap (λ (m : ℕ). edge_lines down step m x y p) (let e : n + 1 ≡ suc n = omega arith in e)))
+    ∙ (ap (line_step horizontal step (x + n) y) (rows_written-all step n x y p whole (omega arith) high)
+    ∙ (edge_lines-horizontal step n x y p ∙ ap (λ (m : ℕ). edge_lines horizontal step m x y p) (let e : n + 1 ≡ suc n = omega arith in e)))

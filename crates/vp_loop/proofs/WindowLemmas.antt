@@ -11,11 +11,11 @@ use Rattle.vp_loop.specs.declared.lines.Line.{Line}
 use Rattle.vp_loop.specs.declared.lines.LineStep.{LineStep}
 use Rattle.vp_loop.specs.declared.strength.Level.{Level}
 use Rattle.vp_loop.specs.LineSteps.{stepped}
-use Rattle.vp_loop.specs.Edges.{Way, along, down, columns_of, rows_of, line_at, pixel_at, line_step, block_filtered}
-use Rattle.vp_loop.specs.Filtered.{colour_filtered, macroblock_filtered, row_filtered}
+use Rattle.vp_loop.specs.Edges.{edge_limits, chroma_limits, Orientation, vertical, horizontal, columns_of, rows_of, line_at, pixel_at, line_step, block_filtered}
+use Rattle.vp_loop.specs.Filtered.{macroblock_filtered, row_filtered}
 use Rattle.vp_loop.specs.Laws.{RowKeepsBelow, RowReadsAbove, RowKeepsAbove, RowKeepsSize, RowKeepsAligned, RowKeepsWhole}
 use Rattle.vp_loop.proofs.StepLemmas.{pixel-line_step, line_at-same, pixel_at-line_at, stepped_ends, IsWhole-line_step}
-use Rattle.vp_loop.proofs.BandLemmas.{reach, IsInBand, holds-over, holds-block, holds-colour}
+use Rattle.vp_loop.proofs.BandLemmas.{reach, IsInBand, holds-over, holds-block}
 use Rattle.vp_loop.proofs.FrameLemmas.{first_macroblocks, row_filtered-all, Sizes, sizes-row_filtered, aligned-sizes}
 
 -- a plane of w columns and h rows
@@ -65,65 +65,65 @@ module _ (w h k : ℕ) where
   }
 
   -- one line step
-  outside_below : (way : Way) (x y i j : ℕ) → y + rows_of way ≤ k → k ≤ j → is_in_block x y (columns_of way) (rows_of way) i j ≡ false
-  outside_below along x y i j fits below = grind (arith, nat_tests)
-  outside_below down x y i j fits below = grind (arith, nat_tests)
+  outside_below : (orientation : Orientation) (x y i j : ℕ) → y + rows_of orientation ≤ k → k ≤ j → is_in_block x y (columns_of orientation) (rows_of orientation) i j ≡ false
+  outside_below vertical x y i j fits below = grind (arith, nat_tests)
+  outside_below horizontal x y i j fits below = grind (arith, nat_tests)
 
-  row_of_line : (way : Way) (x y i j : ℕ) → y + rows_of way ≤ k → is_in_block x y (columns_of way) (rows_of way) i j ≡ true → j < k
-  row_of_line along x y i j fits e = grind (arith, nat_tests)
-  row_of_line down x y i j fits e = grind (arith, nat_tests)
+  row_of_line : (orientation : Orientation) (x y i j : ℕ) → y + rows_of orientation ≤ k → is_in_block x y (columns_of orientation) (rows_of orientation) i j ≡ true → j < k
+  row_of_line vertical x y i j fits e = grind (arith, nat_tests)
+  row_of_line horizontal x y i j fits e = grind (arith, nat_tests)
 
-  above-line : (way : Way) (step : LineStep) (x y : ℕ) → k ≤ h → x + columns_of way ≤ w → y + rows_of way ≤ k → IsAbove w h k (λ p. line_step way step x y p)
-  above-line way step x y low columns rows = record {
+  above-line : (orientation : Orientation) (step : LineStep) (x y : ℕ) → k ≤ h → x + columns_of orientation ≤ w → y + rows_of orientation ≤ k → IsAbove w h k (λ p. line_step orientation step x y p)
+  above-line orientation step x y low columns rows = record {
     sized = λ p s. s;
     keeps = λ p s i j a b c.
-        pixel-line_step way step x y p i j (omega arith) (omega arith)
-        ∙ ap (λ (t : Bool). cond t (pixel_at (stepped step (line_at way p x y)) ((j - y) + (i - x))) (pixel p i j)) (outside_below way x y i j rows b);
+        pixel-line_step orientation step x y p i j (omega arith) (omega arith)
+        ∙ ap (λ (t : Bool). cond t (pixel_at (stepped step (line_at orientation p x y)) ((j - y) + (i - x))) (pixel p i j)) (outside_below orientation x y i j rows b);
     reads = λ p q s t e i j a b.
         let n : ℕ = (j - y) + (i - x) in
-        let in_line : Bool = is_in_block x y (columns_of way) (rows_of way) i j in
-        let line : line_at way p x y ≡ line_at way q x y =
-        line_at-same way p q x y (omega arith, omega arith) (λ u v uin vin here. e u v (omega arith) (row_of_line way x y u v rows here)) in
-        pixel-line_step way step x y p i j (omega arith) (omega arith)
+        let in_line : Bool = is_in_block x y (columns_of orientation) (rows_of orientation) i j in
+        let line : line_at orientation p x y ≡ line_at orientation q x y =
+        line_at-same orientation p q x y (omega arith, omega arith) (λ u v uin vin here. e u v (omega arith) (row_of_line orientation x y u v rows here)) in
+        pixel-line_step orientation step x y p i j (omega arith) (omega arith)
         ∙ (ap (λ (l : Line). cond in_line (pixel_at (stepped step l) n) (pixel p i j)) line
-        ∙ (ap (λ (m : ℕ). cond in_line (pixel_at (stepped step (line_at way q x y)) n) m) (e i j a b)
-        ∙ sym (pixel-line_step way step x y q i j (omega arith) (omega arith))));
+        ∙ (ap (λ (m : ℕ). cond in_line (pixel_at (stepped step (line_at orientation q x y)) n) m) (e i j a b)
+        ∙ sym (pixel-line_step orientation step x y q i j (omega arith) (omega arith))));
   }
 
 -- a pixel above a line along a row, or in the first row of a line down a column, stays as it is
-above_along : (x y i j : ℕ) → j < y → is_in_block x y 8 1 i j ≡ false
-above_along x y i j h = grind (arith, nat_tests)
+above_vertical : (x y i j : ℕ) → j < y → is_in_block x y 8 1 i j ≡ false
+above_vertical x y i j h = grind (arith, nat_tests)
 
-above_down : (x y i j : ℕ) → j < y + 1 → is_in_block x y 1 8 i j ≡ true → (i ≡ x) × (j ≡ y)
-above_down x y i j h e = grind (arith, nat_tests)
+above_horizontal : (x y i j : ℕ) → j < y + 1 → is_in_block x y 1 8 i j ≡ true → (i ≡ x) × (j ≡ y)
+above_horizontal x y i j h e = grind (arith, nat_tests)
 
 first_kept : (step : LineStep) (x y : ℕ) (p : Raster) (i j : ℕ) (t : Bool) → is_in_block x y 1 8 i j ≡ t → j < y + 1
-    → cond t (pixel_at (stepped step (line_at down p x y)) ((j - y) + (i - x))) (pixel p i j) ≡ pixel p i j
+    → cond t (pixel_at (stepped step (line_at horizontal p x y)) ((j - y) + (i - x))) (pixel p i j) ≡ pixel p i j
 first_kept step x y p i j true e h =
-    let here = above_down x y i j h e in
+    let here = above_horizontal x y i j h e in
     let column : i ≡ x = here.0 in
     let row : j ≡ y = here.1 in
-    let l = line_at down p x y in
+    let l = line_at horizontal p x y in
     ap (λ (n : ℕ). pixel_at (stepped step l) n) (let first : (j - y) + (i - x) ≡ 0 = omega arith in first)
     ∙ ((stepped_ends step l).0
-    ∙ (pixel_at-line_at down p x y 0 (omega arith)
+    ∙ (pixel_at-line_at horizontal p x y 0 (omega arith)
     ∙ (ap (λ (m : ℕ). pixel p x m) (let start : y + 0 ≡ j = omega arith in start)
     ∙ ap (λ (m : ℕ). pixel p m j) (sym column))))
 first_kept step x y p i j false e h = refl
 
-line_kept : (way : Way) (step : LineStep) (x y top : ℕ) (p : Raster) (i j : ℕ) → top ≤ y + reach way → i < p.width → j < p.height → j < top - 3
-    → pixel (line_step way step x y p) i j ≡ pixel p i j
-line_kept along step x y top p i j begins iin jin above =
-    pixel-line_step along step x y p i j iin jin
-    ∙ ap (λ (t : Bool). cond t (pixel_at (stepped step (line_at along p x y)) ((j - y) + (i - x))) (pixel p i j)) (above_along x y i j (omega arith))
-line_kept down step x y top p i j begins iin jin above =
-    pixel-line_step down step x y p i j iin jin
+line_kept : (orientation : Orientation) (step : LineStep) (x y top : ℕ) (p : Raster) (i j : ℕ) → top ≤ y + reach orientation → i < p.width → j < p.height → j < top - 3
+    → pixel (line_step orientation step x y p) i j ≡ pixel p i j
+line_kept vertical step x y top p i j begins iin jin above =
+    pixel-line_step vertical step x y p i j iin jin
+    ∙ ap (λ (t : Bool). cond t (pixel_at (stepped step (line_at vertical p x y)) ((j - y) + (i - x))) (pixel p i j)) (above_vertical x y i j (omega arith))
+line_kept horizontal step x y top p i j begins iin jin above =
+    pixel-line_step horizontal step x y p i j iin jin
     ∙ first_kept step x y p i j (is_in_block x y 1 8 i j) refl (omega arith)
 
-from-line : (w h top : ℕ) (way : Way) (step : LineStep) (x y : ℕ) → top ≤ y + reach way → IsFrom w h (top - 3) (λ p. line_step way step x y p)
-from-line w h top way step x y begins = record {
+from-line : (w h top : ℕ) (orientation : Orientation) (step : LineStep) (x y : ℕ) → top ≤ y + reach orientation → IsFrom w h (top - 3) (λ p. line_step orientation step x y p)
+from-line w h top orientation step x y begins = record {
   sized = λ p s. s;
-  keeps = λ p s i j a b c. line_kept way step x y top p i j begins (omega arith) (omega arith) b;
+  keeps = λ p s i j a b c. line_kept orientation step x y top p i j begins (omega arith) (omega arith) b;
 }
 
 -- ---- a row of macroblocks, plane by plane
@@ -139,10 +139,10 @@ module _ (level : Place → Level) (row : ℕ) where
   own column = level (record { column = column; row = row })
 
   abbrev luma_step : ℕ → Raster → Raster
-  luma_step column = block_filtered 16 (own column) (16 * column) (16 * row)
+  luma_step column = block_filtered 16 (edge_limits (own column)) (16 * column) (16 * row)
 
-  abbrev colour_step : ℕ → Raster → Raster
-  colour_step column = colour_filtered (own column) (8 * column) (8 * row)
+  abbrev chroma_step : ℕ → Raster → Raster
+  chroma_step column = block_filtered 8 (chroma_limits (edge_limits (own column))) (8 * column) (8 * row)
 
   luma-row : (p : Image) → (row_filtered level row p).luma ≡ over (macroblocks p.width) luma_step p.luma
   unfolding first_macroblocks
@@ -150,31 +150,31 @@ module _ (level : Place → Level) (row : ℕ) where
       ap (λ (q : Image). q.luma) (sym (row_filtered-all level row p))
       ∙ over-look (λ (q : Image). q.luma) (macroblocks p.width) (λ column. macroblock_filtered (own column) column row) luma_step p (λ k q. refl)
 
-  u-row : (p : Image) → (row_filtered level row p).u ≡ over (macroblocks p.width) colour_step p.u
+  u-row : (p : Image) → (row_filtered level row p).u ≡ over (macroblocks p.width) chroma_step p.u
   unfolding first_macroblocks
   u-row p =
       ap (λ (q : Image). q.u) (sym (row_filtered-all level row p))
-      ∙ over-look (λ (q : Image). q.u) (macroblocks p.width) (λ column. macroblock_filtered (own column) column row) colour_step p (λ k q. refl)
+      ∙ over-look (λ (q : Image). q.u) (macroblocks p.width) (λ column. macroblock_filtered (own column) column row) chroma_step p (λ k q. refl)
 
-  v-row : (p : Image) → (row_filtered level row p).v ≡ over (macroblocks p.width) colour_step p.v
+  v-row : (p : Image) → (row_filtered level row p).v ≡ over (macroblocks p.width) chroma_step p.v
   unfolding first_macroblocks
   v-row p =
       ap (λ (q : Image). q.v) (sym (row_filtered-all level row p))
-      ∙ over-look (λ (q : Image). q.v) (macroblocks p.width) (λ column. macroblock_filtered (own column) column row) colour_step p (λ k q. refl)
+      ∙ over-look (λ (q : Image). q.v) (macroblocks p.width) (λ column. macroblock_filtered (own column) column row) chroma_step p (λ k q. refl)
 
   module _ (P : (Raster → Raster) → Type 0) (same : P (λ p. p)) (next : (f g : Raster → Raster) → P f → P g → P (λ p. g (f p))) where
-    holds-luma : (cols : ℕ) → ((way : Way) (step : LineStep) (x y : ℕ) → IsInBand (16 * cols) (16 * row) (16 * (row + 1)) way x y → P (λ p. line_step way step x y p))
+    holds-luma : (cols : ℕ) → ((orientation : Orientation) (step : LineStep) (x y : ℕ) → IsInBand (16 * cols) (16 * row) (16 * (row + 1)) orientation x y → P (λ p. line_step orientation step x y p))
         → P (λ p. over cols luma_step p)
     holds-luma cols line =
         holds-over P same next cols luma_step (λ m left.
-        holds-block P same next (16 * cols) (16 * row) (16 * (row + 1)) line 16 (own m) (16 * m) (16 * row)
+        holds-block P same next (16 * cols) (16 * row) (16 * (row + 1)) line 16 (edge_limits (own m)) (16 * m) (16 * row)
         (record { big = omega arith; left = λ e. omega arith; high = λ e. omega arith; columns = omega arith; rows = omega arith; begins = omega arith }))
 
-    holds-colours : (cols : ℕ) → ((way : Way) (step : LineStep) (x y : ℕ) → IsInBand (8 * cols) (8 * row) (8 * (row + 1)) way x y → P (λ p. line_step way step x y p))
-        → P (λ p. over cols colour_step p)
-    holds-colours cols line =
-        holds-over P same next cols colour_step (λ m left.
-        holds-colour P same next (8 * cols) (8 * row) (8 * (row + 1)) line (own m) (8 * m) (8 * row)
+    holds-chroma : (cols : ℕ) → ((orientation : Orientation) (step : LineStep) (x y : ℕ) → IsInBand (8 * cols) (8 * row) (8 * (row + 1)) orientation x y → P (λ p. line_step orientation step x y p))
+        → P (λ p. over cols chroma_step p)
+    holds-chroma cols line =
+        holds-over P same next cols chroma_step (λ m left.
+        holds-block P same next (8 * cols) (8 * row) (8 * (row + 1)) line 8 (chroma_limits (edge_limits (own m))) (8 * m) (8 * row)
         (record { big = omega arith; left = λ e. omega arith; high = λ e. omega arith; columns = omega arith; rows = omega arith; begins = omega arith }))
 
   above-luma : (cols rows : ℕ) → row < rows → IsAbove (16 * cols) (16 * rows) (16 * (row + 1)) (λ p. over cols luma_step p)
@@ -182,34 +182,34 @@ module _ (level : Place → Level) (row : ℕ) where
       let w = 16 * cols in
       let h = 16 * rows in
       let k = 16 * (row + 1) in
-      holds-luma (IsAbove w h k) (above-same w h k) (above-then w h k) cols (λ way step x y b. above-line w h k way step x y (omega arith) b.columns b.rows)
+      holds-luma (IsAbove w h k) (above-same w h k) (above-then w h k) cols (λ orientation step x y b. above-line w h k orientation step x y (omega arith) b.columns b.rows)
 
-  above-colours : (cols rows : ℕ) → row < rows → IsAbove (8 * cols) (8 * rows) (8 * (row + 1)) (λ p. over cols colour_step p)
-  above-colours cols rows below =
+  above-chroma : (cols rows : ℕ) → row < rows → IsAbove (8 * cols) (8 * rows) (8 * (row + 1)) (λ p. over cols chroma_step p)
+  above-chroma cols rows below =
       let w = 8 * cols in
       let h = 8 * rows in
       let k = 8 * (row + 1) in
-      holds-colours (IsAbove w h k) (above-same w h k) (above-then w h k) cols (λ way step x y b. above-line w h k way step x y (omega arith) b.columns b.rows)
+      holds-chroma (IsAbove w h k) (above-same w h k) (above-then w h k) cols (λ orientation step x y b. above-line w h k orientation step x y (omega arith) b.columns b.rows)
 
   from-luma : (cols rows : ℕ) → IsFrom (16 * cols) (16 * rows) (16 * row - 3) (λ p. over cols luma_step p)
   from-luma cols rows =
       let w = 16 * cols in
       let h = 16 * rows in
       let k = 16 * row - 3 in
-      holds-luma (IsFrom w h k) (from-same w h k) (from-then w h k) cols (λ way step x y b. from-line w h (16 * row) way step x y b.begins)
+      holds-luma (IsFrom w h k) (from-same w h k) (from-then w h k) cols (λ orientation step x y b. from-line w h (16 * row) orientation step x y b.begins)
 
-  from-colours : (cols rows : ℕ) → IsFrom (8 * cols) (8 * rows) (8 * row - 3) (λ p. over cols colour_step p)
-  from-colours cols rows =
+  from-chroma : (cols rows : ℕ) → IsFrom (8 * cols) (8 * rows) (8 * row - 3) (λ p. over cols chroma_step p)
+  from-chroma cols rows =
       let w = 8 * cols in
       let h = 8 * rows in
       let k = 8 * row - 3 in
-      holds-colours (IsFrom w h k) (from-same w h k) (from-then w h k) cols (λ way step x y b. from-line w h (8 * row) way step x y b.begins)
+      holds-chroma (IsFrom w h k) (from-same w h k) (from-then w h k) cols (λ orientation step x y b. from-line w h (8 * row) orientation step x y b.begins)
 
   whole-luma : (cols : ℕ) → KeepsWhole (λ p. over cols luma_step p)
-  whole-luma cols = holds-luma KeepsWhole whole-same whole-then cols (λ way step x y b p e. IsWhole-line_step way step x y p)
+  whole-luma cols = holds-luma KeepsWhole whole-same whole-then cols (λ orientation step x y b p e. IsWhole-line_step orientation step x y p)
 
-  whole-colours : (cols : ℕ) → KeepsWhole (λ p. over cols colour_step p)
-  whole-colours cols = holds-colours KeepsWhole whole-same whole-then cols (λ way step x y b p e. IsWhole-line_step way step x y p)
+  whole-chroma : (cols : ℕ) → KeepsWhole (λ p. over cols chroma_step p)
+  whole-chroma cols = holds-chroma KeepsWhole whole-same whole-then cols (λ orientation step x y b p e. IsWhole-line_step orientation step x y p)
 
 -- what is so of each plane's pixels
 kept_below : (w h k : ℕ) (f : Raster → Raster) (p r : Raster) → IsAbove w h k f → Sized w h p → r ≡ f p → IsSameFrom k r p
@@ -239,8 +239,8 @@ row_keeps level row p aligned below =
     let rows = macroblocks p.height in
     record {
       luma = kept_below (16 * cols) (16 * rows) (16 * (row + 1)) (over cols (luma_step level row)) p.luma (row_filtered level row p).luma (above-luma level row cols rows below) aligned.0 (luma-row level row p);
-      u = kept_below (8 * cols) (8 * rows) (8 * (row + 1)) (over cols (colour_step level row)) p.u (row_filtered level row p).u (above-colours level row cols rows below) aligned.1 (u-row level row p);
-      v = kept_below (8 * cols) (8 * rows) (8 * (row + 1)) (over cols (colour_step level row)) p.v (row_filtered level row p).v (above-colours level row cols rows below) aligned.2 (v-row level row p);
+      u = kept_below (8 * cols) (8 * rows) (8 * (row + 1)) (over cols (chroma_step level row)) p.u (row_filtered level row p).u (above-chroma level row cols rows below) aligned.1 (u-row level row p);
+      v = kept_below (8 * cols) (8 * rows) (8 * (row + 1)) (over cols (chroma_step level row)) p.v (row_filtered level row p).v (above-chroma level row cols rows below) aligned.2 (v-row level row p);
     }
 
 pub row_final : RowKeepsAbove
@@ -249,8 +249,8 @@ row_final level row p aligned below =
     let rows = macroblocks p.height in
     record {
       luma = kept_above (16 * cols) (16 * rows) (16 * row - 3) (over cols (luma_step level row)) p.luma (row_filtered level row p).luma (from-luma level row cols rows) aligned.0 (luma-row level row p);
-      u = kept_above (8 * cols) (8 * rows) (8 * row - 3) (over cols (colour_step level row)) p.u (row_filtered level row p).u (from-colours level row cols rows) aligned.1 (u-row level row p);
-      v = kept_above (8 * cols) (8 * rows) (8 * row - 3) (over cols (colour_step level row)) p.v (row_filtered level row p).v (from-colours level row cols rows) aligned.2 (v-row level row p);
+      u = kept_above (8 * cols) (8 * rows) (8 * row - 3) (over cols (chroma_step level row)) p.u (row_filtered level row p).u (from-chroma level row cols rows) aligned.1 (u-row level row p);
+      v = kept_above (8 * cols) (8 * rows) (8 * row - 3) (over cols (chroma_step level row)) p.v (row_filtered level row p).v (from-chroma level row cols rows) aligned.2 (v-row level row p);
     }
 
 same_cols : (w n : ℕ) (f : ℕ → Raster → Raster) (p r : Raster) → w ≡ n → r ≡ over (macroblocks n) f p → r ≡ over (macroblocks w) f p
@@ -272,10 +272,10 @@ row_reads level row p q aligned other size below same =
     record {
       luma = read_above (16 * cols) (16 * rows) (16 * (row + 1)) (over cols (luma_step level row)) p.luma q.luma p'.luma q'.luma low (above-luma level row cols rows below)
           aligned.0 (same_size 16 p.width p.height q.width q.height q.luma wide high other.0) (luma-row level row p) (same_cols p.width q.width (luma_step level row) q.luma q'.luma wide (luma-row level row q)) same.luma;
-      u = read_above (8 * cols) (8 * rows) (8 * (row + 1)) (over cols (colour_step level row)) p.u q.u p'.u q'.u low' (above-colours level row cols rows below)
-          aligned.1 (same_size 8 p.width p.height q.width q.height q.u wide high other.1) (u-row level row p) (same_cols p.width q.width (colour_step level row) q.u q'.u wide (u-row level row q)) same.u;
-      v = read_above (8 * cols) (8 * rows) (8 * (row + 1)) (over cols (colour_step level row)) p.v q.v p'.v q'.v low' (above-colours level row cols rows below)
-          aligned.2 (same_size 8 p.width p.height q.width q.height q.v wide high other.2) (v-row level row p) (same_cols p.width q.width (colour_step level row) q.v q'.v wide (v-row level row q)) same.v;
+      u = read_above (8 * cols) (8 * rows) (8 * (row + 1)) (over cols (chroma_step level row)) p.u q.u p'.u q'.u low' (above-chroma level row cols rows below)
+          aligned.1 (same_size 8 p.width p.height q.width q.height q.u wide high other.1) (u-row level row p) (same_cols p.width q.width (chroma_step level row) q.u q'.u wide (u-row level row q)) same.u;
+      v = read_above (8 * cols) (8 * rows) (8 * (row + 1)) (over cols (chroma_step level row)) p.v q.v p'.v q'.v low' (above-chroma level row cols rows below)
+          aligned.2 (same_size 8 p.width p.height q.width q.height q.v wide high other.2) (v-row level row p) (same_cols p.width q.width (chroma_step level row) q.v q'.v wide (v-row level row q)) same.v;
     }
 
 pub row_size : RowKeepsSize
@@ -290,6 +290,6 @@ pub row_whole : RowKeepsWhole
 row_whole level row p whole =
     let cols = macroblocks p.width in (
       subst IsWhole (sym (luma-row level row p)) (whole-luma level row cols p.luma whole.0),
-      subst IsWhole (sym (u-row level row p)) (whole-colours level row cols p.u whole.1),
-      subst IsWhole (sym (v-row level row p)) (whole-colours level row cols p.v whole.2),
+      subst IsWhole (sym (u-row level row p)) (whole-chroma level row cols p.u whole.1),
+      subst IsWhole (sym (v-row level row p)) (whole-chroma level row cols p.v whole.2),
     )

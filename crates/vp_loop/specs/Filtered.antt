@@ -1,24 +1,20 @@
 -- The filtered picture (RFC 6386, chapter 15.1): the line steps of all macroblocks in raster order, each with its own
 -- level. Pinned by the test `filter_two_macroblocks`, and streams of other encoders in the gate.
-use Rattle.std.specs.Prelude.{ℕ, List, ◌+◌, ◌*◌, ◌==◌, slice_index_or, if◌then◌else◌}
+use Rattle.std.specs.Prelude.{ℕ, List, ◌+◌, ◌*◌, slice_index_or}
 use Rattle.vp_base.specs.declared.place.Place.{Place}
 use Rattle.vp_base.specs.Raster.{Raster}
 use Rattle.vp_base.specs.Image.{Image, macroblocks}
 use Rattle.vp_base.specs.Over.{over}
 use Rattle.vp_loop.specs.declared.strength.Level.{Level}
 use Rattle.vp_loop.specs.Levels.{no_level}
-use Rattle.vp_loop.specs.Edges.{block_filtered}
-
--- the chroma of a macroblock; the simple filter does not filter it
-abbrev pub colour_filtered : Level → ℕ → ℕ → Raster → Raster
-colour_filtered level x y p = if level.interior == 0 then p else block_filtered 8 level x y p
+use Rattle.vp_loop.specs.Edges.{edge_limits, chroma_limits, block_filtered}
 
 -- the filtered macroblock, plane by plane
 abbrev pub macroblock_filtered : Level → ℕ → ℕ → Image → Image
 macroblock_filtered level column row p = record p {
-  luma = block_filtered 16 level (16 * column) (16 * row) p.luma;
-  u = colour_filtered level (8 * column) (8 * row) p.u;
-  v = colour_filtered level (8 * column) (8 * row) p.v;
+  luma = block_filtered 16 (edge_limits level) (16 * column) (16 * row) p.luma;
+  u = block_filtered 8 (chroma_limits (edge_limits level)) (8 * column) (8 * row) p.u;
+  v = block_filtered 8 (chroma_limits (edge_limits level)) (8 * column) (8 * row) p.v;
 }
 
 -- a row of macroblocks, from left to right

@@ -48,8 +48,8 @@ abbrev pub middle_of : Line → List ℕ
 middle_of l = l.p1 ∷ l.p0 ∷ l.q0 ∷ l.q1 ∷ []
 
 -- the line down a column of a list with rows of stride numbers, from index i on
-abbrev pub line_down : List ℕ → ℕ → ℕ → Line
-line_down ps i stride = record {
+abbrev pub line_in_column : List ℕ → ℕ → ℕ → Line
+line_in_column ps i stride = record {
   p3 = slice_index ps i;
   p2 = slice_index ps (i + stride);
   p1 = slice_index ps (i + 2 * stride);

@@ -1,31 +1,34 @@
 -- The laws of the loop filter (RFC 6386, chapter 15.1): which steps commute, which rows a step reads and changes, and
 -- filtering by planes or by edges.
-use Rattle.std.specs.Prelude.{ℕ, ◌≡◌, ◌+◌, ◌-◌, ◌*◌, ◌≤◌, ◌<◌, ◌==◌, nat_lt, Bool, ◌&&◌, if◌then◌else◌}
+use Rattle.std.specs.Prelude.{ℕ, ◌≡◌, ◌+◌, ◌-◌, ◌*◌, ◌≤◌, ◌<◌, nat_lt, Bool, ◌&&◌, Option, Some, None}
 use Rattle.vp_base.specs.declared.place.Place.{Place}
 use Rattle.vp_base.specs.Raster.{Raster}
 use Rattle.vp_base.specs.Block.{is_in_block, with_block, IsWhole}
 use Rattle.vp_base.specs.Image.{Image, macroblocks, IsAligned, AreWhole}
 use Rattle.vp_base.specs.Rows.{AreSameAbove, AreSameFrom, AreOneSize}
 use Rattle.vp_loop.specs.declared.lines.LineStep.{LineStep}
+use Rattle.vp_loop.specs.declared.limits.EdgeLimits.{EdgeLimits}
+use Rattle.vp_loop.specs.declared.limits.FilterKind.{FilterKind}
+use Rattle.vp_loop.specs.declared.limits.FilterKind.TheVariants as filter_is
 use Rattle.vp_loop.specs.declared.strength.Level.{Level}
 use Rattle.vp_loop.specs.LineSteps.{stepped}
-use Rattle.vp_loop.specs.Edges.{Way, along, down, columns_of, rows_of, line_at, pixel_at, line_step, edge_lines}
-use Rattle.vp_loop.specs.Edges.{outer_step, inner_step, apply_if, inner_edges, on_plane}
+use Rattle.vp_loop.specs.Edges.{Orientation, vertical, horizontal, columns_of, rows_of, line_at, pixel_at, line_step}
+use Rattle.vp_loop.specs.Edges.{edge_lines, edge_limits, outer_step, apply_if, edges_inside, on_plane}
 use Rattle.vp_loop.specs.Filtered.{macroblock_filtered, row_filtered}
 
--- a line of a plane: its direction, and the column and row at which it begins
+-- a line of a plane: the orientation of the edge that it crosses, and the column and row at which it begins
 pub record PlaneLine : Type 0 where
-  pub way : Way
+  pub orientation : Orientation
   pub x : ℕ
   pub y : ℕ
 
 -- whether the pixel at column i of row j is one of the line's eight
 abbrev pub has_pixel : PlaneLine → ℕ → ℕ → Bool
-has_pixel l i j = is_in_block l.x l.y (columns_of l.way) (rows_of l.way) i j
+has_pixel l i j = is_in_block l.x l.y (columns_of l.orientation) (rows_of l.orientation) i j
 
 -- the line is inside the plane
 abbrev pub IsLineWithin : PlaneLine → Raster → Type 0
-IsLineWithin l p = (l.x + columns_of l.way ≤ p.width) × (l.y + rows_of l.way ≤ p.height)
+IsLineWithin l p = (l.x + columns_of l.orientation ≤ p.width) × (l.y + rows_of l.orientation ≤ p.height)
 
 -- no pixel is in both lines
 abbrev pub SharesNoPixel : PlaneLine → PlaneLine → Type 0
@@ -33,7 +36,7 @@ SharesNoPixel l m = (i j : ℕ) → (has_pixel l i j && has_pixel m i j) ≡ Boo
 
 -- one line step
 abbrev pub step_of : LineStep → PlaneLine → Raster → Raster
-step_of step l p = line_step l.way step l.x l.y p
+step_of step l p = line_step l.orientation step l.x l.y p
 
 -- Line steps that share no pixel commute.
 abbrev pub DisjointStepsCommute : Type 0
@@ -83,44 +86,43 @@ PlanesCommute =
     (j k : ℕ) (f g : Raster → Raster) (p : Image) → j < 3 → k < 3 → ¬ (j ≡ k)
     → on_plane j f (on_plane k g p) ≡ on_plane k g (on_plane j f p)
 
--- the left or top edge of a macroblock, unless the plane begins there, and the edges of that direction inside it
-abbrev pub own_edge : Way → Level → ℕ → ℕ → ℕ → Raster → Raster
-own_edge along level size x y = apply_if (nat_lt 0 x) (edge_lines along (outer_step level) size (x - 4) y)
-own_edge down level size x y = apply_if (nat_lt 0 y) (edge_lines down (outer_step level) size x (y - 4))
-
-abbrev pub edges_inside : Way → Level → ℕ → ℕ → ℕ → Raster → Raster
-edges_inside way level size x y = apply_if (nat_lt 0 level.inner) (inner_edges way (inner_step level) size x y)
+-- the left or top edge of a macroblock, unless the plane begins there
+abbrev pub own_edge : Orientation → EdgeLimits → ℕ → ℕ → ℕ → Raster → Raster
+own_edge vertical limits size x y = apply_if (nat_lt 0 x) (edge_lines vertical (outer_step limits) size (x - 4) y)
+own_edge horizontal limits size x y = apply_if (nat_lt 0 y) (edge_lines horizontal (outer_step limits) size x (y - 4))
 
 -- f applied to a macroblock's luma and, except in the simple filter, to both chroma planes
-abbrev pub in_planes : Level → (ℕ → ℕ → ℕ → Raster → Raster) → ℕ → ℕ → Image → Image
-in_planes level f column row p = record p {
+abbrev pub in_planes : FilterKind → (ℕ → ℕ → ℕ → Raster → Raster) → ℕ → ℕ → Image → Image
+in_planes filter_is.Simple f column row p = record p { luma = f 16 (16 * column) (16 * row) p.luma }
+in_planes filter_is.Normal f column row p = record p {
   luma = f 16 (16 * column) (16 * row) p.luma;
-  u = if level.interior == 0 then p.u else f 8 (8 * column) (8 * row) p.u;
-  v = if level.interior == 0 then p.v else f 8 (8 * column) (8 * row) p.v;
+  u = f 8 (8 * column) (8 * row) p.u;
+  v = f 8 (8 * column) (8 * row) p.v;
 }
 
 -- a macroblock filtered in the order of chapter 15.1: for all planes the left edge, the vertical edges inside, the top
 -- edge, then the horizontal edges inside
-abbrev pub filtered_by_edges : Level → ℕ → ℕ → Image → Image
-filtered_by_edges level column row p =
-    if level.edge == 0 then p
-    else in_planes level (edges_inside down level) column row
-    (in_planes level (own_edge down level) column row
-    (in_planes level (edges_inside along level) column row
-    (in_planes level (own_edge along level) column row p)))
+abbrev pub filtered_by_edges : Option EdgeLimits → ℕ → ℕ → Image → Image
+filtered_by_edges None column row p = p
+filtered_by_edges (Some limits) column row p =
+    in_planes limits.kind (edges_inside horizontal limits) column row
+    (in_planes limits.kind (own_edge horizontal limits) column row
+    (in_planes limits.kind (edges_inside vertical limits) column row
+    (in_planes limits.kind (own_edge vertical limits) column row p)))
 
 -- Filtering edge by edge gives the same result as plane by plane.
 abbrev pub EdgeByEdge : Type 0
 EdgeByEdge =
     (level : Level) (column row : ℕ) (p : Image)
-    → filtered_by_edges level column row p ≡ macroblock_filtered level column row p
+    → filtered_by_edges (edge_limits level) column row p ≡ macroblock_filtered level column row p
 
 -- The lines of an edge may be filtered at once, each from the plane before any of them.
 abbrev pub EdgesAtOnce : Type 0
 EdgesAtOnce =
     (step : LineStep) (n x y : ℕ) (p : Raster) → IsWhole p
     → (x + 8 ≤ p.width → y + n ≤ p.height
-    → edge_lines along step n x y p ≡ with_block p x y 8 n (λ r c. pixel_at
-    (stepped step (line_at along p x (y + r))) c))
+    → edge_lines vertical step n x y p ≡ with_block p x y 8 n (λ r c. pixel_at
+    (stepped step (line_at vertical p x (y + r))) c))
     × (x + n ≤ p.width → y + 8 ≤ p.height
-    → edge_lines down step n x y p ≡ with_block p x y n 8 (λ r c. pixel_at (stepped step (line_at down p (x + c) y)) r))
+    → edge_lines horizontal step n x y p ≡ with_block p x y n 8 (λ r c. pixel_at
+    (stepped step (line_at horizontal p (x + c) y)) r))

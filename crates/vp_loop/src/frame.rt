@@ -2,10 +2,11 @@
 
 ghost use Rattle.std.specs.Prelude.{◌≡◌, ℕ, ◌+◌, ◌*◌, ◌/◌, ◌<◌, ◌≤◌, length};
 ghost use Rattle.vp_base.specs.Image.{Image, macroblocks, plane_of, with_plane};
-ghost use Rattle.vp_loop.specs.Edges.{block_filtered, on_luma, on_colours};
+ghost use Rattle.vp_loop.specs.Edges.{edge_limits, chroma_limits, block_filtered, on_luma, on_chroma};
 ghost use Rattle.vp_loop.specs.Filtered.{macroblock_filtered, row_filtered, filtered, level_in};
 
-use crate::edges::{filter_colours, filter_luma};
+use crate::edges::{filter_chroma, filter_luma};
+use crate::limits::{EdgeLimits, FilterKind};
 use crate::strength::Level;
 use vp_base::Picture;
 
@@ -17,9 +18,14 @@ fn filter_macroblock(picture: &mut Picture, level: Level, column: usize, row: us
     ensures { picture.new ≡ macroblock_filtered level column row picture.old }
 {
     let _known = picture.dim();
-    filter_luma(picture, 16 * column, 16 * row, level);
-    if level.interior > 0 {
-        filter_colours(picture, 8 * column, 8 * row, level);
+    let limits = match EdgeLimits::of(level) {
+        None => return,
+        Some(limits) => limits,
+    };
+    filter_luma(picture, 16 * column, 16 * row, limits);
+    match limits.kind {
+        FilterKind::Simple => {}
+        FilterKind::Normal => filter_chroma(picture, 8 * column, 8 * row, limits),
     }
 }
 

@@ -6,6 +6,7 @@ mod frame;
 mod lanes;
 mod laws;
 mod level_table;
+mod limits;
 mod lines;
 mod store;
 mod strength;

@@ -1,10 +1,11 @@
-//! Loading lines: lines along rows are transposed to lanes and back, lines down columns need no transpose.
+//! Loading the lines of an edge: those of a vertical edge are transposed to lanes and back, those of a horizontal edge
+//! need no transpose.
 
 ghost use Rattle.std.specs.Prelude.{◌≡◌, ℕ, ◌+◌, ◌*◌, ◌-◌, ◌≤◌, ◌<◌, List, [], ◌∷◌, length, slice_index};
 ghost use Rattle.std.specs.Prelude.{slice_index_or};
 ghost use Rattle.std.specs.Simd.Lanes.{chunk};
-ghost use Rattle.vp_loop.specs.Edges.{along, down, line_at, pixel_at};
-ghost use Rattle.vp_loop.specs.Lanes.{line_of, line_in, line_down};
+ghost use Rattle.vp_loop.specs.Edges.{vertical, horizontal, line_at, pixel_at};
+ghost use Rattle.vp_loop.specs.Lanes.{line_of, line_in, line_in_column};
 
 use crate::lanes::Lines;
 use std::simd::prelude::*;
@@ -184,12 +185,12 @@ fn eight_of_both(u: &[u8], u_at: usize, v: &[u8], v_at: usize) -> u8x16
     )
 }
 
-/// Loads sixteen lines down columns, the first from index `at` on. Rows are `stride` apart: each index is the previous
-/// one plus `stride`.
+/// Loads the sixteen lines of a horizontal edge, the first from index `at` on. Rows are `stride` apart: each index is
+/// the previous one plus `stride`.
 #[inline(always)]
-fn rows_down(pixels: &[u8], at: usize, stride: usize) -> Lines
+fn rows_horizontal(pixels: &[u8], at: usize, stride: usize) -> Lines
     requires room { at + 7 * stride + 16 ≤ length pixels.now }
-    ensures { (c : ℕ) → c < 16 → line_of result c ≡ line_down pixels.now (at + c) stride }
+    ensures { (c : ℕ) → c < 16 → line_of result c ≡ line_in_column pixels.now (at + c) stride }
 {
     let a1 = at + stride;
     let a2 = a1 + stride;
@@ -210,9 +211,9 @@ fn rows_down(pixels: &[u8], at: usize, stride: usize) -> Lines
     }
 }
 
-/// Loads eight lines down columns of one plane, followed by eight of the other.
+/// Loads the lines of a horizontal edge: eight of one plane, followed by eight of the other.
 #[inline(always)]
-fn rows_down_both(
+fn load_rows_horizontal_chroma(
     u: &[u8],
     u_at: usize,
     u_stride: usize,
@@ -222,8 +223,8 @@ fn rows_down_both(
 ) -> Lines
     requires u_room { u_at + 7 * u_stride + 8 ≤ length u.now }
     requires v_room { v_at + 7 * v_stride + 8 ≤ length v.now }
-    ensures first { (c : ℕ) → c < 8 → line_of result c ≡ line_down u.now (u_at + c) u_stride }
-    ensures second { (c : ℕ) → c < 8 → line_of result (8 + c) ≡ line_down v.now (v_at + c) v_stride }
+    ensures first { (c : ℕ) → c < 8 → line_of result c ≡ line_in_column u.now (u_at + c) u_stride }
+    ensures second { (c : ℕ) → c < 8 → line_of result (8 + c) ≡ line_in_column v.now (v_at + c) v_stride }
 {
     let u1 = u_at + u_stride;
     let u2 = u1 + u_stride;
@@ -251,9 +252,9 @@ fn rows_down_both(
     }
 }
 
-/// Loads sixteen lines along rows, the first from index `at` on.
+/// Loads the sixteen lines of a vertical edge, the first from index `at` on.
 #[inline(always)]
-fn rows_along(pixels: &[u8], at: usize, stride: usize) -> Lines
+fn rows_vertical(pixels: &[u8], at: usize, stride: usize) -> Lines
     requires room { at + 15 * stride + 8 ≤ length pixels.now }
     ensures { (j : ℕ) → j < 16 → line_of result j ≡ line_in (chunk (at + j * stride) 8 pixels.now) }
 {
@@ -292,9 +293,9 @@ fn rows_along(pixels: &[u8], at: usize, stride: usize) -> Lines
     ])
 }
 
-/// Loads eight lines along rows of one plane, followed by eight of the other.
+/// Loads the lines of a vertical edge: eight of one plane, followed by eight of the other.
 #[inline(always)]
-fn rows_along_both(
+fn load_rows_vertical_chroma(
     u: &[u8],
     u_at: usize,
     u_stride: usize,
@@ -341,60 +342,60 @@ fn rows_along_both(
     ])
 }
 
-/// Loads the sixteen lines down columns `x` to `x + 15`, from row `y` on.
+/// Loads the sixteen lines of a horizontal edge, in columns `x` to `x + 15`, from row `y` on.
 #[inline(always)]
-pub(crate) fn lines_down(plane: &Plane, x: usize, y: usize) -> Lines
+pub(crate) fn load_horizontal_edge(plane: &Plane, x: usize, y: usize) -> Lines
     requires columns { x + 16 ≤ plane.now.width }
     requires rows { y + 8 ≤ plane.now.height }
-    ensures { (c : ℕ) → c < 16 → line_of result c ≡ line_at down plane.now (x + c) y }
+    ensures { (c : ℕ) → c < 16 → line_of result c ≡ line_at horizontal plane.now (x + c) y }
 {
     let _known = plane.height();
     let stride = plane.width();
-    rows_down(plane.pixels(), y * stride + x, stride)
+    rows_horizontal(plane.pixels(), y * stride + x, stride)
 }
 
-/// Loads eight lines down columns of one plane, followed by eight of the other.
+/// Loads the lines of a horizontal edge: eight of one plane, followed by eight of the other.
 #[inline(always)]
-pub(crate) fn lines_down_both(u: &Plane, v: &Plane, x: usize, y: usize) -> Lines
+pub(crate) fn load_horizontal_chroma_edge(u: &Plane, v: &Plane, x: usize, y: usize) -> Lines
     requires u_columns { x + 8 ≤ u.now.width }
     requires u_rows { y + 8 ≤ u.now.height }
     requires v_columns { x + 8 ≤ v.now.width }
     requires v_rows { y + 8 ≤ v.now.height }
-    ensures first { (c : ℕ) → c < 8 → line_of result c ≡ line_at down u.now (x + c) y }
-    ensures second { (c : ℕ) → c < 8 → line_of result (8 + c) ≡ line_at down v.now (x + c) y }
+    ensures first { (c : ℕ) → c < 8 → line_of result c ≡ line_at horizontal u.now (x + c) y }
+    ensures second { (c : ℕ) → c < 8 → line_of result (8 + c) ≡ line_at horizontal v.now (x + c) y }
 {
     let _known = u.height();
     let _known = v.height();
     let us = u.width();
     let vs = v.width();
-    rows_down_both(u.pixels(), y * us + x, us, v.pixels(), y * vs + x, vs)
+    load_rows_horizontal_chroma(u.pixels(), y * us + x, us, v.pixels(), y * vs + x, vs)
 }
 
-/// Loads the sixteen lines along rows `y` to `y + 15`, from column `x` on.
+/// Loads the sixteen lines of a vertical edge, in rows `y` to `y + 15`, from column `x` on.
 #[inline(always)]
-pub(crate) fn lines_along(plane: &Plane, x: usize, y: usize) -> Lines
+pub(crate) fn load_vertical_edge(plane: &Plane, x: usize, y: usize) -> Lines
     requires columns { x + 8 ≤ plane.now.width }
     requires rows { y + 16 ≤ plane.now.height }
-    ensures { (j : ℕ) → j < 16 → line_of result j ≡ line_at along plane.now x (y + j) }
+    ensures { (j : ℕ) → j < 16 → line_of result j ≡ line_at vertical plane.now x (y + j) }
 {
     let _known = plane.height();
     let stride = plane.width();
-    rows_along(plane.pixels(), y * stride + x, stride)
+    rows_vertical(plane.pixels(), y * stride + x, stride)
 }
 
-/// Loads eight lines along rows of one plane, followed by eight of the other.
+/// Loads the lines of a vertical edge: eight of one plane, followed by eight of the other.
 #[inline(always)]
-pub(crate) fn lines_along_both(u: &Plane, v: &Plane, x: usize, y: usize) -> Lines
+pub(crate) fn load_vertical_chroma_edge(u: &Plane, v: &Plane, x: usize, y: usize) -> Lines
     requires u_columns { x + 8 ≤ u.now.width }
     requires u_rows { y + 8 ≤ u.now.height }
     requires v_columns { x + 8 ≤ v.now.width }
     requires v_rows { y + 8 ≤ v.now.height }
-    ensures first { (j : ℕ) → j < 8 → line_of result j ≡ line_at along u.now x (y + j) }
-    ensures second { (j : ℕ) → j < 8 → line_of result (8 + j) ≡ line_at along v.now x (y + j) }
+    ensures first { (j : ℕ) → j < 8 → line_of result j ≡ line_at vertical u.now x (y + j) }
+    ensures second { (j : ℕ) → j < 8 → line_of result (8 + j) ≡ line_at vertical v.now x (y + j) }
 {
     let _known = u.height();
     let _known = v.height();
     let us = u.width();
     let vs = v.width();
-    rows_along_both(u.pixels(), y * us + x, us, v.pixels(), y * vs + x, vs)
+    load_rows_vertical_chroma(u.pixels(), y * us + x, us, v.pixels(), y * vs + x, vs)
 }
