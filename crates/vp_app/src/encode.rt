@@ -12,7 +12,9 @@ use std::rt::Files;
 use std::time::Clock;
 use vp_args::{EncodeArgs, EncodeOptions};
 use vp_base::{Counted, Limits};
-use vp_encode::{EncodeAllFault, EncodeReport, Settings, Watcher, encode_all_watched};
+use vp_encode::{
+    EncodeAllFault, EncodeReport, EncodedSoFar, Settings, Watcher, encode_all_watched,
+};
 use vp_hints::{Film, Meter, Tally};
 use vp_live::encode_live;
 use vp_y4m::SourceHead;
@@ -44,12 +46,12 @@ struct Frames<'a, H> {
 impl<H: Clock + Eprint> Watcher for Frames<'_, H> {
     ghost told = { λ _ _. ⊤ };
 
-    fn encoded(&mut self, head: &SourceHead, report: EncodeReport) {
-        let EncodeReport {
+    fn encoded(&mut self, head: &SourceHead, so_far: EncodedSoFar) {
+        let EncodedSoFar {
             frames,
             bytes,
             error,
-        } = report;
+        } = so_far;
         let film = Film::of_packets(head.dim, head.rate, head.scale, frames, bytes);
         self.meter.has_made(frames, film, error);
     }

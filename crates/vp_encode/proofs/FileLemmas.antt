@@ -22,12 +22,13 @@ use Rattle.vp_y4m.specs.Frames.{GivesPicture}
 use Rattle.vp_y4m.specs.Source.{AnswersNextPicture}
 use Rattle.vp_encode.specs.declared.settings.Settings.{Settings}
 use Rattle.vp_encode.specs.declared.report.EncodeReport.{EncodeReport}
+use Rattle.vp_encode.specs.declared.report.EncodedSoFar.{EncodedSoFar}
 use Rattle.vp_encode.specs.declared.report.EncodeAllFault.{EncodeAllFault}
 use Rattle.vp_encode.specs.declared.report.EncodeAllFault.TheVariants as fault
 use Rattle.vp_encode.specs.Encoder.{EncoderState, AreAllowed}
 use Rattle.vp_encode.specs.Encoded.{EncodedFrame, IsEncoded, AreEncoded, initial_encoder, packet_length, error_of}
 use Rattle.vp_encode.specs.Pictures.{IsPicture, BeginWith}
-use Rattle.vp_encode.specs.File.{IsWrittenFurther, Work, IsDone, HasAllPictures, IsEncodeReported, HasOneMore, IsEndedBehind, IsAnswerBehind, IsAnswerOver, HasDone, AreFramesOf, most_reads, source_of, packet_of, ivf_text, encoded_file, encode_fault_of, frames_report, reports_behind, reports_to}
+use Rattle.vp_encode.specs.File.{IsWrittenFurther, Work, IsDone, HasAllPictures, IsEncodeReported, HasOneMore, IsEndedBehind, IsAnswerBehind, IsAnswerOver, HasDone, AreFramesOf, most_reads, source_of, packet_of, ivf_text, encoded_file, encode_fault_of, frames_report, so_far_of, progress_after, progress_of_frames}
 use Rattle.vp_encode.specs.EncodeProgress.{EncodeProgress, IsAdded, IsPictureRefused, IsHeadLine, IsBegun, IsAt, HasWorkFrames, EndsEncode, start}
 
 -- ---- small facts, for where much else is known
@@ -101,31 +102,31 @@ at_more head begun now new bytes taken frames f h is next a =
 
 -- ---- what a watcher is told
 
-pub told_none : (told : List EncodeReport → Type 0) → IsWrittenFurther told told (reports_to [])
+pub told_none : (told : List EncodedSoFar → Type 0) → IsWrittenFurther told told (progress_of_frames [])
 told_none told earlier is = subst told (sym (append-nil earlier)) is
 
 reports_more : (earlier frames : List EncodedFrame) (f : EncodedFrame)
-    → reports_behind earlier (frames ++ f ∷ []) ≡ reports_behind earlier frames ++ frames_report (earlier ++ (frames ++ f ∷ [])) ∷ []
+    → progress_after earlier (frames ++ f ∷ []) ≡ progress_after earlier frames ++ so_far_of (earlier ++ (frames ++ f ∷ [])) ∷ []
 reports_more earlier [] f = refl
 reports_more earlier (g ∷ frames) f =
     let same : (earlier ++ g ∷ []) ++ (frames ++ f ∷ []) ≡ earlier ++ (g ∷ (frames ++ f ∷ [])) = append_assoc earlier (g ∷ []) (frames ++ f ∷ []) in
-    ap (λ (rs : List EncodeReport). frames_report (earlier ++ g ∷ []) ∷ rs)
-    (reports_more (earlier ++ g ∷ []) frames f ∙ ap (λ (fs : List EncodedFrame). reports_behind (earlier ++ g ∷ []) frames ++ frames_report fs ∷ []) same)
+    ap (λ (rs : List EncodedSoFar). so_far_of (earlier ++ g ∷ []) ∷ rs)
+    (reports_more (earlier ++ g ∷ []) frames f ∙ ap (λ (fs : List EncodedFrame). progress_after (earlier ++ g ∷ []) frames ++ so_far_of fs ∷ []) same)
 
-pub told_more : (before mid after : List EncodeReport → Type 0) (frames : List EncodedFrame) (f : EncodedFrame) (report : EncodeReport) → IsWrittenFurther before mid (reports_to frames)
-    → report ≡ frames_report (frames ++ f ∷ []) → IsWrittenFurther mid after (report ∷ []) → IsWrittenFurther before after (reports_to (frames ++ f ∷ []))
+pub told_more : (before mid after : List EncodedSoFar → Type 0) (frames : List EncodedFrame) (f : EncodedFrame) (report : EncodedSoFar) → IsWrittenFurther before mid (progress_of_frames frames)
+    → report ≡ so_far_of (frames ++ f ∷ []) → IsWrittenFurther mid after (report ∷ []) → IsWrittenFurther before after (progress_of_frames (frames ++ f ∷ []))
 told_more before mid after frames f report told is more = λ past was.
-    let told_now = more (past ++ reports_to frames) (told past was) in
-    subst (λ (rs : List EncodeReport). after (past ++ rs)) (sym (reports_more [] frames f))
-    (subst after (append_assoc past (reports_to frames) (frames_report (frames ++ f ∷ []) ∷ []))
-    (subst (λ (r : EncodeReport). after ((past ++ reports_to frames) ++ r ∷ [])) is told_now))
+    let told_now = more (past ++ progress_of_frames frames) (told past was) in
+    subst (λ (rs : List EncodedSoFar). after (past ++ rs)) (sym (reports_more [] frames f))
+    (subst after (append_assoc past (progress_of_frames frames) (so_far_of (frames ++ f ∷ []) ∷ []))
+    (subst (λ (r : EncodedSoFar). after ((past ++ progress_of_frames frames) ++ r ∷ [])) is told_now))
 
--- the report of a run is that of its frames
-pub reported_at : (head : Head) (begun now : EncodeProgress) (bytes : List ℕ) (frames : List EncodedFrame) → IsAt head begun now bytes frames
-    → (report : EncodeReport) → report ≡ record { frames = length now.packets; bytes = now.bytes; error = now.error } → report ≡ frames_report frames
-reported_at head begun now bytes frames h report is =
+-- how much a run has encoded is that of its frames
+pub so_far_at : (head : Head) (begun now : EncodeProgress) (bytes : List ℕ) (frames : List EncodedFrame) → IsAt head begun now bytes frames
+    → (report : EncodedSoFar) → report ≡ record { frames = length now.packets; bytes = now.bytes; error = now.error } → report ≡ so_far_of frames
+so_far_at head begun now bytes frames h report is =
     let many : length now.packets ≡ length frames = ap length h.packets ∙ length-map frames packet_of in
-    let same : ◌≡◌ {A = EncodeReport} (record { frames = length now.packets; bytes = now.bytes; error = now.error }) (frames_report frames) =
+    let same : ◌≡◌ {A = EncodedSoFar} (record { frames = length now.packets; bytes = now.bytes; error = now.error }) (so_far_of frames) =
     λ i. record { frames = many i; bytes = h.bytes_are i; error = h.error i } in
     is ∙ same
 
@@ -289,26 +290,26 @@ at_next head begun now new bytes frames p before after h s f is a =
 -- ---- the whole file
 
 -- what encoding the pictures of a source came to, by the reader that it was opened over
-pub opened_ends : (pixels : ℕ) (limits : Limits) (settings : Settings) (result : Result (Unit {0}) EncodeAllFault) (after : EncodeProgress) (told told' : List EncodeReport → Type 0) (head now : Head) (before opened left : Option (List ℕ))
+pub opened_ends : (pixels : ℕ) (limits : Limits) (settings : Settings) (result : Result (Unit {0}) EncodeAllFault) (after : EncodeProgress) (told told' : List EncodedSoFar → Type 0) (head now : Head) (before opened left : Option (List ℕ))
     → now ≡ head → opened ≡ before
     → ((front : List ℕ) → IsHeadLine pixels front now → (bytes : List ℕ) × (frames : List EncodedFrame) × Consumes opened left bytes
-    × IsWrittenFurther told told' (reports_to frames) × EndsEncode limits settings result now (front ++ bytes) frames after)
+    × IsWrittenFurther told told' (progress_of_frames frames) × EndsEncode limits settings result now (front ++ bytes) frames after)
     → (front : List ℕ) → IsHeadLine pixels front head → (bytes : List ℕ) × (frames : List EncodedFrame) × Consumes before left bytes
-    × IsWrittenFurther told told' (reports_to frames) × EndsEncode limits settings result head (front ++ bytes) frames after
+    × IsWrittenFurther told told' (progress_of_frames frames) × EndsEncode limits settings result head (front ++ bytes) frames after
 opened_ends pixels limits settings result after told told' head now before opened left is bytes_are ends =
     let E : Head → Option (List ℕ) → Type 0 = λ h o. (front : List ℕ) → IsHeadLine pixels front h
     → (bytes : List ℕ) × (frames : List EncodedFrame) × Consumes o left bytes
-    × IsWrittenFurther told told' (reports_to frames) × EndsEncode limits settings result h (front ++ bytes) frames after in
+    × IsWrittenFurther told told' (progress_of_frames frames) × EndsEncode limits settings result h (front ++ bytes) frames after in
     subst (E head) bytes_are (subst (λ (h : Head). E h opened) is ends)
 
 -- the head, and then what encoding the pictures behind it came to
-pub work_ends : (limits : Limits) (settings : Settings) (dim : Dim) (encoder : EncoderState) (run after : EncodeProgress) (told told' : List EncodeReport → Type 0) (head : Head) (before mid left : Option (List ℕ)) (result : Result (Unit {0}) EncodeAllFault)
+pub work_ends : (limits : Limits) (settings : Settings) (dim : Dim) (encoder : EncoderState) (run after : EncodeProgress) (told told' : List EncodedSoFar → Type 0) (head : Head) (before mid left : Option (List ℕ)) (result : Result (Unit {0}) EncodeAllFault)
     → run ≡ start limits encoder → encoder ≡ initial_encoder dim settings
     → Shows (file_head limits.pixels) (λ rest. Ok (head, rest)) before mid
     → ((front : List ℕ) → IsHeadLine run.limits.pixels front head → (bytes : List ℕ) × (frames : List EncodedFrame) × Consumes mid left bytes
-    × IsWrittenFurther told told' (reports_to frames) × EndsEncode run.limits run.encoder.settings result head (front ++ bytes) frames after)
+    × IsWrittenFurther told told' (progress_of_frames frames) × EndsEncode run.limits run.encoder.settings result head (front ++ bytes) frames after)
     → (file : List ℕ) × (frames : List EncodedFrame) × Consumes before left file
-    × IsWrittenFurther told told' (reports_to frames) × EndsEncode limits settings result head file frames after
+    × IsWrittenFurther told told' (progress_of_frames frames) × EndsEncode limits settings result head file frames after
 work_ends limits settings dim encoder run after told told' head before mid left result begun opened s ends =
     let same : run.limits ≡ limits = ap (λ (r : EncodeProgress). r.limits) begun in
     let set : run.encoder.settings ≡ settings = ap (λ (r : EncodeProgress). r.encoder.settings) begun ∙ ap (λ (e : EncoderState). e.settings) opened in
@@ -390,7 +391,7 @@ module _ (limits : Limits) (settings : Settings) (head : Head) (file : List ℕ)
   pub written_front : (before now : Option (List ℕ)) → AppendsPrefix before now (ivf_text head packets) → IsEndedBehind (length frames) limits settings fault.Device file before now
   written_front before now w = let P : List ℕ → Type 0 = λ t. AppendsPrefix before now t in inr (e.0, (e.1, ap length e.5), e.2, subst P text_is w)
 
-  pub written_whole : (before now : Option (List ℕ)) (report : EncodeReport) → report ≡ record { frames = length after.packets; bytes = after.bytes; error = after.error }
+  pub written_whole : (before now : Option (List ℕ)) (report : EncodeReport) → report ≡ record { frames = length after.packets; error = after.error }
       → Appends before now (ivf_text head packets) → IsAnswerBehind (length frames) limits settings (Ok report) file before now
   written_whole before now report is w = let P : List ℕ → Type 0 = λ t. Appends before now t in (
     record {
@@ -398,17 +399,16 @@ module _ (limits : Limits) (settings : Settings) (head : Head) (file : List ℕ)
       done = e.1;
       whole = e.2;
       frames = ap (λ (r : EncodeReport). r.frames) is ∙ all_counted;
-      bytes = ap (λ (r : EncodeReport). r.bytes) is ∙ e.4.bytes;
       error = ap (λ (r : EncodeReport). r.error) is ∙ e.4.error;
       writes = subst P text_is w;
     },
     ap (λ (r : EncodeReport). r.frames) is ∙ (all_counted ∙ ap length e.5),
   )
 
-  pub reported_whole : (report : EncodeReport) → report ≡ record { frames = length after.packets; bytes = after.bytes; error = after.error } → report ≡ frames_report frames
+  pub reported_whole : (report : EncodeReport) → report ≡ record { frames = length after.packets; error = after.error } → report ≡ frames_report frames
   reported_whole report is =
-      let same : ◌≡◌ {A = EncodeReport} (record { frames = length after.packets; bytes = after.bytes; error = after.error }) (frames_report e.0.frames) =
-      λ i. record { frames = all_counted i; bytes = e.4.bytes i; error = e.4.error i } in
+      let same : ◌≡◌ {A = EncodeReport} (record { frames = length after.packets; error = after.error }) (frames_report e.0.frames) =
+      λ i. record { frames = all_counted i; error = e.4.error i } in
       is ∙ (same ∙ ap frames_report e.5)
 
 -- ---- the answer, by where the work ended

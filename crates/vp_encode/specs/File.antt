@@ -17,6 +17,7 @@ use Rattle.vp_y4m.specs.Header.{Head}
 use Rattle.vp_y4m.specs.Pictures.{file_head, next_of}
 use Rattle.vp_encode.specs.declared.settings.Settings.{Settings}
 use Rattle.vp_encode.specs.declared.report.EncodeReport.{EncodeReport}
+use Rattle.vp_encode.specs.declared.report.EncodedSoFar.{EncodedSoFar}
 use Rattle.vp_encode.specs.declared.report.EncodeAllFault.{EncodeAllFault}
 use Rattle.vp_encode.specs.declared.report.EncodeAllFault.TheVariants as fault
 use Rattle.vp_encode.specs.Encoder.{EncoderState, AreAllowed}
@@ -97,7 +98,6 @@ pub record IsEncodeReported (limits : Limits) (settings : Settings) (report : En
   pub done : IsDone limits settings file work
   pub whole : HasAllPictures work
   pub frames : report.frames ≡ length work.frames
-  pub bytes : report.bytes ≡ lengths_of work.frames
   pub error : report.error ≡ errors_of work.frames
   pub writes : Appends before after (encoded_file work)
 
@@ -190,34 +190,38 @@ pub record IsAnswerOver {R W : Type 0} (remaining : R → Option (List ℕ)) (co
 
 -- the report of these frames
 abbrev pub frames_report : List EncodedFrame → EncodeReport
-frames_report frames = record { frames = length frames; bytes = lengths_of frames; error = errors_of frames }
+frames_report frames = record { frames = length frames; error = errors_of frames }
 
--- after earlier frames: the report after each of these
-abbrev pub reports_behind : List EncodedFrame → List EncodedFrame → List EncodeReport
-reports_behind earlier [] = []
-reports_behind earlier (f ∷ frames) = frames_report (earlier ++ f ∷ []) ∷ reports_behind (earlier ++ f ∷ []) frames
+-- how much is encoded with these frames
+abbrev pub so_far_of : List EncodedFrame → EncodedSoFar
+so_far_of frames = record { frames = length frames; bytes = lengths_of frames; error = errors_of frames }
 
--- the reports of the first frame, of the first two, .. of all of them
-abbrev pub reports_to : List EncodedFrame → List EncodeReport
-reports_to frames = reports_behind [] frames
+-- after earlier frames: how much is encoded with each of these
+abbrev pub progress_after : List EncodedFrame → List EncodedFrame → List EncodedSoFar
+progress_after earlier [] = []
+progress_after earlier (f ∷ frames) = so_far_of (earlier ++ f ∷ []) ∷ progress_after (earlier ++ f ∷ []) frames
 
--- the progress callback receives these reports after any earlier ones
-abbrev pub IsWrittenFurther : (before after : List EncodeReport → Type 0) → List EncodeReport → Type 0
-IsWrittenFurther before after reports = (earlier : List EncodeReport) → before earlier → after (earlier ++ reports)
+-- how much is encoded with the first frame, with the first two, .. with all of them
+abbrev pub progress_of_frames : List EncodedFrame → List EncodedSoFar
+progress_of_frames frames = progress_after [] frames
+
+-- the progress callback receives these after any earlier ones
+abbrev pub IsWrittenFurther : (before after : List EncodedSoFar → Type 0) → List EncodedSoFar → Type 0
+IsWrittenFurther before after steps = (earlier : List EncodedSoFar) → before earlier → after (earlier ++ steps)
 
 -- none, or the frames of the work done
 abbrev pub AreFramesOf : Limits → Settings → List ℕ → List EncodedFrame → Type 0
 AreFramesOf limits settings file frames =
     (frames ≡ []) ⊎ ((w : Work) × IsDone limits settings file w × (w.frames ≡ frames))
 
--- The progress callback receives the reports of the first picture, of the first two, .. up to that of all pictures
--- encoded, which a report equals.
+-- The progress callback receives how much is encoded with the first picture, with the first two, .. up to all pictures
+-- encoded, whose report is returned.
 pub record IsWatched {R W : Type 0} (remaining : R → Option (List ℕ)) (contents : W
     → Option (List ℕ)) (limits : Limits) (settings : Settings)
     (result : Result EncodeReport EncodeAllFault) (reader reader' : Counted R) (writer writer' : Counted W)
-    (before after : List EncodeReport → Type 0) : Type 0 where
+    (before after : List EncodedSoFar → Type 0) : Type 0 where
   pub frames : List EncodedFrame
-  pub told : IsWrittenFurther before after (reports_to frames)
+  pub told : IsWrittenFurther before after (progress_of_frames frames)
   pub file : List ℕ
   pub consumed : Consumes (counted_remaining remaining reader) (counted_remaining remaining reader') file
   pub encoded : AreFramesOf limits settings file frames

@@ -5,7 +5,7 @@ ghost use Rattle.vp_encode.specs.EncodeProgress.{start, TakesPicture};
 
 use crate::encoder::Encoder;
 use crate::fault::EncodeFault;
-use crate::report::{EncodeAllFault, EncodeReport};
+use crate::report::{EncodeAllFault, EncodeReport, EncodedSoFar};
 use std::alloc::Global;
 use std::marker::Model;
 use vp_base::{ByteList, Limits, Picture};
@@ -87,13 +87,23 @@ impl EncodeProgress {
         self.packets.as_slice()
     }
 
+    /// Returns how much is encoded so far.
+    pub(crate) fn so_far(&self) -> EncodedSoFar
+        ensures { result ≡ record { frames = length self.now.packets; bytes = self.now.bytes; error = self.now.error } }
+    {
+        EncodedSoFar {
+            frames: self.packets.len() as u32,
+            bytes: self.bytes,
+            error: self.error,
+        }
+    }
+
     /// Returns the report of the pictures encoded.
     pub(crate) fn report(&self) -> EncodeReport
-        ensures { result ≡ record { frames = length self.now.packets; bytes = self.now.bytes; error = self.now.error } }
+        ensures { result ≡ record { frames = length self.now.packets; error = self.now.error } }
     {
         EncodeReport {
             frames: self.packets.len() as u32,
-            bytes: self.bytes,
             error: self.error,
         }
     }

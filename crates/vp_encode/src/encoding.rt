@@ -12,15 +12,15 @@ ghost use Rattle.vp_y4m.specs.Source.{reader_name, bytes_left, failures_of, read
 ghost use Rattle.vp_y4m.specs.Reads.{TakesInReads};
 ghost use Rattle.vp_y4m.specs.Text.{i420_length};
 ghost use Rattle.vp_encode.specs.declared.report.EncodeAllFault.{EncodeAllFault};
-ghost use Rattle.vp_encode.specs.declared.report.EncodeReport.{EncodeReport};
+ghost use Rattle.vp_encode.specs.declared.report.EncodedSoFar.{EncodedSoFar};
 ghost use Rattle.vp_encode.specs.Encoder.{AreAllowed};
 ghost use Rattle.vp_encode.specs.Encoded.{EncodedFrame, initial_encoder};
-ghost use Rattle.vp_encode.specs.File.{IsAnswerOver, IsWrittenFurther, IsWatched, ivf_text, most_reads, reports_to};
+ghost use Rattle.vp_encode.specs.File.{IsAnswerOver, IsWrittenFurther, IsWatched, ivf_text, most_reads, progress_of_frames};
 ghost use Rattle.vp_encode.specs.EncodeProgress.{start, IsHeadLine, EndsEncode};
 
 use crate::encode_progress::EncodeProgress;
 use crate::encoder::Encoder;
-use crate::report::{EncodeAllFault, EncodeReport};
+use crate::report::{EncodeAllFault, EncodeReport, EncodedSoFar};
 use crate::settings::Settings;
 use std::alloc::Global;
 use std::io::{Read, Write};
@@ -30,12 +30,12 @@ use vp_y4m::{Source, SourceHead};
 
 /// The progress callback of encoding a file.
 pub trait Watcher {
-    /// The reports that it has received so far, in order.
-    ghost told: { Self → List EncodeReport → Type 0 };
+    /// What it has received so far, in order.
+    ghost told: { Self → List EncodedSoFar → Type 0 };
 
-    /// Receives the head of the source, and the report of the pictures encoded so far.
-    fn encoded(&mut self, head: &SourceHead, report: EncodeReport)
-        ensures { (before : List EncodeReport) → told self.old before → told self.new (before ++ report ∷ []) };
+    /// Receives the head of the source, and how much is encoded so far.
+    fn encoded(&mut self, head: &SourceHead, so_far: EncodedSoFar)
+        ensures { (before : List EncodedSoFar) → told self.old before → told self.new (before ++ so_far ∷ []) };
 }
 
 /// A progress callback that does nothing.
@@ -45,7 +45,7 @@ pub struct Unwatched;
 impl Watcher for Unwatched {
     ghost told = { λ _ _. ⊤ };
 
-    fn encoded(&mut self, _head: &SourceHead, _report: EncodeReport) {}
+    fn encoded(&mut self, _head: &SourceHead, _so_far: EncodedSoFar) {}
 }
 
 /// Encodes a YUV4MPEG2 file to its end, and writes an IVF file with its size and rate. The times of the packets are 0,
@@ -75,8 +75,8 @@ pub fn encode_all<R: Read, W: Write>(
     encode_all_watched(alloc, reader, writer, settings, limits, &mut Unwatched)
 }
 
-/// Encodes a file as `encode_all` does. The progress callback receives the reports of the first picture, of the first
-/// two, .. up to that of all pictures encoded, whether encoding succeeds or fails.
+/// Encodes a file as `encode_all` does. The progress callback receives how much is encoded with the first picture, with
+/// the first two, .. up to all pictures encoded, whether encoding succeeds or fails.
 pub fn encode_all_watched<R: Read, W: Write, T: Watcher>(
     alloc: Global,
     reader: &mut Counted<R>,
@@ -122,7 +122,7 @@ fn encode_source<R: Read, T: Watcher>(
     ensures ends { (front : List ℕ) → IsHeadLine run.old.limits.pixels front (head_model head)
         → (bytes : List ℕ) × (frames : List EncodedFrame)
         × Consumes (counted_remaining R.remaining reader.old) (counted_remaining R.remaining reader.new) bytes
-        × IsWrittenFurther (T.told watcher.old) (T.told watcher.new) (reports_to frames)
+        × IsWrittenFurther (T.told watcher.old) (T.told watcher.new) (progress_of_frames frames)
         × EndsEncode run.old.limits run.old.encoder.settings result (head_model head) (front ++ bytes) frames run.new }
     ensures end { OnOk result (IsAtEnd (counted_remaining R.remaining reader.new)) }
     ensures torn { result ≡ Err EncodeAllFault.Torn → IsAtEnd (counted_remaining R.remaining reader.new) }
@@ -154,7 +154,7 @@ fn encode_pictures<R: Read, T: Watcher>(
     ensures ends { (front : List ℕ) → IsHeadLine run.old.limits.pixels front (head_of source.old)
         → (bytes : List ℕ) × (frames : List EncodedFrame)
         × Consumes (bytes_left R.remaining source.old) (bytes_left R.remaining source.new) bytes
-        × IsWrittenFurther (T.told watcher.old) (T.told watcher.new) (reports_to frames)
+        × IsWrittenFurther (T.told watcher.old) (T.told watcher.new) (progress_of_frames frames)
         × EndsEncode run.old.limits run.old.encoder.settings result (head_of source.old) (front ++ bytes) frames
         run.new }
     ensures end { OnOk result (IsAtEnd (bytes_left R.remaining source.new)) }
@@ -168,7 +168,7 @@ fn encode_pictures<R: Read, T: Watcher>(
 {
     while let Some(picture) = source.next_picture()? {
         run.picture(&picture)?;
-        watcher.encoded(head, run.report());
+        watcher.encoded(head, run.so_far());
     }
     Ok(())
 }

@@ -25,5 +25,5 @@ pub use encoding::{Unwatched, Watcher, encode_all, encode_all_watched};
 pub use fault::{EncodeFault, PacketError, SettingsFault};
 pub use laws::{encoded_files_play_back, encoded_frames_play_back};
 pub use packet::{write_inter_packet, write_key_packet};
-pub use report::{EncodeAllFault, EncodeReport};
+pub use report::{EncodeAllFault, EncodeReport, EncodedSoFar};
 pub use settings::Settings;

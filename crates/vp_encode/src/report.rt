@@ -14,9 +14,18 @@ use vp_y4m::SourceFault;
 pub struct EncodeReport {
     /// The number of pictures.
     pub frames: u32,
+    /// The sum of the squared errors of all pictures, over the shown pixels of Y, U and V.
+    pub error: u128,
+}
+
+/// What a progress callback receives: how much of a file is encoded so far.
+#[derive(Clone, Copy, Debug, PartialEq, Eq)]
+pub struct EncodedSoFar {
+    /// The number of pictures.
+    pub frames: u32,
     /// The sum of the lengths of their packets, in bytes.
     pub bytes: u64,
-    /// The sum of the squared errors of all pictures, over the shown pixels of Y, U and V.
+    /// The sum of their squared errors, over the shown pixels of Y, U and V.
     pub error: u128,
 }
 

@@ -7,7 +7,7 @@ use std::alloc::{AllocError, Global};
 use std::process::Abort;
 use std::test::Fail;
 use vp_base::{Counted, FailAt, Limits};
-use vp_encode::{EncodeAllFault, EncodeReport, Settings, Watcher, encode_all, encode_all_watched};
+use vp_encode::{EncodeAllFault, EncodedSoFar, Settings, Watcher, encode_all, encode_all_watched};
 use vp_y4m::SourceHead;
 
 /// The header line of a source of 16 by 16 pixels, 30 pictures a second.
@@ -197,18 +197,18 @@ fn fails_at_the_first_write(rt: HostRuntime) -> Result<(), Fail> {
     Ok(())
 }
 
-/// A progress callback that records the reports it receives, unless memory runs out.
+/// A progress callback that records what it receives, unless memory runs out.
 #[derive(Drop)]
 pub(crate) struct Keeping {
-    pub(crate) reports: Vec<EncodeReport>,
+    pub(crate) steps: Vec<EncodedSoFar>,
     pub(crate) refused: bool,
 }
 
 impl Watcher for Keeping {
-    ghost told = { λ w reports. w.refused ≡ false → w.reports.items ≡ reports };
+    ghost told = { λ w steps. w.refused ≡ false → w.steps.items ≡ steps };
 
-    fn encoded(&mut self, _head: &SourceHead, report: EncodeReport) {
-        if self.reports.push(report).is_err() {
+    fn encoded(&mut self, _head: &SourceHead, so_far: EncodedSoFar) {
+        if self.steps.push(so_far).is_err() {
             self.refused = true;
         }
     }
@@ -224,11 +224,11 @@ fn packet_size(file: &[u8], place: usize) -> Option<usize> {
     }
 }
 
-/// Returns whether these are the reports of the first packet of a file, of the first two, .. of all of them, each
-/// without an error.
-pub(crate) fn are_reports_of(reports: &[EncodeReport], file: &[u8]) -> bool {
+/// Returns whether this is how much is encoded with the first packet of a file, with the first two, .. with all of them,
+/// each without an error.
+pub(crate) fn are_steps_of(steps: &[EncodedSoFar], file: &[u8]) -> bool {
     let (mut frames, mut bytes, mut place) = (0u32, 0u64, 32usize);
-    for report in reports {
+    for step in steps {
         let Some(size) = packet_size(file, place) else {
             return false;
         };
@@ -236,8 +236,8 @@ pub(crate) fn are_reports_of(reports: &[EncodeReport], file: &[u8]) -> bool {
         bytes = bytes.saturating_add(size as u64);
         place = place.saturating_add(12).saturating_add(size);
         let error = 0;
-        if *report
-            != (EncodeReport {
+        if *step
+            != (EncodedSoFar {
                 frames,
                 bytes,
                 error,
@@ -249,16 +249,16 @@ pub(crate) fn are_reports_of(reports: &[EncodeReport], file: &[u8]) -> bool {
     place == file.len()
 }
 
-/// Encodes a source of three pictures. Returns its fault, the reports that the callback received, and the file.
+/// Encodes a source of three pictures. Returns its fault, what the callback received, and the file.
 fn watched(
     alloc: Global,
     limits: Limits,
-) -> Result<(Option<EncodeAllFault>, Vec<EncodeReport>, Vec<u8>), AllocError> {
+) -> Result<(Option<EncodeAllFault>, Vec<EncodedSoFar>, Vec<u8>), AllocError> {
     let bytes = source(alloc, 3)?;
     let mut reader = Counted::new(bytes.as_slice());
     let mut writer = Counted::new(Vec::new(alloc));
     let mut watcher = Keeping {
-        reports: Vec::new(alloc),
+        steps: Vec::new(alloc),
         refused: false,
     };
     let done = encode_all_watched(
@@ -269,19 +269,16 @@ fn watched(
         limits,
         &mut watcher,
     );
-    let Keeping {
-        reports,
-        refused: _,
-    } = watcher;
-    Ok((done.err(), reports, writer.into_inner()))
+    let Keeping { steps, refused: _ } = watcher;
+    Ok((done.err(), steps, writer.into_inner()))
 }
 
 #[test]
 fn pictures_are_told(rt: HostRuntime) -> Result<(), Fail> {
-    let (fault, reports, file) = watched(rt.alloc(), Limits::usual())?;
+    let (fault, steps, file) = watched(rt.alloc(), Limits::usual())?;
     equal(&rt, &fault, &None);
-    equal(&rt, &reports.len(), &3);
-    assert!(rt; are_reports_of(&reports, &file));
+    equal(&rt, &steps.len(), &3);
+    assert!(rt; are_steps_of(&steps, &file));
     Ok(())
 }
 
@@ -289,10 +286,10 @@ fn pictures_are_told(rt: HostRuntime) -> Result<(), Fail> {
 #[test]
 fn pictures_before_a_fault_are_told(rt: HostRuntime) -> Result<(), Fail> {
     let (_, whole, _) = watched(rt.alloc(), Limits::usual())?;
-    let (fault, reports, file) = watched(rt.alloc(), limits(16_777_216, 2))?;
+    let (fault, steps, file) = watched(rt.alloc(), limits(16_777_216, 2))?;
     equal(&rt, &fault, &Some(EncodeAllFault::TooMany));
-    equal(&rt, &(reports.len(), file.len()), &(2, 0));
-    assert!(rt; whole.starts_with(&reports));
+    equal(&rt, &(steps.len(), file.len()), &(2, 0));
+    assert!(rt; whole.starts_with(&steps));
     Ok(())
 }
 

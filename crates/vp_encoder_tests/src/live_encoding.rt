@@ -3,7 +3,7 @@
 //! themselves.
 
 use crate::check::equal;
-use crate::encoding_files::{Keeping, are_reports_of};
+use crate::encoding_files::{Keeping, are_steps_of};
 use std::alloc::{AllocError, Global};
 use std::cell::Cell;
 use std::io;
@@ -139,14 +139,14 @@ fn live_file_of_two_frames(rt: HostRuntime) -> Result<(), Fail> {
     Ok(())
 }
 
-/// Each report is that of the packets so far.
+/// Each step is that of the packets so far.
 #[test]
 fn live_pictures_are_told(rt: HostRuntime) -> Result<(), Fail> {
     let bytes = source(rt.alloc(), &[128, 200])?;
     let mut reader = Counted::new(bytes.as_slice());
     let mut writer = Counted::new(Vec::new(rt.alloc()));
     let mut watcher = Keeping {
-        reports: Vec::new(rt.alloc()),
+        steps: Vec::new(rt.alloc()),
         refused: false,
     };
     let end = encode_live(
@@ -157,9 +157,9 @@ fn live_pictures_are_told(rt: HostRuntime) -> Result<(), Fail> {
         Limits::usual(),
         &mut watcher,
     );
-    equal(&rt, &end.ok().as_ref(), &watcher.reports.last());
-    equal(&rt, &watcher.reports.len(), &2);
-    assert!(rt; are_reports_of(&watcher.reports, &writer.into_inner()));
+    equal(&rt, &end.ok().map(|report| report.frames), &Some(2));
+    equal(&rt, &watcher.steps.len(), &2);
+    assert!(rt; are_steps_of(&watcher.steps, &writer.into_inner()));
     Ok(())
 }
 

@@ -13,11 +13,12 @@ use Rattle.vp_y4m.specs.Pictures.{file_head}
 use Rattle.vp_y4m.specs.Reads.{Shows, Fails}
 use Rattle.vp_encode.specs.declared.settings.Settings.{Settings}
 use Rattle.vp_encode.specs.declared.report.EncodeReport.{EncodeReport}
+use Rattle.vp_encode.specs.declared.report.EncodedSoFar.{EncodedSoFar}
 use Rattle.vp_encode.specs.declared.report.EncodeAllFault.{EncodeAllFault}
 use Rattle.vp_encode.specs.declared.report.EncodeAllFault.TheVariants as fault
 use Rattle.vp_encode.specs.Encoder.{EncoderState, AreAllowed}
 use Rattle.vp_encode.specs.Encoded.{EncodedFrame}
-use Rattle.vp_encode.specs.File.{Work, IsDone, AreFramesOf, IsWrittenFurther, encode_fault_of, frames_report, reports_to}
+use Rattle.vp_encode.specs.File.{Work, IsDone, AreFramesOf, IsWrittenFurther, encode_fault_of, frames_report, progress_of_frames}
 use Rattle.vp_encode.proofs.FileLemmas.{head_answer, settings_answer, settings_refused, told_none}
 use Rattle.vp_live.specs.Live.{IsLiveOver, IsLiveEnded, IsLiveReported, live_text}
 use Rattle.vp_live.specs.Progress.{LiveProgress, IsLiveAt, EndsLive}
@@ -28,15 +29,15 @@ abbrev pub begun_with : Limits → EncoderState → LiveProgress
 begun_with limits encoder = record { limits = limits; encoder = encoder; frames = 0; bytes = 0; error = 0 }
 
 -- the head, and then what the pictures behind it came to
-pub live_ends : (limits : Limits) (settings : Settings) (encoder : EncoderState) (run after : LiveProgress) (told told' : List EncodeReport → Type 0) (head : Head) (before mid left written headed now : Option (List ℕ)) (result : Result (Unit {0}) EncodeAllFault)
+pub live_ends : (limits : Limits) (settings : Settings) (encoder : EncoderState) (run after : LiveProgress) (told told' : List EncodedSoFar → Type 0) (head : Head) (before mid left written headed now : Option (List ℕ)) (result : Result (Unit {0}) EncodeAllFault)
     → run ≡ begun_with limits encoder
     → (s : Shows (file_head limits.pixels) (λ rest. Ok (head, rest)) before mid)
     → IsLiveAt settings head s.taken [] (begun_with limits encoder)
     → Appends written headed (live_text head [])
     → ((settings : Settings) (line : List ℕ) (start : Option (List ℕ)) → IsLiveAt settings head line [] run → Appends start headed (live_text head [])
-    → (bytes : List ℕ) × (frames : List EncodedFrame) × Consumes mid left bytes × IsWrittenFurther told told' (reports_to frames)
+    → (bytes : List ℕ) × (frames : List EncodedFrame) × Consumes mid left bytes × IsWrittenFurther told told' (progress_of_frames frames)
     × EndsLive run.limits settings result (line ++ bytes) frames after start now)
-    → (file : List ℕ) × (frames : List EncodedFrame) × Consumes before left file × IsWrittenFurther told told' (reports_to frames)
+    → (file : List ℕ) × (frames : List EncodedFrame) × Consumes before left file × IsWrittenFurther told told' (progress_of_frames frames)
     × EndsLive limits settings result file frames after written now
 live_ends limits settings encoder run after told told' head before mid left written headed now result is s begun text ends =
     let B : LiveProgress → Type 0 = λ r. IsLiveAt settings head s.taken [] r in
@@ -47,7 +48,7 @@ live_ends limits settings encoder run after told told' head before mid left writ
 module _ {R W : Type 0} (remaining : R → Option (List ℕ)) (contents : W → Option (List ℕ)) (limits : Limits) (settings : Settings)
     (result : Result EncodeReport EncodeAllFault) (reader reader' : Counted R) where
   -- at the head's line
-  pub head_over : {A : Type 0} (writer : Counted W) (told : List EncodeReport → Type 0) (f : SourceFault) → result ≡ Err (encode_fault_of f)
+  pub head_over : {A : Type 0} (writer : Counted W) (told : List EncodedSoFar → Type 0) (f : SourceFault) → result ≡ Err (encode_fault_of f)
       → Fails (file_head limits.pixels) f (counted_remaining remaining reader) (counted_remaining remaining reader')
       → (let r : Result A SourceFault = Err f in r ≡ Err source.Device → HasFailed (counted_failures reader) (counted_failures reader'))
       → (let r : Result A SourceFault = Err f in r ≢ Err source.Device → counted_failures reader' ≡ counted_failures reader)
@@ -70,7 +71,7 @@ module _ {R W : Type 0} (remaining : R → Option (List ℕ)) (contents : W → 
       }
 
   -- at the settings
-  pub settings_over : (writer : Counted W) (told : List EncodeReport → Type 0) (head : Head) → result ≡ Err fault.Settings
+  pub settings_over : (writer : Counted W) (told : List EncodedSoFar → Type 0) (head : Head) → result ≡ Err fault.Settings
       → Shows (file_head limits.pixels) (λ rest. Ok (head, rest)) (counted_remaining remaining reader) (counted_remaining remaining reader')
       → ¬ AreAllowed settings → counted_failures reader' ≡ counted_failures reader
       → IsLiveOver remaining contents limits settings result reader reader' writer writer told told
@@ -92,7 +93,7 @@ module _ {R W : Type 0} (remaining : R → Option (List ℕ)) (contents : W → 
       }
 
   -- at a write of the head
-  pub write_over : (writer writer' : Counted W) (told : List EncodeReport → Type 0) (head : Head) (encoder : EncoderState) → result ≡ Err fault.Device
+  pub write_over : (writer writer' : Counted W) (told : List EncodedSoFar → Type 0) (head : Head) (encoder : EncoderState) → result ≡ Err fault.Device
       → (s : Shows (file_head limits.pixels) (λ rest. Ok (head, rest)) (counted_remaining remaining reader) (counted_remaining remaining reader'))
       → IsLiveAt settings head s.taken [] (begun_with limits encoder)
       → AppendsPrefix (counted_contents contents writer) (counted_contents contents writer') (live_text head [])
@@ -116,8 +117,8 @@ module _ {R W : Type 0} (remaining : R → Option (List ℕ)) (contents : W → 
       }
 
   -- behind the head
-  pub ended_over : {A : Type 0} (writer writer' : Counted W) (told told' : List EncodeReport → Type 0) (f : EncodeAllFault) → result ≡ Err f
-      → (frames : List EncodedFrame) → IsWrittenFurther told told' (reports_to frames)
+  pub ended_over : {A : Type 0} (writer writer' : Counted W) (told told' : List EncodedSoFar → Type 0) (f : EncodeAllFault) → result ≡ Err f
+      → (frames : List EncodedFrame) → IsWrittenFurther told told' (progress_of_frames frames)
       → (file : List ℕ) → Consumes (counted_remaining remaining reader) (counted_remaining remaining reader') file
       → AreFramesOf limits settings file frames
       → IsLiveEnded (length frames) limits settings f file (counted_contents contents writer) (counted_contents contents writer')
@@ -144,8 +145,8 @@ module _ {R W : Type 0} (remaining : R → Option (List ℕ)) (contents : W → 
       }
 
   -- at the source's end
-  pub reported_over : (writer writer' : Counted W) (told told' : List EncodeReport → Type 0) (report : EncodeReport) → result ≡ Ok report
-      → (frames : List EncodedFrame) → IsWrittenFurther told told' (reports_to frames)
+  pub reported_over : (writer writer' : Counted W) (told told' : List EncodedSoFar → Type 0) (report : EncodeReport) → result ≡ Ok report
+      → (frames : List EncodedFrame) → IsWrittenFurther told told' (progress_of_frames frames)
       → (file : List ℕ) → Consumes (counted_remaining remaining reader) (counted_remaining remaining reader') file
       → AreFramesOf limits settings file frames → report ≡ frames_report frames
       → IsLiveReported limits settings report file (counted_contents contents writer) (counted_contents contents writer')

@@ -44,7 +44,7 @@ pub are_encoded : LiveFilesAreEncoded
 are_encoded limits settings report file before after live =
     let w = live.work in (
       count_differs w.head.w w.head.h w.head.rate w.head.scale 0 _ (packets_text (map timed (enumerate_from 0 (map packet_of w.frames)))),
-      record { work = w; done = live.done; whole = live.whole; frames = live.frames; bytes = live.bytes; error = live.error; writes = refl },
+      record { work = w; done = live.done; whole = live.whole; frames = live.frames; error = live.error; writes = refl },
     )
 
 -- whatever its number of packets, the file is read alike

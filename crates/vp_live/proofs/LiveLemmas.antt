@@ -22,9 +22,9 @@ use Rattle.vp_encode.specs.declared.report.EncodeAllFault.TheVariants as fault
 use Rattle.vp_encode.specs.Encoder.{EncoderState, AreAllowed}
 use Rattle.vp_encode.specs.Encoded.{EncodedFrame, IsEncoded, AreEncoded, initial_encoder, packet_length, error_of}
 use Rattle.vp_encode.specs.Pictures.{IsPicture, BeginWith}
-use Rattle.vp_encode.specs.File.{Work, IsDone, HasDone, HasOneMore, AreFramesOf, source_of, encode_fault_of, frames_report}
+use Rattle.vp_encode.specs.File.{Work, IsDone, HasDone, HasOneMore, AreFramesOf, source_of, encode_fault_of, frames_report, so_far_of}
 use Rattle.vp_live.specs.Live.{IsRefused, IsHeadFault, IsNextFault, IsLiveEnded, IsLiveReported, live_text, live_file}
-use Rattle.vp_live.specs.Progress.{LiveProgress, IsMade, IsCounted, IsLiveAt, frames_text, report_so_far}
+use Rattle.vp_live.specs.Progress.{LiveProgress, IsMade, IsCounted, IsLiveAt, frames_text, report_so_far, so_far}
 use Rattle.vp_encode.proofs.FileLemmas.{within_more}
 use Rattle.vp_live.proofs.TextLemmas.{written_file}
 
@@ -110,7 +110,11 @@ counted_more old new p f frames c same = let more = c.frames in omega (arith, le
 
 pub reported_at : (settings : Settings) (head : Head) (bytes : List ℕ) (frames : List EncodedFrame) (run : LiveProgress) → IsLiveAt settings head bytes frames run
     → report_so_far run ≡ frames_report frames
-reported_at settings head bytes frames run h = λ i. record { frames = h.frames_are i; bytes = h.bytes_are i; error = h.error_is i }
+reported_at settings head bytes frames run h = λ i. record { frames = h.frames_are i; error = h.error_is i }
+
+pub so_far_at : (settings : Settings) (head : Head) (bytes : List ℕ) (frames : List EncodedFrame) (run : LiveProgress) → IsLiveAt settings head bytes frames run
+    → so_far run ≡ so_far_of frames
+so_far_at settings head bytes frames run h = λ i. record { frames = h.frames_are i; bytes = h.bytes_are i; error = h.error_is i }
 
 pub none_yet : (n most : ℕ) → n ≡ 0 → n ≤ most
 none_yet n most none = omega arith
@@ -249,7 +253,7 @@ module _ (settings : Settings) (head : Head) (line bytes : List ℕ) (frames : L
     s.consumed,
     are s.taken,
     reported_at settings head (line ++ bytes) frames run h,
-    record { work = work s.taken; done = done s.taken; whole = s.shown; frames = h.frames_are; bytes = h.bytes_are; error = h.error_is; writes = whole },
+    record { work = work s.taken; done = done s.taken; whole = s.shown; frames = h.frames_are; error = h.error_is; writes = whole },
   )
 
 -- what is known of a source, by the head and the reader that it was opened over

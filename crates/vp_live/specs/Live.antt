@@ -14,13 +14,14 @@ use Rattle.vp_y4m.specs.Header.{Head}
 use Rattle.vp_y4m.specs.Pictures.{file_head, next_of}
 use Rattle.vp_encode.specs.declared.settings.Settings.{Settings}
 use Rattle.vp_encode.specs.declared.report.EncodeReport.{EncodeReport}
+use Rattle.vp_encode.specs.declared.report.EncodedSoFar.{EncodedSoFar}
 use Rattle.vp_encode.specs.declared.report.EncodeAllFault.{EncodeAllFault}
 use Rattle.vp_encode.specs.declared.report.EncodeAllFault.TheVariants as fault
 use Rattle.vp_encode.specs.Encoder.{EncoderState, AreAllowed}
-use Rattle.vp_encode.specs.Encoded.{EncodedFrame, IsEncoded, lengths_of, errors_of}
+use Rattle.vp_encode.specs.Encoded.{EncodedFrame, IsEncoded, errors_of}
 use Rattle.vp_encode.specs.TooLong.{IsTooLong}
 use Rattle.vp_encode.specs.File.{Work, IsDone, HasDone, HasAllPictures, HasOneMore, IsWrittenFurther, encode_fault_of}
-use Rattle.vp_encode.specs.File.{AreFramesOf, packet_of, frames_report, reports_to, timed}
+use Rattle.vp_encode.specs.File.{AreFramesOf, packet_of, frames_report, progress_of_frames, timed}
 
 -- ---- the output: an IVF file whose head counts 0 packets; the times of the packets are 0, 1, ..
 
@@ -86,7 +87,6 @@ pub record IsLiveReported (limits : Limits) (settings : Settings) (report : Enco
   pub done : IsDone limits settings file work
   pub whole : HasAllPictures work
   pub frames : report.frames ≡ length work.frames
-  pub bytes : report.bytes ≡ lengths_of work.frames
   pub error : report.error ≡ errors_of work.frames
   pub writes : Appends before after (live_file work)
 
@@ -109,12 +109,12 @@ IsLiveAnswer pictures limits settings (Err f) file before after = IsLiveEnded pi
 
 -- ---- the whole work, from a reader to a writer
 
--- The result of live encoding, if the reader's and the writer's bytes are known. The progress callback receives the
--- reports of the first picture, of the first two, .. up to that of all pictures whose packets are written, which the
--- returned report equals.
+-- The result of live encoding, if the reader's and the writer's bytes are known. The progress callback receives how much
+-- is encoded with the first picture, with the first two, .. up to all pictures whose packets are written; their report
+-- is returned.
 pub record IsLiveOver {R W : Type 0} (remaining : R → Option (List ℕ)) (contents : W → Option (List ℕ))
     (limits : Limits) (settings : Settings) (result : Result EncodeReport EncodeAllFault) (reader reader' : Counted R)
-    (writer writer' : Counted W) (told told' : List EncodeReport → Type 0) : Type 0 where
+    (writer writer' : Counted W) (told told' : List EncodedSoFar → Type 0) : Type 0 where
   pub frames : List EncodedFrame
   pub file : List ℕ
   pub consumed : Consumes (counted_remaining remaining reader) (counted_remaining remaining reader') file
@@ -122,7 +122,7 @@ pub record IsLiveOver {R W : Type 0} (remaining : R → Option (List ℕ)) (cont
   pub answer : IsLiveAnswer (length frames) limits settings result file (counted_contents contents writer)
       (counted_contents contents writer')
   pub reported : IfOk result (λ report. report ≡ frames_report frames)
-  pub told_further : IsWrittenFurther told told' (reports_to frames)
+  pub told_further : IsWrittenFurther told told' (progress_of_frames frames)
   -- a report and `Torn` are returned only at the reader's end
   pub end : OnOk result (IsAtEnd (counted_remaining remaining reader'))
   pub torn : result ≡ Err fault.Torn → IsAtEnd (counted_remaining remaining reader')

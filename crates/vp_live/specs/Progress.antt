@@ -12,6 +12,7 @@ use Rattle.vp_encode.specs.declared.report.EncodeAllFault.{EncodeAllFault}
 use Rattle.vp_encode.specs.declared.report.EncodeAllFault.TheVariants as fault
 use Rattle.vp_encode.specs.Encoder.{EncoderState}
 use Rattle.vp_encode.specs.declared.report.EncodeReport.{EncodeReport}
+use Rattle.vp_encode.specs.declared.report.EncodedSoFar.{EncodedSoFar}
 use Rattle.vp_encode.specs.Encoded.{EncodedFrame, IsEncoded, lengths_of, error_of, errors_of}
 use Rattle.vp_encode.specs.File.{IsDone, AreFramesOf, packet_of, frames_report, timed}
 use Rattle.vp_live.specs.Live.{IsRefused, IsLiveReported, IsLiveEnded}
@@ -26,7 +27,11 @@ pub record LiveProgress : Type 0 where
 
 -- the report of them
 abbrev pub report_so_far : LiveProgress → EncodeReport
-report_so_far r = record { frames = r.frames; bytes = r.bytes; error = r.error }
+report_so_far r = record { frames = r.frames; error = r.error }
+
+-- how much is encoded
+abbrev pub so_far : LiveProgress → EncodedSoFar
+so_far r = record { frames = r.frames; bytes = r.bytes; error = r.error }
 
 -- the frame of these
 abbrev pub frame : Image → List ℕ → Image → EncodedFrame

@@ -13,7 +13,7 @@ ghost use Rattle.vp_y4m.specs.Text.{i420_length};
 ghost use Rattle.vp_encode.specs.declared.settings.Settings.{Settings};
 ghost use Rattle.vp_encode.specs.declared.report.EncodeAllFault.{EncodeAllFault};
 ghost use Rattle.vp_encode.specs.Encoded.{EncodedFrame};
-ghost use Rattle.vp_encode.specs.File.{IsWrittenFurther, most_reads, reports_to};
+ghost use Rattle.vp_encode.specs.File.{IsWrittenFurther, most_reads, progress_of_frames};
 ghost use Rattle.vp_live.specs.Live.{IsLiveOver, live_text};
 ghost use Rattle.vp_live.specs.Progress.{IsLiveAt, EndsLive};
 
@@ -28,7 +28,7 @@ use vp_y4m::{Source, SourceHead};
 /// Encodes a YUV4MPEG2 source while it is read, and writes an IVF file with its size and rate. The head counts 0
 /// packets, as it is written before their number is known. Each packet is written and flushed before the next picture
 /// is read, so that the memory is that of one picture and the references. The times of the packets are 0, 1, and so on.
-/// The progress callback receives the reports of the first picture, of the first two, .. up to that of all pictures
+/// The progress callback receives how much is encoded with the first picture, with the first two, .. up to all pictures
 /// whose packets are written.
 ///
 /// Errors, in the order of the work: a fault of the head, and `Settings`, write nothing. Then for each picture its
@@ -79,7 +79,7 @@ fn encode_source<R: Read, W: Write, T: Watcher>(
         → Appends before (counted_contents W.contents writer.old) (live_text (head_model head) [])
         → (bytes : List ℕ) × (frames : List EncodedFrame)
         × Consumes (counted_remaining R.remaining reader.old) (counted_remaining R.remaining reader.new) bytes
-        × IsWrittenFurther (T.told watcher.old) (T.told watcher.new) (reports_to frames)
+        × IsWrittenFurther (T.told watcher.old) (T.told watcher.new) (progress_of_frames frames)
         × EndsLive run.old.limits settings result (line ++ bytes) frames run.new before
         (counted_contents W.contents writer.new) }
     ensures end { OnOk result (IsAtEnd (counted_remaining R.remaining reader.new)) }
@@ -118,7 +118,7 @@ fn encode_pictures<R: Read, W: Write, T: Watcher>(
         → Appends before (counted_contents W.contents writer.old) (live_text (head_of source.old) [])
         → (bytes : List ℕ) × (frames : List EncodedFrame)
         × Consumes (bytes_left R.remaining source.old) (bytes_left R.remaining source.new) bytes
-        × IsWrittenFurther (T.told watcher.old) (T.told watcher.new) (reports_to frames)
+        × IsWrittenFurther (T.told watcher.old) (T.told watcher.new) (progress_of_frames frames)
         × EndsLive run.old.limits settings result (line ++ bytes) frames run.new before
         (counted_contents W.contents writer.new) }
     ensures end { OnOk result (IsAtEnd (bytes_left R.remaining source.new)) }
@@ -134,7 +134,7 @@ fn encode_pictures<R: Read, W: Write, T: Watcher>(
 {
     while let Some(picture) = source.next_picture()? {
         run.picture(&picture, writer)?;
-        watcher.encoded(head, run.report());
+        watcher.encoded(head, run.so_far());
     }
     Ok(())
 }

@@ -9,7 +9,7 @@ use crate::writing::write_packet;
 use std::io::Write;
 use std::marker::Model;
 use vp_base::{Counted, Limits, Picture};
-use vp_encode::{EncodeAllFault, EncodeFault, EncodeReport, Encoded, Encoder};
+use vp_encode::{EncodeAllFault, EncodeFault, EncodeReport, Encoded, EncodedSoFar, Encoder};
 
 /// An encoder, the number of the packets that it made, the sum of their lengths, and that of their squared errors.
 #[derive(Drop)]
@@ -117,13 +117,23 @@ impl LiveProgress {
         Ok(())
     }
 
+    /// Returns how much is encoded and written so far.
+    pub(crate) fn so_far(&self) -> EncodedSoFar
+        ensures { result ≡ record { frames = self.now.frames; bytes = self.now.bytes; error = self.now.error } }
+    {
+        EncodedSoFar {
+            frames: self.frames,
+            bytes: self.bytes,
+            error: self.error,
+        }
+    }
+
     /// Returns the report of the pictures whose packets are written.
     pub(crate) fn report(&self) -> EncodeReport
-        ensures { result ≡ record { frames = self.now.frames; bytes = self.now.bytes; error = self.now.error } }
+        ensures { result ≡ record { frames = self.now.frames; error = self.now.error } }
     {
         EncodeReport {
             frames: self.frames,
-            bytes: self.bytes,
             error: self.error,
         }
     }

@@ -8,7 +8,7 @@ use Rattle.vp_y4m.specs.Reads.{ShowsAtEnd}
 use Rattle.vp_y4m.specs.Pictures.{next_of}
 use Rattle.vp_y4m.proofs.ReadLemmas.{no_reads, one_at_most, one_at_an_answer, reads_more, reads_then}
 use Rattle.vp_encode.specs.EncodeProgress.{IsBegun}
-use Rattle.vp_encode.proofs.FileLemmas.{ok_is_no_error, none_at_most, no_fewer, at_start, next_failed, refused_behind, ended, faulty_answer, given_answer, end_answer, is_picture, at_next, told_none, told_more, reported_at, few_now, within_next, within_more}
+use Rattle.vp_encode.proofs.FileLemmas.{ok_is_no_error, none_at_most, no_fewer, at_start, next_failed, refused_behind, ended, faulty_answer, given_answer, end_answer, is_picture, at_next, told_none, told_more, so_far_at, few_now, within_next, within_more}
 use Rattle.vp_encode.proofs.encoding.encode_pictures.Goals as goal
 
 pub loop-picture-init : goal.loop-picture-init
@@ -78,8 +78,8 @@ loop-picture-preserved g c =
       c.in_ok-picture.ensures.head ∙ inv.5,
       c.in_ok-picture.ensures.progress inv.6 ok_is_no_error ∙ ap progress_after (ap Ok c.in-Some.is),
       c.in_ok-picture.ensures.quiet inv.6 ok_is_no_error ∙ inv.7,
-      told_more (g.T.Watcher.told c.args.watcher.now) (g.T.Watcher.told c.loop-picture.watcher) (g.T.Watcher.told c.encoded.new.self) inv.1 f.0 c.report.result inv.8
-          (reported_at (head_of c.args.source.now) c.args.run.now c.picture-in-Some.new.self (inv.0 ++ given.shown.taken) (inv.1 ++ f.0 ∷ []) next c.report.result c.report.ensures) c.encoded.ensures,
+      told_more (g.T.Watcher.told c.args.watcher.now) (g.T.Watcher.told c.loop-picture.watcher) (g.T.Watcher.told c.encoded.new.self) inv.1 f.0 c.so_far.result inv.8
+          (so_far_at (head_of c.args.source.now) c.args.run.now c.picture-in-Some.new.self (inv.0 ++ given.shown.taken) (inv.1 ++ f.0 ∷ []) next c.so_far.result c.so_far.ensures) c.encoded.ensures,
       reads_then 0 _ _ _ _ _ _ inv.9 (rw c.in-Some.is at c.in_ok-picture.ensures.reads),
       within_next (head_of c.args.source.now) (head_of c.loop-picture.source) _ _ _ c.loop-picture.run c.picture-in-Some.new.self f.0 inv.5 f.2 inv.10 c.in_ok-picture.ensures.within,
     )

@@ -5,7 +5,7 @@ use Rattle.vp_y4m.specs.Source.{reader_name, bytes_left, failures_of, reads_of, 
 use Rattle.vp_y4m.specs.Text.{i420_length}
 use Rattle.vp_y4m.specs.Reads.{TakesInReads}
 use Rattle.vp_encode.specs.Encoded.{EncodedFrame}
-use Rattle.vp_encode.specs.File.{IsWrittenFurther, reports_to}
+use Rattle.vp_encode.specs.File.{IsWrittenFurther, progress_of_frames}
 use Rattle.vp_encode.specs.EncodeProgress.{IsAt}
 use Rattle.vp_encode.proofs.encoding.encode_pictures.Given as goal
 
@@ -18,7 +18,7 @@ invariant-loop-picture g l =
     × (head_of l.source ≡ head_of l.fn.source)
     × (progress_of l.source ≡ Open)
     × (failures_of l.source ≡ failures_of l.fn.source)
-    × IsWrittenFurther (g.T.Watcher.told l.fn.watcher) (g.T.Watcher.told l.watcher) (reports_to frames)
+    × IsWrittenFurther (g.T.Watcher.told l.fn.watcher) (g.T.Watcher.told l.watcher) (progress_of_frames frames)
     × TakesInReads 0 (bytes_left g.R.Read.remaining l.fn.source) (bytes_left g.R.Read.remaining l.source) (reads_of l.fn.source) (reads_of l.source)
     × (reads_of l.source ≤ reads_of l.fn.source + length l.run.packets * (1025 + i420_length (head_of l.fn.source).w (head_of l.fn.source).h))
 

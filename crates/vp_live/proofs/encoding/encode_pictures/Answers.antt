@@ -11,7 +11,7 @@ use Rattle.vp_encode.proofs.FileLemmas.{ok_is_no_error, none_at_most, no_fewer, 
 use Rattle.vp_encode.specs.declared.settings.Settings.{Settings}
 use Rattle.vp_live.specs.Progress.{IsLiveAt}
 use Rattle.vp_live.proofs.TextLemmas.{written_more}
-use Rattle.vp_live.proofs.LiveLemmas.{at_first, at_more, counted_more, reported_at, source_ends, picture_ends, all_end, within_next, none_yet, few_more}
+use Rattle.vp_live.proofs.LiveLemmas.{at_first, at_more, counted_more, so_far_at, source_ends, picture_ends, all_end, within_next, none_yet, few_more}
 use Rattle.vp_live.proofs.encoding.encode_pictures.Goals as goal
 
 pub loop-picture-init : goal.loop-picture-init
@@ -96,8 +96,8 @@ loop-picture-preserved g c =
       c.in_ok-picture.ensures.progress inv.10 ok_is_no_error ∙ ap progress_after (ap Ok c.in-Some.is),
       c.in_ok-picture.ensures.quiet inv.10 ok_is_no_error ∙ inv.11,
       c.in_ok-picture-2.ensures.quiet ok_is_no_error ∙ inv.12,
-      λ settings line at. told_more (g.T.Watcher.told c.args.watcher.now) (g.T.Watcher.told c.loop-picture.watcher) (g.T.Watcher.told c.encoded.new.self) inv.1 f.0 c.report.result (inv.13 settings line at)
-          (c.report.ensures ∙ reported_at settings (head_of c.args.source.now) (line ++ (inv.0 ++ given.shown.taken)) (inv.1 ++ f.0 ∷ []) c.picture-in-Some.new.self (next settings line at)) c.encoded.ensures,
+      λ settings line at. told_more (g.T.Watcher.told c.args.watcher.now) (g.T.Watcher.told c.loop-picture.watcher) (g.T.Watcher.told c.encoded.new.self) inv.1 f.0 c.so_far.result (inv.13 settings line at)
+          (c.so_far.ensures ∙ so_far_at settings (head_of c.args.source.now) (line ++ (inv.0 ++ given.shown.taken)) (inv.1 ++ f.0 ∷ []) c.picture-in-Some.new.self (next settings line at)) c.encoded.ensures,
       reads_then 0 _ _ _ _ _ _ inv.14 (rw c.in-Some.is at c.in_ok-picture.ensures.reads),
       within_next (head_of c.args.source.now) (head_of c.loop-picture.source) _ _ _ c.loop-picture.run c.picture-in-Some.new.self c.in-Some.picture f.0 inv.9 f.1 inv.15 c.in_ok-picture.ensures.within,
       few_more c.args.run.now.limits c.loop-picture.run c.picture-in-Some.new.self c.in-Some.picture f.0 inv.6 f.1,

@@ -7,7 +7,7 @@ use Rattle.vp_y4m.specs.Text.{i420_length}
 use Rattle.vp_y4m.specs.Reads.{TakesInReads}
 use Rattle.vp_encode.specs.declared.settings.Settings.{Settings}
 use Rattle.vp_encode.specs.Encoded.{EncodedFrame}
-use Rattle.vp_encode.specs.File.{IsWrittenFurther, reports_to}
+use Rattle.vp_encode.specs.File.{IsWrittenFurther, progress_of_frames}
 use Rattle.vp_live.specs.Progress.{IsLiveAt, frames_text}
 use Rattle.vp_live.proofs.encoding.encode_pictures.Given as goal
 
@@ -27,7 +27,7 @@ invariant-loop-picture g l =
     × (failures_of l.source ≡ failures_of l.fn.source)
     × (counted_failures l.writer ≡ counted_failures l.fn.writer)
     × ((settings : Settings) (line : List ℕ) → IsLiveAt settings (head_of l.fn.source) line [] l.fn.run
-    → IsWrittenFurther (g.T.Watcher.told l.fn.watcher) (g.T.Watcher.told l.watcher) (reports_to frames))
+    → IsWrittenFurther (g.T.Watcher.told l.fn.watcher) (g.T.Watcher.told l.watcher) (progress_of_frames frames))
     × TakesInReads 0 (bytes_left g.R.Read.remaining l.fn.source) (bytes_left g.R.Read.remaining l.source) (reads_of l.fn.source) (reads_of l.source)
     × (reads_of l.source ≤ reads_of l.fn.source + l.run.frames * (1025 + i420_length (head_of l.fn.source).w (head_of l.fn.source).h))
     × (l.run.frames ≤ l.fn.run.limits.packets)
