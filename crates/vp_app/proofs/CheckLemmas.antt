@@ -130,10 +130,10 @@ zero_status : (b : Bool) (status : ℕ) → status ≡ 0 → status ≡ (if b th
 zero_status true status none e = refl
 zero_status false status none e = absurd (omega (arith, none, e))
 
-pub nothing_wrong : (style : LineStyle) (names : List (List ℕ)) (dones : List (Result Checked DecodeFault)) (b a : Option (List ℕ)) → PrintsChecks style names dones 0 b a
-    → (length dones ≡ length names) × (list_all (is_well style) dones ≡ true) × Appends b a (checks_text style names dones)
+pub nothing_wrong : (style : LineStyle) (names : List (List ℕ)) (dones : List (Result Checked DecodeFault)) (b a : Side) → PrintsChecks style names dones 0 b a
+    → (length dones ≡ length names) × (list_all (is_well style) dones ≡ true) × Appends b.bytes a.bytes (checks_text style names dones)
 nothing_wrong style names dones b a (inl (long, e, w)) = (long, zero_status (list_all (is_well style) dones) 0 refl e, w)
-nothing_wrong style names dones b a (inr e) = absurd (omega (arith, e))
+nothing_wrong style names dones b a (inr (e, f)) = absurd (omega (arith, e))
 
 pub reads_by_checking : (most : FileLimits) (from : List ℕ) (done : Result Checked DecodeFault) (i j : Side) → ChecksFile most from done i j
     → (j ≡ i) ⊎ ((a : Side) × (b : Side) × ChecksInput most done a b)

@@ -6,11 +6,15 @@ use Rattle.vp_ivf.specs.declared.fault.FileFault.{FileFault}
 use Rattle.vp_hub.specs.Hub.{HubState}
 use Rattle.vp_hub.specs.Work.{Hub}
 use Rattle.vp_hub.specs.Sessions.{IsSession, IsTurnedAway}
-use Rattle.vp_app.specs.Commands.{status_by_fault}
+use Rattle.vp_app.specs.Commands.{status_by_checks, status_by_fault, PrintsChecks, PrintsSum}
+use Rattle.vp_lines.specs.CheckLines.{checks_text}
 use Rattle.vp_lines.specs.Listing.{survey_text}
+use Rattle.vp_lines.specs.Sums.{PrintsSums}
+use Rattle.vp_lines.specs.declared.styles.LineStyle.{LineStyle}
+use Rattle.vp_check.specs.declared.checked.Checked.{Checked}
 use Rattle.vp_app.specs.Serving.{IsServed}
 use Rattle.std.proofs.Common.{◌≡◌, ◌⊎◌, inl, inr, List, [], ◌∷◌, ℕ, Bool, true, false, refl, sym, subst}
-use Rattle.std.specs.Prelude.{Result, Err, IsOk, MatchBool, codes, is_err, is_ok, ◌^◌, ◌-◌}
+use Rattle.std.specs.Prelude.{Result, Err, IsOk, MatchBool, codes, length, is_err, is_ok, ◌^◌, ◌-◌}
 use Rattle.std.specs.Borrow.{Bor}
 use Rattle.clap.specs.Kinds.{HasKind, IsAmong, Kinds}
 use Rattle.clap.specs.Values.{kind_of}
@@ -185,13 +189,14 @@ does_decode_range asked plan wanted status i i' o o' e h w = go asked (subst (Is
 
 pub does_encode : (asked : ParsedArgs) (plan : Task) (encoding : EncodeArgs) (done : Result EncodeReport EncodeAllFault) (status : ℕ) (i i' o o' : Side)
     → plan ≡ Encode encoding → IsTaskFor asked plan → status ≡ status_by_report done
-    → EncodesFile (encoding_of encoding.options encoding.live) encoding.input.now encoding.output.now done i i' o o' → Does asked status i i' o o'
+    → EncodesFile (encoding_of encoding) encoding.input.now encoding.output.now done i i' o o' → Does asked status i i' o o'
 does_encode asked plan encoding done status i i' o o' e h s d = go asked (subst (IsTaskFor asked) e h)
   where
     go : (x : ParsedArgs) → IsTaskFor x (Encode encoding) → Does x status i i' o o'
     go (decodes flag f t) p = absurd p
     go (decodes_range rows f t) p = absurd p
-    go (encodes rows f t) p = rw (← p.3, ← p.4) (inl (encoding.options, encoding.live, done, p.0, p.2, s, d))
+    go (encodes rows f t) p =
+        inl (encoding, done, p, s, rw (← p.input_is, ← p.output_is) d)
     go (tells r f) p = absurd p
     go (checks r f) p = absurd p
     go (serves r a c t) p = absurd p
@@ -332,9 +337,26 @@ no_fault : (f : Option FileFault) → 0 ≡ status_by_fault f → f ≡ None
 no_fault None e = refl
 no_fault (Some f) e = absurd (omega (arith, e))
 
-pub listed : (s : Survey) (b a : Option (List ℕ)) → PrintsSurvey (Ok s) 0 b a → (s.fault ≡ None) × Appends b a (survey_text s)
+pub listed : (s : Survey) (b a : Side) → PrintsSurvey (Ok s) 0 b a → (s.fault ≡ None) × Appends b.bytes a.bytes (survey_text s)
 listed s b a (inl (e, w)) = (no_fault s.fault e, w)
-listed s b a (inr e) = absurd (omega (arith, e))
+listed s b a (inr (e, f)) = absurd (omega (arith, e))
+
+pub printed_survey : (s : Survey) (status : ℕ) (b a : Side) → (HasFailed b.failures a.failures → ⊥) → PrintsSurvey (Ok s) status b a
+    → (status ≡ status_by_fault s.fault) × Appends b.bytes a.bytes (survey_text s)
+printed_survey s status b a none (inl h) = h
+printed_survey s status b a none (inr (e, f)) = absurd (none f)
+
+pub printed_checks : (style : LineStyle) (names : List (List ℕ)) (dones : List (Result Checked DecodeFault)) (status : ℕ) (b a : Side)
+    → (HasFailed b.failures a.failures → ⊥) → PrintsChecks style names dones status b a
+    → (length dones ≡ length names) × (status ≡ status_by_checks style dones) × Appends b.bytes a.bytes (checks_text style names dones)
+printed_checks style names dones status b a none (inl h) = h
+printed_checks style names dones status b a none (inr (e, f)) = absurd (none f)
+
+pub printed_sums : {T : Type 0} (each : Bool) (report : T) (name : List ℕ) (good status : ℕ) (b a : Side)
+    → (HasFailed b.failures a.failures → ⊥) → PrintsSum {T = T} each (Ok report) name good status b a
+    → (status ≡ good) × PrintsSums each name b.bytes a.bytes
+printed_sums each report name good status b a none (inl h) = h
+printed_sums each report name good status b a none (inr (e, f)) = absurd (none f)
 
 pub never_done : (name : List ℕ) (r : Report) → IsUnopened {T = Report} Device Memory name (Ok r) → ⊥
 never_done name r (e, inl f) = absurd cc

@@ -12,7 +12,7 @@ use Rattle.vp_args.specs.declared.picture_args.PictureArgs.{PictureArgs}
 use Rattle.vp_app.specs.declared.picture.MadePicture.{MadePicture}
 use Rattle.vp_app.specs.declared.picture_fault.PictureFault.{PictureFault}
 use Rattle.vp_app.specs.declared.picture_fault.PictureFault.TheVariants.{Find, TooLong, Device, ReadTurns, Memory}
-use Rattle.vp_app.specs.Usual.{AreLimits}
+use Rattle.vp_app.specs.Usual.{AreLimitsOf}
 use Rattle.vp_app.specs.Commands.{IsFileRead, IsMadeInput, Over, Side, is_stream}
 use Rattle.vp_app.specs.Picturing.{is_told, is_foreign, IsPictureFile, IsUnmade}
 use Rattle.vp_app.proofs.CommandLemmas.{over_file}
@@ -25,13 +25,13 @@ unmade p Device i j h = tt
 unmade p ReadTurns i j h = tt
 unmade p Memory i j h = tt
 
-pub unfound : (p : PictureArgs) (e : FindFault) (limits : Limits) (file : List ℕ) (i j : Side) → AreLimits 16 limits → IsFileRead file i j
+pub unfound : (p : PictureArgs) (e : FindFault) (limits : Limits) (file : List ℕ) (i j : Side) → AreLimitsOf p.limits limits → IsFileRead file i j
     → (e ≡ find_fault.Memory) ⊎ IsFaultIn limits file p.packet e → IsMadeInput p (Err (Find e)) i j
 unfound p e limits file i j usual read (inl m) = (file, read, inl m)
 unfound p e limits file i j usual read (inr f) = (file, read, inr (limits, usual, f))
 
 pub made : (p : PictureArgs) (done : Result MadePicture PictureFault) (found : Found) (limits : Limits) (file : List ℕ) (i j : Side)
-    → AreLimits 16 limits → IsFileRead file i j → IsFoundIn limits file p.packet found → IfOk done (λ m. m.number ≡ found.number)
+    → AreLimitsOf p.limits limits → IsFileRead file i j → IsFoundIn limits file p.packet found → IfOk done (λ m. m.number ≡ found.number)
     → IfOk done (λ m. m.dim.w ≡ scaled_side (factor_of p.scale) found.dim.w)
     → IfOk done (λ m. m.dim.h ≡ scaled_side (factor_of p.scale) found.dim.h) → IfOk done (λ m. m.has_alpha ≡ found.has_alpha)
     → IfErr done (IsUnmade p found) → IfOk done (λ m. IsPictureFile p.form p.scale p.qi found m.bytes m.coding)

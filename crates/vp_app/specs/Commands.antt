@@ -28,14 +28,14 @@ use Rattle.vp_stream.specs.Written.{IsDecodeAnswerFor, IsSurveyFor}
 use Rattle.vp_frames.specs.declared.report.RangeReport.{RangeReport}
 use Rattle.vp_frames.specs.declared.range.PacketRange.{PacketRange}
 use Rattle.vp_frames.specs.Written.{IsRangeAnswerFor}
-use Rattle.clap.specs.Walk.{Row, first_of, one_of, texts}
+use Rattle.clap.specs.Walk.{Row, first_of, texts}
 use Rattle.vp_check.specs.declared.checked.Checked.{Checked}
 use Rattle.vp_check.specs.Checks.{IsCheckFor as IsCheckAnswerFor}
 use Rattle.vp_lines.specs.CheckLines.{checks_text, is_well}
 use Rattle.vp_lines.specs.Listing.{survey_text}
 use Rattle.vp_lines.specs.Sums.{PrintsSums}
 use Rattle.vp_app.specs.Status.{status_by, status_of}
-use Rattle.vp_app.specs.Usual.{AreLimits, AreLimitsOf}
+use Rattle.vp_app.specs.Usual.{AreLimitsOf}
 use Rattle.vp_lines.specs.declared.styles.LineStyle.{LineStyle}
 use Rattle.vp_lines.specs.declared.styles.LineStyle.TheVariants.{Counted, Packets, Json}
 use Rattle.vp_args.specs.declared.check_args.CheckArgs.{CheckArgs}
@@ -43,6 +43,7 @@ use Rattle.vp_args.specs.declared.decode_args.DecodeArgs.{DecodeArgs}
 use Rattle.vp_args.specs.declared.decode_args.DecodeRangeArgs.{DecodeRangeArgs}
 use Rattle.vp_args.specs.declared.file_limits.FileLimits.{FileLimits}
 use Rattle.vp_args.specs.declared.info_args.InfoArgs.{InfoArgs}
+use Rattle.vp_args.specs.declared.encode_args.EncodeArgs.{EncodeArgs}
 use Rattle.vp_args.specs.declared.encode_args.EncodeOptions.{EncodeOptions}
 use Rattle.vp_args.specs.declared.serve_args.ServeArgs.{ServeArgs}
 use Rattle.vp_app.specs.declared.service.ServiceFault.{ServiceFault}
@@ -59,9 +60,9 @@ use Rattle.vp_args.specs.declared.picture_args.PictureArgs.{PictureArgs}
 use Rattle.vp_app.specs.Many.{ServesMany, status_by_many}
 use Rattle.vp_args.specs.declared.serve_args.ServeManyArgs.{ServeManyArgs}
 use Rattle.vp_args.specs.Args.{ParsedArgs, checks, decodes, decodes_range, encodes, tells, pictures, serves}
-use Rattle.vp_args.specs.Args.{serves_many, nothing, AreMiswanted, AreNoFileLimits, AreNoSettings, IsCheckFor, IsDecodeFor}
-use Rattle.vp_args.specs.Args.{IsInfoFor, IsNoDecoding, IsNoPicture, IsPictureFor, IsRangeFor}
-use Rattle.vp_args.specs.Args.{AreSettings, IsFlag, IsNoService, IsNoServiceOfMany, IsServiceFor, IsServiceOfMany}
+use Rattle.vp_args.specs.Args.{serves_many, nothing, AreMiswanted, AreNoFileLimits, IsCheckFor, IsDecodeFor}
+use Rattle.vp_args.specs.Args.{IsEncodeFor, IsInfoFor, IsNoDecoding, IsNoEncoding, IsNoPicture, IsPictureFor, IsRangeFor}
+use Rattle.vp_args.specs.Args.{IsNoService, IsNoServiceOfMany, IsServiceFor, IsServiceOfMany}
 
 -- ---- standard streams
 
@@ -197,11 +198,15 @@ abbrev pub status_by_fault : Option FileFault → ℕ
 status_by_fault None = 0
 status_by_fault (Some fault) = 1
 
--- the survey is printed, or the status is 1; without a survey nothing is printed
-abbrev pub PrintsSurvey : Result Survey DecodeFault → ℕ → Option (List ℕ) → Option (List ℕ) → Type 0
-PrintsSurvey (Ok survey) status before after = ((status ≡ status_by_fault survey.fault)
-    × Appends before after (survey_text survey)) ⊎ (status ≡ 1)
-PrintsSurvey (Err fault) status before after = (status ≡ 1) × (after ≡ before)
+-- a call of the output was counted as failed, and the status is 1
+abbrev pub IsUnwritten : ℕ → Side → Side → Type 0
+IsUnwritten status output output' = (status ≡ 1) × HasFailed output.failures output'.failures
+
+-- the survey is printed, or the output failed; without a survey nothing is printed
+abbrev pub PrintsSurvey : Result Survey DecodeFault → ℕ → Side → Side → Type 0
+PrintsSurvey (Ok survey) status output output' = ((status ≡ status_by_fault survey.fault)
+    × Appends output.bytes output'.bytes (survey_text survey)) ⊎ IsUnwritten status output output'
+PrintsSurvey (Err fault) status output output' = (status ≡ 1) × (output' ≡ output)
 
 -- ---- vp8 check
 
@@ -243,16 +248,16 @@ AreFilesChecked most (name ∷ names) (done ∷ dones) input input' = (next : Si
 abbrev pub status_by_checks : LineStyle → List (Result Checked DecodeFault) → ℕ
 status_by_checks style dones = if list_all (is_well style) dones then 0 else 1
 
--- all files are checked, and all lines are printed; or the status is 1
-abbrev pub PrintsChecks : LineStyle → List (List ℕ) → List (Result Checked DecodeFault) → ℕ → Option (List ℕ)
-    → Option (List ℕ) → Type 0
-PrintsChecks style names dones status before after = ((length dones ≡ length names)
-    × (status ≡ status_by_checks style dones) × Appends before after (checks_text style names dones)) ⊎ (status ≡ 1)
+-- all files are checked, and all lines are printed; or the output failed
+abbrev pub PrintsChecks : LineStyle → List (List ℕ) → List (Result Checked DecodeFault) → ℕ → Side → Side → Type 0
+PrintsChecks style names dones status output output' = ((length dones ≡ length names)
+    × (status ≡ status_by_checks style dones)
+    × Appends output.bytes output'.bytes (checks_text style names dones)) ⊎ IsUnwritten status output output'
 
 -- checks files, and prints what is found
 abbrev pub ChecksEach : FileLimits → LineStyle → List (List ℕ) → ℕ → Side → Side → Side → Side → Type 0
 ChecksEach most style names status input input' output output' = (dones : List (Result Checked DecodeFault))
-    × AreFilesChecked most names dones input input' × PrintsChecks style names dones status output.bytes output'.bytes
+    × AreFilesChecked most names dones input input' × PrintsChecks style names dones status output output'
 
 -- ---- vp8 encode
 
@@ -270,14 +275,16 @@ settings_of o = record {
   partitions = o.partitions;
 }
 
--- what is asked of the encoder: its settings, and whether packets are written while pictures are read
+-- what is asked of the encoder: its settings, whether packets are written while pictures are read, and the greatest
+-- files
 pub record Encoding : Type 0 where
   pub settings : Settings
   pub live : Bool
+  pub most : FileLimits
 
--- as the options and the flag say
-abbrev pub encoding_of : EncodeOptions → Bool → Encoding
-encoding_of options live = record { settings = settings_of options; live = live }
+-- as the arguments say
+abbrev pub encoding_of : EncodeArgs → Encoding
+encoding_of e = record { settings = settings_of e.options; live = e.live; most = e.limits }
 
 -- the answer of `encode_all`, which writes behind the last picture, or of `encode_live`
 abbrev pub IsAnswerOf : Bool → Limits → Settings → Result EncodeReport EncodeAllFault → List ℕ → Option (List ℕ)
@@ -290,7 +297,7 @@ IsAnswerOf true limits settings done file before after =
 pub record IsFileEncoded (encoding : Encoding) (done : Result EncodeReport EncodeAllFault)
     (input input' output output' : Side) : Type 0 where
   pub limits : Limits
-  pub usual : AreLimits 16 limits
+  pub usual : AreLimitsOf encoding.most limits
   pub file : List ℕ
   pub consumed : Consumes input.bytes input'.bytes file
   pub answer : IsAnswerOf encoding.live limits encoding.settings done file output.bytes output'.bytes
@@ -342,12 +349,11 @@ abbrev pub SumsFile : {T : Type 0} → (Result T DecodeFault → Side → Side �
 SumsFile Work from done input input' = (IsUnopened Device Memory from done × (input' ≡ input))
     ⊎ Over from (Summed (Work done)) input input'
 
--- the lines of the sums are printed, with this status, or the status is 1; after a fault nothing is printed
-abbrev pub PrintsSum : {T : Type 0} → Bool → Result T DecodeFault → List ℕ → ℕ → ℕ → Option (List ℕ)
-    → Option (List ℕ) → Type 0
-PrintsSum each (Ok report) name good status before after =
-    ((status ≡ good) × PrintsSums each name before after) ⊎ (status ≡ 1)
-PrintsSum each (Err fault) name good status before after = (status ≡ 1) × (after ≡ before)
+-- the lines of the sums are printed, with this status, or the output failed; after a fault nothing is printed
+abbrev pub PrintsSum : {T : Type 0} → Bool → Result T DecodeFault → List ℕ → ℕ → ℕ → Side → Side → Type 0
+PrintsSum each (Ok report) name good status output output' =
+    ((status ≡ good) × PrintsSums each name output.bytes output'.bytes) ⊎ IsUnwritten status output output'
+PrintsSum each (Err fault) name good status output output' = (status ≡ 1) × (output' ≡ output)
 
 -- writes the pictures
 abbrev pub WritesPictures : DecodeArgs → ℕ → Side → Side → Side → Side → Type 0
@@ -360,7 +366,7 @@ abbrev pub SumsPictures : DecodeArgs → ℕ → Side → Side → Side → Side
 SumsPictures d status input input' output output' =
     (form : Form) × (done : Result Report DecodeFault) × (is_y4m form ≡ d.y4m)
     × SumsFile (IsFileDecoded d.limits form) d.input.now done input input'
-    × PrintsSum d.md5_each done d.output.now (status_of done) status output.bytes output'.bytes
+    × PrintsSum d.md5_each done d.output.now (status_of done) status output output'
 
 -- the effect of `vp8 decode`
 abbrev pub DoesDecode : DecodeArgs → ℕ → Side → Side → Side → Side → Type 0
@@ -380,7 +386,7 @@ abbrev pub SumsRange : DecodeRangeArgs → ℕ → Side → Side → Side → Si
 SumsRange r status input input' output output' =
     (form : Form) × (done : Result RangeReport DecodeFault) × (is_y4m form ≡ r.decoding.y4m)
     × SumsFile (IsFileRangeDecoded r.decoding.limits form r.first r.last) r.decoding.input.now done input input'
-    × PrintsSum r.decoding.md5_each done r.decoding.output.now (status_by_range r.last done) status output.bytes output'.bytes
+    × PrintsSum r.decoding.md5_each done r.decoding.output.now (status_by_range r.last done) status output output'
 
 -- the effect of `vp8 decode` for a range of packets
 abbrev pub DoesDecodeRange : DecodeRangeArgs → ℕ → Side → Side → Side → Side → Type 0
@@ -391,9 +397,8 @@ DoesDecodeRange r status input input' output output' =
 -- the effect of `vp8 encode`
 abbrev pub DoesEncode : List Row → List ℕ → List ℕ → ℕ → Side → Side → Side → Side → Type 0
 DoesEncode rows from to status input input' output output' =
-    (options : EncodeOptions) × (live : Bool) × (done : Result EncodeReport EncodeAllFault) × AreSettings rows options
-    × IsFlag (one_of (codes "live") rows) live × (status ≡ status_by_report done)
-    × EncodesFile (encoding_of options live) from to done input input' output output'
+    (e : EncodeArgs) × (done : Result EncodeReport EncodeAllFault) × IsEncodeFor rows from to e
+    × (status ≡ status_by_report done) × EncodesFile (encoding_of e) from to done input input' output output'
 
 -- the lines of one file are asked for, without marks
 abbrev pub is_plain : InfoArgs → Bool
@@ -412,7 +417,7 @@ first_name (name ∷ names) = name
 abbrev pub ListsFile : FileLimits → List ℕ → ℕ → Side → Side → Side → Side → Type 0
 ListsFile most from status input input' output output' =
     (done : Result Survey DecodeFault) × SurveysFile most from done input input'
-    × PrintsSurvey done status output.bytes output'.bytes
+    × PrintsSurvey done status output output'
 
 -- the effect of `vp8 info`
 abbrev pub DoesInfo : InfoArgs → ℕ → Side → Side → Side → Side → Type 0
@@ -433,7 +438,7 @@ pub record IsFileRead (file : List ℕ) (input input' : Side) : Type 0 where
 -- the input gives no picture, for this reason
 abbrev pub IsFoundFault : PictureArgs → FindFault → List ℕ → Type 0
 IsFoundFault p e file =
-    (e ≡ find_fault.Memory) ⊎ ((limits : Limits) × AreLimits 16 limits × IsFaultIn limits file p.packet e)
+    (e ≡ find_fault.Memory) ⊎ ((limits : Limits) × AreLimitsOf p.limits limits × IsFaultIn limits file p.packet e)
 
 -- the picture of an open input, or its fault; if it can't be read, nothing is said
 abbrev pub IsMadeInput : PictureArgs → Result MadePicture PictureFault → Side → Side → Type 0
@@ -491,7 +496,7 @@ Does (decodes_range rows from to) status input input' output output' =
     × IsUsageFault status input input' output output'))
 Does (encodes rows from to) status input input' output output' =
     DoesEncode rows from to status input input' output output'
-    ⊎ (IsUnbegun status input input' output output' ⊎ (AreNoSettings rows
+    ⊎ (IsUnbegun status input input' output output' ⊎ (IsNoEncoding rows
     × IsUsageFault status input input' output output'))
 Does (tells rows files) status input input' output output' =
     ((i : InfoArgs) × IsInfoFor rows files i × DoesInfo i status input input' output output')

@@ -17,7 +17,7 @@ use Rattle.vp_still.specs.TooLong.{IsTooLongStill}
 use Rattle.vp_args.specs.declared.picture_args.PictureArgs.{PictureArgs}
 use Rattle.vp_args.specs.declared.picture_args.StillForm.{StillForm}
 use Rattle.vp_args.specs.declared.picture_args.StillForm.TheVariants.{WebP, Y4m, I420, Ppm}
-use Rattle.vp_app.specs.Usual.{AreLimits}
+use Rattle.vp_app.specs.Usual.{AreLimitsOf}
 use Rattle.vp_app.specs.declared.picture.MadePicture.{MadePicture}
 use Rattle.vp_app.specs.declared.picture_fault.PictureFault.{PictureFault}
 use Rattle.vp_app.specs.declared.picture_fault.PictureFault.TheVariants.{Find, TooLong, Device, ReadTurns, Memory}
@@ -34,7 +34,7 @@ IsPictureFile Ppm scale qi f bytes coding = (coding ≡ None) × (bytes ≡ ppm_
 -- the picture of this file that the arguments want, in the form that they want
 pub record IsPictureOf (p : PictureArgs) (file : List ℕ) (m : MadePicture) : Type 0 where
   pub limits : Limits
-  pub usual : AreLimits 16 limits
+  pub usual : AreLimitsOf p.limits limits
   pub found : Found
   pub found_is : IsFoundIn limits file p.packet found
   pub number_is : m.number ≡ found.number
@@ -51,7 +51,7 @@ IsUnmade p f fault = fault ≡ Memory
 -- the picture of this file that the arguments want is encoded, and its key frame is too long
 pub record IsTooLongOf (p : PictureArgs) (file : List ℕ) : Type 0 where
   pub limits : Limits
-  pub usual : AreLimits 16 limits
+  pub usual : AreLimitsOf p.limits limits
   pub found : Found
   pub found_is : IsFoundIn limits file p.packet found
   pub long : IsUnmade p found TooLong

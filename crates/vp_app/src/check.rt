@@ -1,10 +1,10 @@
 //! The command `vp8 check`, and `vp8 info` where it lists more than one file or more of it.
 
-ghost use Rattle.std.specs.Prelude.{◌≡◌, ◌≤◌, List, Result, length, IfOk};
+ghost use Rattle.std.specs.Prelude.{◌≡◌, ◌≤◌, List, Result, length, IfOk, OnErr};
 ghost use Rattle.std.specs.List.{list_all};
 ghost use Rattle.std.specs.Io.KnownBytes.{Appends};
 ghost use Rattle.clap.specs.Walk.{texts};
-ghost use Rattle.vp_base.specs.Counted.{counted_contents};
+ghost use Rattle.vp_base.specs.Counted.{counted_contents, counted_failures, HasFailed};
 ghost use Rattle.vp_stream.specs.declared.fault.DecodeFault.{DecodeFault};
 ghost use Rattle.vp_check.specs.declared.checked.Checked.{Checked};
 ghost use Rattle.vp_lines.specs.CheckLines.{checks_text, counts_of, file_text, is_well};
@@ -14,6 +14,7 @@ ghost use Rattle.vp_app.specs.Commands.{ChecksInput, IsFileChecked};
 use crate::files::{file_fault, limits_of};
 use crate::hints::hint_decode;
 use crate::outside::Outside;
+use crate::unwritten::failed_write;
 use std::alloc::Global;
 use std::io::{Read, Write};
 use std::rt::Files;
@@ -33,6 +34,8 @@ pub(crate) struct CheckWork<'a> {
     pub(crate) style: LineStyle,
     /// The names of the files.
     pub(crate) names: &'a [&'a str],
+    /// The output's number of failed calls before the work.
+    pub(crate) failures: u64,
 }
 
 /// Checks files, one after another, and prints what is found. Returns the exit status: 0 only if nothing is wrong with
@@ -44,6 +47,7 @@ pub(crate) fn check_files<H: Files + AllocGlobal + Clock + Eprint, R: Read, W: W
     output: &mut Counted<W>,
     errors: &mut Counted<E>,
 ) -> u8
+    requires { work.now.failures ≡ counted_failures output.old }
     ensures status { result ≤ 1 }
     ensures checked { ChecksEach work.now.limits work.now.style (texts work.now.names.now) result
         (read_side R.remaining input.old) (read_side R.remaining input.new)
@@ -65,13 +69,14 @@ fn check_each<H: Files + AllocGlobal + Clock + Eprint, R: Read, W: Write, E: Wri
     output: &mut Counted<W>,
     errors: &mut Counted<E>,
 ) -> Result<bool, Device>
-    ensures { (dones : List (Result Checked DecodeFault))
+    ensures checked { (dones : List (Result Checked DecodeFault))
         × AreFilesChecked work.now.limits (texts work.now.names.now) dones
         (read_side R.remaining input.old) (read_side R.remaining input.new)
         × IfOk result (λ well. (length dones ≡ length work.now.names.now)
         × (well ≡ list_all (is_well work.now.style) dones)
         × Appends (counted_contents W.contents output.old) (counted_contents W.contents output.new)
         (checks_text work.now.style (texts work.now.names.now) dones)) }
+    ensures device { OnErr result (HasFailed work.now.failures (counted_failures output.new)) }
 {
     let names = work.names;
     let mut total = Counts::none();
@@ -81,8 +86,10 @@ fn check_each<H: Files + AllocGlobal + Clock + Eprint, R: Read, W: Write, E: Wri
         total = total.with(counts);
         well &= sound;
     }
-    put_total(work.style, names.len(), &total, output)?;
-    Ok(well)
+    match put_total(work.style, names.len(), &total, output) {
+        Ok(()) => Ok(well),
+        Err(_) => Err(failed_write(work.failures, output)),
+    }
 }
 
 // Checks a file, and prints what is found. Returns the numbers of its packets, and whether nothing is wrong.
@@ -94,14 +101,17 @@ fn check_one<H: Files + AllocGlobal + Clock + Eprint, R: Read, W: Write, E: Writ
     output: &mut Counted<W>,
     errors: &mut Counted<E>,
 ) -> Result<(Counts, bool), Device>
-    ensures { (done : Result Checked DecodeFault)
+    ensures checked { (done : Result Checked DecodeFault)
         × ChecksFile work.now.limits name.now done (read_side R.remaining input.old) (read_side R.remaining input.new)
         × IfOk result (λ found. (found.0 ≡ counts_of done) × (found.1 ≡ is_well work.now.style done)
         × Appends (counted_contents W.contents output.old) (counted_contents W.contents output.new)
         (file_text work.now.style name.now done)) }
+    ensures device { OnErr result (HasFailed work.now.failures (counted_failures output.new)) }
 {
     let done = check_file(outside, work.limits, name, input);
-    put_done(outside.alloc(), name, &done, work.style, output)?;
+    if put_done(outside.alloc(), name, &done, work.style, output).is_err() {
+        return Err(failed_write(work.failures, output));
+    }
     hint_done(outside, name, &done, work.style, errors);
     Ok((Counts::of(&done), is_well(work.style, &done)))
 }

@@ -4,14 +4,14 @@ ghost use Rattle.std.specs.Prelude.{◌≡◌, ⊤, false};
 ghost use Rattle.vp_app.specs.Commands.{encoding_of, is_stream, read_side, settings_of, written_side, EncodesFile};
 ghost use Rattle.vp_app.specs.Commands.{EncodesInto, IsFileEncoded};
 
-use crate::files::file_fault;
+use crate::files::{file_fault, limits_of};
 use crate::outside::Outside;
 use std::alloc::Global;
 use std::io::{Read, Write};
 use std::rt::Files;
 use std::time::Clock;
 use vp_args::{EncodeArgs, EncodeOptions};
-use vp_base::{Counted, Limits};
+use vp_base::Counted;
 use vp_encode::{
     EncodeAllFault, EncodeReport, EncodedSoFar, Settings, Watcher, encode_all_watched,
 };
@@ -65,7 +65,7 @@ pub(crate) fn encode<H: Files + AllocGlobal + Clock + Eprint, R: Read, W: Write>
     input: &mut Counted<R>,
     output: &mut Counted<W>,
 ) -> Result<EncodeReport, EncodeAllFault>
-    ensures encoded { EncodesFile (encoding_of encoding.now.options encoding.now.live)
+    ensures encoded { EncodesFile (encoding_of encoding.now)
         encoding.now.input.now encoding.now.output.now result
         (read_side R.remaining input.old) (read_side R.remaining input.new)
         (written_side W.contents output.old) (written_side W.contents output.new) }
@@ -101,7 +101,7 @@ fn encode_into<H: Files + AllocGlobal, R: Read, W: Write, T: Watcher>(
     output: &mut Counted<W>,
     watcher: &mut T,
 ) -> Result<EncodeReport, EncodeAllFault>
-    ensures encoded { EncodesInto (encoding_of encoding.now.options encoding.now.live) encoding.now.output.now result
+    ensures encoded { EncodesInto (encoding_of encoding.now) encoding.now.output.now result
         (read_side R.remaining input.old) (read_side R.remaining input.new)
         (written_side W.contents output.old) (written_side W.contents output.new) }
     ensures unwritten { is_stream encoding.now.output.now ≡ false → output.new ≡ output.old }
@@ -129,14 +129,15 @@ fn encode_over<R: Read, W: Write, T: Watcher>(
     output: &mut Counted<W>,
     watcher: &mut T,
 ) -> Result<EncodeReport, EncodeAllFault>
-    ensures { IsFileEncoded (encoding_of encoding.now.options encoding.now.live) result
+    ensures { IsFileEncoded (encoding_of encoding.now) result
         (read_side R.remaining input.old) (read_side R.remaining input.new)
         (written_side W.contents output.old) (written_side W.contents output.new) }
 {
     let settings = settings_of(&encoding.options);
+    let limits = limits_of(encoding.limits);
     if encoding.live {
-        encode_live(alloc, input, output, settings, Limits::usual(), watcher)
+        encode_live(alloc, input, output, settings, limits, watcher)
     } else {
-        encode_all_watched(alloc, input, output, settings, Limits::usual(), watcher)
+        encode_all_watched(alloc, input, output, settings, limits, watcher)
     }
 }

@@ -206,7 +206,6 @@ fn hint_find<H, W: Write>(
 ) -> io::Result<()> {
     let file = input_name(from);
     match fault {
-        FindFault::File(FileFault::TooMany) => writeln!(output, "  {file}: over 1,048,576 packets"),
         FindFault::File(fault) if from == "-" => hint_stream_file(fault, file, output),
         FindFault::File(fault) => hint_file(fault, from, &outside.input, "read", output),
         FindFault::WebP(WebPFault::Signature) if from != "-" => {
@@ -217,8 +216,7 @@ fn hint_find<H, W: Write>(
             writeln!(output, "  {file}: {words}")
         }
         FindFault::Packet(fault) => {
-            let is_webp = outside.input.kind() == FileKind::WebP;
-            let (words, advice) = (packet_words(fault), if is_webp { "" } else { ANOTHER });
+            let (words, advice) = (meaning_of(fault), packet_advice(outside, fault));
             writeln!(output, "  {file}: {words}{advice}")
         }
         FindFault::Hidden => writeln!(
@@ -231,11 +229,12 @@ fn hint_find<H, W: Write>(
     }
 }
 
-// What is wrong with the packet of a picture.
-fn packet_words(fault: PacketFault) -> &'static str {
-    match fault {
-        PacketFault::TooLarge => "over 16,777,216 pixels",
-        fault => meaning_of(fault),
+// What to do about a packet that gives no picture.
+fn packet_advice<H>(outside: &Outside<'_, H>, fault: PacketFault) -> &'static str {
+    if outside.input.kind() == FileKind::WebP || fault == PacketFault::TooLarge {
+        ""
+    } else {
+        ANOTHER
     }
 }
 
@@ -278,10 +277,12 @@ fn hint_torn<H, W: Write>(
 fn words_of(fault: EncodeAllFault) -> &'static str {
     match fault {
         EncodeAllFault::Size => {
-            ": no width and height, a side over 16,383, or over 16,777,216 pixels"
+            ": no width and height, a side over 16,383, or more pixels than the limit, which --max-pixels sets"
         }
         EncodeAllFault::Interlaced => ": interlaced; only progressive pictures are read",
-        EncodeAllFault::TooMany => ": over 1,048,576 pictures",
+        EncodeAllFault::TooMany => {
+            ": more pictures than the limit. Try: a greater --max-packets, up to 16777216"
+        }
         EncodeAllFault::TooLong => {
             ": a picture's modes and vectors need over 524,287 bytes. Try: a greater --qi"
         }

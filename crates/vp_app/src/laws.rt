@@ -1,6 +1,6 @@
 //! Theorems about the exit status and the effects of commands.
 
-ghost use Rattle.std.specs.Prelude.{◌≡◌, ◌⊎◌, ℕ, Bool, List, Option, None, Result, Err, Ok, false, true, length};
+ghost use Rattle.std.specs.Prelude.{◌≡◌, ◌⊎◌, ℕ, Bool, List, None, Result, Err, Ok, false, true, length};
 ghost use Rattle.std.specs.List.{list_all};
 ghost use Rattle.std.specs.Io.KnownBytes.{Appends};
 ghost use Rattle.vp_base.specs.Counted.{HasFailed};
@@ -21,10 +21,11 @@ ghost use Rattle.vp_args.specs.declared.file_limits.FileLimits.{FileLimits};
 ghost use Rattle.vp_lines.specs.declared.styles.LineStyle.{LineStyle};
 ghost use Rattle.vp_check.specs.declared.checked.Checked.{Checked};
 ghost use Rattle.vp_lines.specs.CheckLines.{checks_text, is_well};
-ghost use Rattle.vp_app.specs.Commands.{ChecksFile, ChecksInput, PrintsChecks};
+ghost use Rattle.vp_app.specs.Commands.{ChecksFile, ChecksInput, PrintsChecks, PrintsSum, status_by_checks};
 ghost use Rattle.vp_app.specs.Commands.{DecodesRangeInto, IsFileRangeDecoded, PrintsSurvey, Side, SurveysFile};
-ghost use Rattle.vp_app.specs.Commands.{SurveysInput};
+ghost use Rattle.vp_app.specs.Commands.{SurveysInput, status_by_fault};
 ghost use Rattle.vp_lines.specs.Listing.{survey_text};
+ghost use Rattle.vp_lines.specs.Sums.{PrintsSums};
 ghost use Rattle.vp_app.specs.Serving.{IsServed};
 ghost use Rattle.vp_app.specs.Commands.{status_by_service};
 ghost use Rattle.vp_app.specs.declared.service.ServiceFault.{ServiceFault};
@@ -32,19 +33,35 @@ ghost use Rattle.vp_app.specs.declared.service.ServiceFault.{ServiceFault};
 /// `vp8 info` has status 0 only if the file has no fault and all its lines are printed.
 #[tactic(auto, using(crate::proofs::CommandLemmas::listed))]
 pub fn status_0_of_info_says_that_all_is_printed()
-    ensures listed { (survey : Survey) (before after : Option (List ℕ)) → PrintsSurvey (Ok survey) 0 before after
-        → (survey.fault ≡ None) × Appends before after (survey_text survey) }
-    ensures unlisted { (fault : DecodeFault) (status : ℕ) (before after : Option (List ℕ))
-        → PrintsSurvey (Err fault) status before after → (status ≡ 1) × (after ≡ before) }
+    ensures listed { (survey : Survey) (o p : Side) → PrintsSurvey (Ok survey) 0 o p
+        → (survey.fault ≡ None) × Appends o.bytes p.bytes (survey_text survey) }
+    ensures unlisted { (fault : DecodeFault) (status : ℕ) (o p : Side)
+        → PrintsSurvey (Err fault) status o p → (status ≡ 1) × (p ≡ o) }
 {}
 
 /// `vp8 check` has status 0 only if nothing is wrong with any file, and all its lines are printed.
 #[tactic(auto, using(crate::proofs::CheckLemmas::nothing_wrong))]
 pub fn status_0_of_check_says_that_nothing_is_wrong()
     ensures { (style : LineStyle) (names : List (List ℕ)) (dones : List (Result Checked DecodeFault))
-        (before after : Option (List ℕ)) → PrintsChecks style names dones 0 before after
+        (o p : Side) → PrintsChecks style names dones 0 o p
         → (length dones ≡ length names) × (list_all (is_well style) dones ≡ true)
-        × Appends before after (checks_text style names dones) }
+        × Appends o.bytes p.bytes (checks_text style names dones) }
+{}
+
+/// `vp8 info`, `check` and `decode --md5` print all their lines, whatever the status is, unless a call of the output is
+/// counted as failed.
+#[tactic(auto, using(crate::proofs::CommandLemmas::printed_survey, crate::proofs::CommandLemmas::printed_checks, crate::proofs::CommandLemmas::printed_sums))]
+pub fn lines_are_printed_unless_the_output_failed()
+    ensures listed { (survey : Survey) (status : ℕ) (o p : Side) → ¬ (HasFailed o.failures p.failures)
+        → PrintsSurvey (Ok survey) status o p
+        → (status ≡ status_by_fault survey.fault) × Appends o.bytes p.bytes (survey_text survey) }
+    ensures checked { (style : LineStyle) (names : List (List ℕ)) (dones : List (Result Checked DecodeFault))
+        (status : ℕ) (o p : Side) → ¬ (HasFailed o.failures p.failures) → PrintsChecks style names dones status o p
+        → (length dones ≡ length names) × (status ≡ status_by_checks style dones)
+        × Appends o.bytes p.bytes (checks_text style names dones) }
+    ensures summed { (each : Bool) (report : Report) (name : List ℕ) (good status : ℕ) (o p : Side)
+        → ¬ (HasFailed o.failures p.failures) → PrintsSum each (Ok report) name good status o p
+        → (status ≡ good) × PrintsSums each name o.bytes p.bytes }
 {}
 
 /// Work over what cannot be opened ends by a fault, and work that is not begun leaves the streams.

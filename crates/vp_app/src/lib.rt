@@ -15,13 +15,15 @@ mod program;
 mod range;
 mod service;
 mod sums;
+mod unwritten;
 
 pub use encode::settings_of;
 pub use files::limits_of;
 pub use laws::{
-    served_connections_have_sessions, standard_input_is_left_or_answered,
-    status_0_of_check_says_that_nothing_is_wrong, status_0_of_info_says_that_all_is_printed,
-    statuses_of_serve, what_is_not_begun_changes_nothing,
+    lines_are_printed_unless_the_output_failed, served_connections_have_sessions,
+    standard_input_is_left_or_answered, status_0_of_check_says_that_nothing_is_wrong,
+    status_0_of_info_says_that_all_is_printed, statuses_of_serve,
+    what_is_not_begun_changes_nothing,
 };
 pub use many::ManyFault;
 pub use picture::MadePicture;

@@ -9,6 +9,7 @@ ghost use Rattle.vp_app.specs.Picturing.{is_told, IsUnmade, is_foreign, IsPictur
 ghost use Rattle.vp_scale.specs.Scale.{factor_of, scaled_side};
 
 use crate::encoded::samples;
+use crate::files::limits_of;
 use crate::hints::hint_picture;
 use crate::outside::Outside;
 use crate::picture_fault::{PictureFault, report_picture_fault};
@@ -16,7 +17,7 @@ use std::alloc::Global;
 use std::io::{Read, Write};
 use std::rt::Files;
 use vp_args::{PictureArgs, StillForm};
-use vp_base::{ByteList, Counted, Dim, Limits, put_all};
+use vp_base::{ByteList, Counted, Dim, put_all};
 use vp_hints::decibels;
 use vp_still::{Coding, Found, find, i420_still, ppm_still, webp_still, y4m_still};
 
@@ -87,7 +88,7 @@ fn picture_of<R: Read>(
     ensures { IsMadeInput wanted.now result (read_side R.remaining input.old) (read_side R.remaining input.new) }
 {
     let file = read_file(alloc, input)?;
-    match find(alloc, &file, wanted.packet, Limits::usual()) {
+    match find(alloc, &file, wanted.packet, limits_of(wanted.limits)) {
         Ok(found) => make(alloc, &found, wanted),
         Err(fault) => Err(PictureFault::Find(fault)),
     }

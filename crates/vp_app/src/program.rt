@@ -5,7 +5,6 @@ ghost use Rattle.clap.specs.Values.{kind_of};
 ghost use Rattle.clap.specs.Walk.{texts};
 ghost use Rattle.clap.specs.declared.error.kind.ErrorKind.{ErrorKind};
 ghost use Rattle.vp_stream.specs.declared.fault.DecodeFault.{DecodeFault};
-ghost use Rattle.vp_base.specs.Counted.{counted_contents};
 ghost use Rattle.vp_hints.specs.Overwrite.{is_begun};
 ghost use Rattle.vp_hints.specs.Witness.{witness_inner};
 ghost use Rattle.vp_app.specs.Commands.{Side, first_name, info_style, is_plain, is_stream, is_summed, is_y4m};
@@ -31,6 +30,7 @@ use crate::picture::{report_picture, write_picture};
 use crate::range::{decode_packets, report_packets};
 use crate::service::{ServiceFault, serve};
 use crate::sums::{sum_packets, sum_pictures};
+use crate::unwritten::report_unwritten;
 use clap::Error;
 use clap::error::ErrorKind;
 use std::alloc::Global;
@@ -69,8 +69,8 @@ use vp_stream::{DecodeFault, Form, Report, Survey, SurveyFault, decode_all, surv
 /// `vp8 info IN...` prints the contents of IVF files, including the packets' faults; with `--long` also which packets
 /// are read past their end, with `--json` as a JSON document for each file.
 ///
-/// With `--progress` these and `encode` print on standard error how far they are, at most twice a second. `decode`,
-/// `info` and `check` read packets and pictures up to the limits of `--max-packets` and `--max-pixels`.
+/// With `--progress` these and `encode` print on standard error how far they are, at most twice a second. They and
+/// `picture` read packets and pictures up to the limits of `--max-packets` and `--max-pixels`.
 ///
 /// `vp8 check IN...` decodes IVF files, one after another, and prints what is found in each: the numbers of its
 /// packets, and its fault. With `--verbose` a line stands before these for each packet that has a fault or is read past
@@ -304,6 +304,7 @@ fn run_info<H: Files + AllocGlobal + Clock + Eprint, R: Read, W: Write, E: Write
         limits: wanted.limits,
         style: info_style(wanted),
         names: &wanted.files,
+        failures: output.failures(),
     };
     check_files(outside, &work, input, output, errors)
 }
@@ -328,6 +329,7 @@ fn run_check<H: Files + AllocGlobal + Clock + Eprint, R: Read, W: Write, E: Writ
             verbose: wanted.verbose,
         },
         names: &wanted.files,
+        failures: output.failures(),
     };
     check_files(outside, &work, input, output, errors)
 }
@@ -609,15 +611,16 @@ fn report_survey<H: AllocGlobal, W: Write, E: Write>(
 ) -> u8
     ensures status { result ≤ 1 }
     ensures well { result ≡ 0 → IsOk done × IfOk done (λ s. s.fault ≡ None) }
-    ensures told { PrintsSurvey done result (counted_contents W.contents output.old)
-        (counted_contents W.contents output.new) }
+    ensures told { PrintsSurvey done result (written_side W.contents output.old)
+        (written_side W.contents output.new) }
 {
     let survey = match done {
         Ok(survey) => survey,
         Err(fault) => return report_unread(outside, fault, from, errors),
     };
+    let failures = output.failures();
     if print_survey(outside.alloc(), &survey, output).is_err() {
-        return report_fault(DecodeFault::Device, errors);
+        return report_unwritten(failures, output, errors);
     }
     match survey.fault {
         Some(fault) => report_unread(outside, DecodeFault::File(fault), from, errors),

@@ -8,6 +8,7 @@ use crate::files::file_fault;
 use crate::outside::Outside;
 use crate::program::{decode_over, form_of, report_decode};
 use crate::range::{decode_over as decode_range_over, report_packets};
+use crate::unwritten::report_unwritten;
 use std::alloc::Global;
 use std::io::{Read, Write};
 use std::rt::Files;
@@ -15,7 +16,7 @@ use std::time::Clock;
 use vp_args::{DecodeArgs, DecodeRangeArgs};
 use vp_base::Counted;
 use vp_frames::RangeReport;
-use vp_lines::{Summer, print_sums, report_fault};
+use vp_lines::{Summer, print_sums};
 use vp_stream::{DecodeFault, Form, Report};
 
 /// Decodes a file, and prints the sums of its pictures. Returns the exit status.
@@ -34,10 +35,10 @@ pub(crate) fn sum_pictures<H: Files + AllocGlobal + Clock + Eprint, R: Read, W: 
     let (each, y4m) = (decoding.md5_each, decoding.y4m);
     let mut summer = Summer::new(outside.alloc(), each, y4m);
     let done = sum_file(outside, form_of(y4m), decoding, input, &mut summer);
-    let is_told = done.is_ok();
+    let (is_told, failures) = (done.is_ok(), output.failures());
     let status = report_decode(outside, done, decoding, errors);
     if is_told && print_sums(summer, each, decoding.output, output).is_err() {
-        return report_fault(DecodeFault::Device, errors);
+        return report_unwritten(failures, output, errors);
     }
     status
 }
@@ -105,10 +106,10 @@ pub(crate) fn sum_packets<H: Files + AllocGlobal + Clock + Eprint, R: Read, W: W
     let mut summer = Summer::new(outside.alloc(), each, y4m);
     let form = form_of(y4m);
     let done = sum_range(outside, form, wanted, input, &mut summer);
-    let is_told = done.is_ok();
+    let (is_told, failures) = (done.is_ok(), output.failures());
     let status = report_packets(outside, done, wanted, errors);
     if is_told && print_sums(summer, each, wanted.decoding.output, output).is_err() {
-        return report_fault(DecodeFault::Device, errors);
+        return report_unwritten(failures, output, errors);
     }
     status
 }

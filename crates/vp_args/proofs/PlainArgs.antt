@@ -128,17 +128,20 @@ still_asked_by : (many : Bool) (name input output : Text) → IsOperand input �
     × (first_of (codes "packet") (still_rows many name input output) ≡ None)
     × (first_of (codes "scale") (still_rows many name input output) ≡ None)
     × (first_of (codes "qi") (still_rows many name input output) ≡ None)
+    × (first_of (codes "max-packets") (still_rows many name input output) ≡ None)
+    × (first_of (codes "max-pixels") (still_rows many name input output) ≡ None)
 unfolding program clap_on_literals rows_in
 still_asked_by many name input output h k =
-    rw (h.separator, h.long, h.short, k.separator, k.long, k.short) (refl, refl, refl, refl)
+    rw (h.separator, h.long, h.short, k.separator, k.long, k.short) (refl, refl, refl, refl, refl, refl)
 
 pub still_asked : (name input output : Text) → IsOperand input → IsOperand output
     → (rows : List Row) × (parsed_args (still_words name input output) ≡ pictures rows input output) × (first_of (codes "packet") rows ≡ None)
     × (first_of (codes "scale") rows ≡ None) × (first_of (codes "qi") rows ≡ None)
+    × (first_of (codes "max-packets") rows ≡ None) × (first_of (codes "max-pixels") rows ≡ None)
 still_asked name input output h k =
     let many = asks_many (still_words name input output) in
     let asked = still_asked_by many name input output h k in
-    (still_rows many name input output, asked.0, asked.1, asked.2, asked.3)
+    (still_rows many name input output, asked.0, asked.1, asked.2, asked.3, asked.4, asked.5)
 
 -- ---- the picture of one packet
 

@@ -18,6 +18,7 @@ use Rattle.clap.specs.declared.error.kind.ErrorKind.TheVariants.{DisplayHelp, Di
 use Rattle.vp_args.specs.declared.check_args.CheckArgs.{CheckArgs}
 use Rattle.vp_args.specs.declared.decode_args.DecodeArgs.{DecodeArgs}
 use Rattle.vp_args.specs.declared.decode_args.DecodeRangeArgs.{DecodeRangeArgs}
+use Rattle.vp_args.specs.declared.encode_args.EncodeArgs.{EncodeArgs}
 use Rattle.vp_args.specs.declared.encode_args.EncodeOptions.{EncodeOptions}
 use Rattle.vp_args.specs.declared.file_limits.FileLimits.{FileLimits}
 use Rattle.vp_args.specs.declared.info_args.InfoArgs.{InfoArgs}
@@ -77,9 +78,13 @@ picture_rules =
     flag_rule (codes "y4m") ∷ setting_rule (codes "frame")
     ∷ setting_rule (codes "frames") ∷ flag_rule (codes "md5") ∷ flag_rule (codes "md5-each") ∷ []
 
+-- the limits on files
+abbrev pub limit_rules : List Rule
+limit_rules = setting_rule (codes "max-packets") ∷ setting_rule (codes "max-pixels") ∷ []
+
 -- the flag for long work, and the limits on files
 abbrev pub reading_rules : List Rule
-reading_rules = flag_rule (codes "progress") ∷ setting_rule (codes "max-packets") ∷ setting_rule (codes "max-pixels") ∷ []
+reading_rules = flag_rule (codes "progress") ∷ limit_rules
 
 -- vp8 decode [--y4m] [--frame N | --frames A-B] [--md5] [--md5-each] [reading] IN [OUT]
 abbrev pub decode_app : App
@@ -100,13 +105,19 @@ frame_rules =
     ∷ flag_rule (codes "subpel")
     ∷ setting_rule (codes "partitions") ∷ []
 
--- the flags for the work, and the files
+-- the flags for the work, and the limits on files
+abbrev pub encoding_rules : List Rule
+encoding_rules = flag_rule (codes "progress") ∷ flag_rule (codes "live") ∷ limit_rules
+
+-- the two files
 abbrev pub file_rules : List Rule
-file_rules = flag_rule (codes "progress") ∷ flag_rule (codes "live") ∷ operand_rule (codes "IN") ∷ operand_rule (codes "OUT") ∷ []
+file_rules = operand_rule (codes "IN") ∷ operand_rule (codes "OUT") ∷ []
 
 -- vp8 encode [options] IN OUT
 abbrev pub encode_app : App
-encode_app = with_rules (with_rules (with_rules (new_app (codes "encode")) macroblock_rules) frame_rules) file_rules
+encode_app =
+    with_rules (with_rules (with_rules (with_rules (new_app (codes "encode")) macroblock_rules) frame_rules)
+    encoding_rules) file_rules
 
 -- vp8 info [--long] [--json] [reading] IN..
 abbrev pub info_app : App
@@ -120,11 +131,12 @@ check_app =
     with_rules (with_rules (with_rules (new_app (codes "check")) (flag_rule (codes "verbose") ∷ [])) reading_rules)
     (operands_rule (codes "IN") ∷ [])
 
--- vp8 picture [--packet N] [--scale K] [--qi Q] IN OUT
+-- vp8 picture [--packet N] [--scale K] [--qi Q] [limits] IN OUT
 abbrev pub picture_app : App
 picture_app =
-    with_rules (new_app (codes "picture")) (setting_rule (codes "packet") ∷ setting_rule (codes "scale")
-    ∷ setting_rule (codes "qi") ∷ operand_rule (codes "IN") ∷ operand_rule (codes "OUT") ∷ [])
+    with_rules (with_rules (with_rules (new_app (codes "picture")) (setting_rule (codes "packet")
+    ∷ setting_rule (codes "scale")
+    ∷ setting_rule (codes "qi") ∷ [])) limit_rules) file_rules
 
 -- an argument that must be present
 abbrev pub required : Rule → Rule
@@ -380,6 +392,15 @@ pub record AreSettings (rows : List Row) (s : EncodeOptions) : Type 0 where
   pub subpel : IsFlag (one_of (codes "subpel") rows) s.subpel
   pub partitions : IsNumber (first_of (codes "partitions") rows) 1 s.partitions
 
+-- the arguments of `encode`
+pub record IsEncodeFor (rows : List Row) (from to : Text) (e : EncodeArgs) : Type 0 where
+  pub settings_are : AreSettings rows e.options
+  pub progress_is : IsFlag (one_of (codes "progress") rows) e.progress
+  pub live_is : IsFlag (one_of (codes "live") rows) e.live
+  pub limits_are : AreFileLimits rows e.limits
+  pub input_is : e.input.now ≡ from
+  pub output_is : e.output.now ≡ to
+
 -- the packet whose picture is wanted: the one with this number, or the first that shows one
 abbrev pub IsPacket : Option Text → Option ℕ → Type 0
 IsPacket None packet = packet ≡ None
@@ -403,6 +424,7 @@ pub record IsPictureFor (rows : List Row) (from to : Text) (p : PictureArgs) : T
   pub packet_is : IsPacket (first_of (codes "packet") rows) p.packet
   pub scale_is : IsNumber (first_of (codes "scale") rows) 1 (factor_of p.scale)
   pub qi_is : IsNumber (first_of (codes "qi") rows) 8 p.qi
+  pub limits_are : AreFileLimits rows p.limits
   pub form_is : form_by_name to ≡ Some p.form
   pub input_is : p.input.now ≡ from
   pub output_is : p.output.now ≡ to
@@ -462,9 +484,7 @@ pub record IsServiceOfMany (rows : List Row) (address : Text) (operands : List T
 abbrev pub IsTaskFor : ParsedArgs → Task → Type 0
 IsTaskFor (decodes rows from to) (Decode d) = IsDecodeFor rows from to d
 IsTaskFor (decodes_range rows from to) (DecodeRange d) = IsRangeFor rows from to d
-IsTaskFor (encodes rows from to) (Encode e) =
-    AreSettings rows e.options × IsFlag (one_of (codes "progress") rows) e.progress
-    × IsFlag (one_of (codes "live") rows) e.live × (e.input.now ≡ from) × (e.output.now ≡ to)
+IsTaskFor (encodes rows from to) (Encode e) = IsEncodeFor rows from to e
 IsTaskFor (tells rows files) (Info i) = IsInfoFor rows files i
 IsTaskFor (checks rows files) (Check c) = IsCheckFor rows files c
 IsTaskFor (pictures rows from to) (Picture p) = IsPictureFor rows from to p
@@ -526,6 +546,10 @@ HasNoOutput rows = (first_of (codes "OUT") rows ≡ None) × IsFlag (one_of (cod
 abbrev pub IsNoDecoding : List Row → Type 0
 IsNoDecoding rows = AreNoFileLimits rows ⊎ HasNoOutput rows
 
+-- some value of `encode` is refused
+abbrev pub IsNoEncoding : List Row → Type 0
+IsNoEncoding rows = AreNoSettings rows ⊎ AreNoFileLimits rows
+
 -- the number of cached pictures is not from 1 to 4096
 abbrev pub IsNoCache : Option Text → Type 0
 IsNoCache None = ⊥
@@ -565,7 +589,7 @@ IsNoScale (Some text) = IsNumeral 10 text → (scale : Scale) → digits_value 1
 abbrev pub IsNoPicture : List Row → Text → Type 0
 IsNoPicture rows to =
     IsMisnumbered (2 ^ 32) (first_of (codes "packet") rows) ⊎ (IsNoScale (first_of (codes "scale") rows)
-    ⊎ (IsAbove 127 (first_of (codes "qi") rows) ⊎ form_by_name to ≡ None))
+    ⊎ (IsAbove 127 (first_of (codes "qi") rows) ⊎ (AreNoFileLimits rows ⊎ form_by_name to ≡ None)))
 
 -- some value is refused
 abbrev pub HasInvalidValue : ParsedArgs → Type 0
@@ -574,7 +598,7 @@ HasInvalidValue (decodes_range rows from to) =
     AreMiswanted (first_of (codes "frame") rows) (first_of (codes "frames") rows) ⊎ IsNoDecoding rows
 HasInvalidValue (tells rows files) = AreNoFileLimits rows
 HasInvalidValue (checks rows files) = AreNoFileLimits rows
-HasInvalidValue (encodes rows from to) = AreNoSettings rows
+HasInvalidValue (encodes rows from to) = IsNoEncoding rows
 HasInvalidValue (pictures rows from to) = IsNoPicture rows to
 HasInvalidValue (serves rows address connections operands) = IsNoService rows connections operands
 HasInvalidValue (serves_many rows address operands) = IsNoServiceOfMany rows operands

@@ -14,7 +14,7 @@ use crate::decode_args::{DecodeArgs, DecodeRangeArgs};
 use crate::encode_args::{EncodeArgs, EncodeOptions};
 use crate::info_args::{InfoArgs, info_task};
 use crate::many_args::{asks_many, serve_many_task};
-use crate::numbers::{ENCODE_NUMBERS, decimal, kept_pictures, numbers};
+use crate::numbers::{ENCODE_NUMBERS, decimal, file_limits, kept_pictures, numbers};
 use crate::picture_args::PictureArgs;
 use crate::picture_options::picture_task;
 use crate::range_args::decode_task;
@@ -182,10 +182,13 @@ fn encode_task_args<'a>(
     ensures refusal { IfErr result (IsRefusal (encodes (rows_of
         (found_of found.now)) input.entry.now output.entry.now)) }
 {
+    let options = encode_options(found)?;
+    let limits = file_limits(found)?;
     Ok(Task::Encode(EncodeArgs {
-        options: encode_options(found)?,
+        options,
         progress: is_set(found, "progress"),
         live: is_set(found, "live"),
+        limits,
         input,
         output,
     }))

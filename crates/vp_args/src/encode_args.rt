@@ -1,5 +1,7 @@
 //! The arguments of `vp8 encode`.
 
+use crate::file_limits::FileLimits;
+
 /// The options of `vp8 encode`: the encoder's settings, which may be out of their ranges.
 #[derive(Clone, Copy, Debug, PartialEq, Eq)]
 pub struct EncodeOptions {
@@ -32,6 +34,8 @@ pub struct EncodeArgs<'a> {
     pub progress: bool,
     /// Whether each packet is written as soon as its picture is read.
     pub live: bool,
+    /// The greatest files that are read: the pictures of the file, and the pixels of each.
+    pub limits: FileLimits,
     /// The file of pictures.
     pub input: &'a str,
     /// The file of packets.

@@ -38,7 +38,8 @@ pub fn picture_words()
         × ((rows : List Row)
         × (parsed_args (name ∷ codes "picture" ∷ input ∷ output ∷ []) ≡ pictures rows input output)
         × (first_of (codes "packet") rows ≡ None) × (first_of (codes "scale") rows ≡ None)
-        × (first_of (codes "qi") rows ≡ None)) }
+        × (first_of (codes "qi") rows ≡ None)
+        × (first_of (codes "max-packets") rows ≡ None) × (first_of (codes "max-pixels") rows ≡ None)) }
 {}
 
 /// `vp8 check A B` and `vp8 check --verbose A` ask to check these files.

@@ -100,6 +100,15 @@ pub(crate) const PICTURE_NUMBERS: [Number; 1] = [Number {
     refusal: "--qi is a number from 0 to 127",
 }];
 
+// The number of cached pictures.
+const CACHE: Number = Number {
+    name: "cache",
+    usual: 16,
+    least: 1,
+    most: 4096,
+    refusal: "--cache is a number from 1 to 4096",
+};
+
 /// The numbers of `serve` for many connections at once, without the number of cached pictures.
 pub(crate) const SERVE_NUMBERS: [Number; 5] = [
     Number {
@@ -195,11 +204,7 @@ pub(crate) fn kept_pictures(found: &ArgMatches<'_>) -> Result<u32, Refusal>
     ensures refusal { IfErr result (λ r. IsInvalidValue r × IsNoCache
         (first_of (codes "cache") (rows_of (found_of found.now)))) }
 {
-    let cache = count(found, "cache", 16, "--cache is a number from 1 to 4096")?;
-    if cache == 0 || cache > 4096 {
-        return Err(Refusal::Value("--cache is a number from 1 to 4096"));
-    }
-    Ok(cache)
+    number_of(found, &CACHE)
 }
 
 /// Returns the limits that `--max-packets` and `--max-pixels` give.

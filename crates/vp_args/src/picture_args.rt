@@ -2,6 +2,7 @@
 
 ghost use Rattle.std.specs.Prelude.{◌≤◌};
 
+use crate::file_limits::FileLimits;
 use vp_scale::Scale;
 
 /// The form of a picture's file.
@@ -26,6 +27,8 @@ pub struct PictureArgs<'a> {
     pub scale: Scale,
     /// The quantiser index of a picture that is encoded anew.
     pub qi: u8,
+    /// The greatest files that are read.
+    pub limits: FileLimits,
     /// The form of the written file.
     pub form: StillForm,
     /// The IVF or WebP file, or `-` for standard input.

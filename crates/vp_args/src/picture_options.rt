@@ -8,7 +8,7 @@ ghost use Rattle.vp_args.specs.Args.{asked_at, form_by_name, has_end, pictures, 
 ghost use Rattle.vp_args.specs.Args.{IsNoScale, IsNumber, IsInvalidValue, IsPacket, IsTaskFor};
 
 use crate::args::{Refusal, Task, text_of};
-use crate::numbers::{PICTURE_NUMBERS, count, decimal, numbers};
+use crate::numbers::{PICTURE_NUMBERS, count, decimal, file_limits, numbers};
 use crate::picture_args::{PictureArgs, StillForm};
 use clap::ArgMatches;
 use vp_scale::Scale;
@@ -36,11 +36,13 @@ fn picture_task_args<'a>(
     let packet = packet(found)?;
     let scale = scale(found)?;
     let [qi] = numbers::<1>(found, PICTURE_NUMBERS.as_slice())?;
+    let limits = file_limits(found)?;
     let form = form(output)?;
     Ok(Task::Picture(PictureArgs {
         packet,
         scale,
         qi: qi as u8,
+        limits,
         form,
         input,
         output,

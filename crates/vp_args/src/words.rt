@@ -63,6 +63,39 @@ const MOTION: Option<&str> = Some("Frames and motion");
 
 const MANY: Option<&str> = Some("Many connections at once");
 
+// The words that more than one command has.
+const PROGRESS: Word = Word {
+    name: "progress",
+    form: Form::Flag,
+    need: Need::Never,
+    group: None,
+    help: "Prints on standard error how far the work is, at most twice a second",
+};
+
+const MAX_PACKETS: Word = Word {
+    name: "max-packets",
+    form: Form::Setting("N"),
+    need: Need::Never,
+    group: LIMITS,
+    help: "The most packets of a file, 1 to 16777216 [default: 1048576]",
+};
+
+const MAX_PIXELS: Word = Word {
+    name: "max-pixels",
+    form: Form::Setting("N"),
+    need: Need::Never,
+    group: LIMITS,
+    help: "The most pixels of a picture, 1 to 268402689 [default: 16777216]",
+};
+
+const FILES: Word = Word {
+    name: "IN",
+    form: Form::Operands,
+    need: Need::Always,
+    group: None,
+    help: "The IVF files, or - for standard input",
+};
+
 /// The program's subcommands.
 const PARTS: [Part; 6] = [
     Part {
@@ -146,27 +179,9 @@ const DECODE_WORDS: [Word; 10] = [
         group: None,
         help: "Prints the MD5 sum of each picture, counted from 0, and then that of --md5",
     },
-    Word {
-        name: "progress",
-        form: Form::Flag,
-        need: Need::Never,
-        group: None,
-        help: "Prints on standard error how far the work is, at most twice a second",
-    },
-    Word {
-        name: "max-packets",
-        form: Form::Setting("N"),
-        need: Need::Never,
-        group: LIMITS,
-        help: "The most packets of a file, 1 to 16777216 [default: 1048576]",
-    },
-    Word {
-        name: "max-pixels",
-        form: Form::Setting("N"),
-        need: Need::Never,
-        group: LIMITS,
-        help: "The most pixels of a picture, 1 to 268402689 [default: 16777216]",
-    },
+    PROGRESS,
+    MAX_PACKETS,
+    MAX_PIXELS,
     Word {
         name: "IN",
         form: Form::Operand,
@@ -183,7 +198,7 @@ const DECODE_WORDS: [Word; 10] = [
     },
 ];
 
-const ENCODE_WORDS: [Word; 13] = [
+const ENCODE_WORDS: [Word; 15] = [
     Word {
         name: "qi",
         form: Form::Setting("Q"),
@@ -247,13 +262,7 @@ const ENCODE_WORDS: [Word; 13] = [
         group: QUALITY,
         help: "Token partitions of a packet: 1, 2, 4 or 8 [default: 1]",
     },
-    Word {
-        name: "progress",
-        form: Form::Flag,
-        need: Need::Never,
-        group: None,
-        help: "Prints on standard error how far the work is, at most twice a second",
-    },
+    PROGRESS,
     Word {
         name: "live",
         form: Form::Flag,
@@ -261,6 +270,14 @@ const ENCODE_WORDS: [Word; 13] = [
         group: None,
         help: "Writes each packet as soon as its picture is read; a source that breaks off leaves what was encoded",
     },
+    Word {
+        name: "max-packets",
+        form: Form::Setting("N"),
+        need: Need::Never,
+        group: LIMITS,
+        help: "The most pictures of IN, 1 to 16777216 [default: 1048576]",
+    },
+    MAX_PIXELS,
     Word {
         name: "IN",
         form: Form::Operand,
@@ -292,34 +309,10 @@ const INFO_WORDS: [Word; 6] = [
         group: None,
         help: "Prints a JSON document for each file, on a line of its own",
     },
-    Word {
-        name: "progress",
-        form: Form::Flag,
-        need: Need::Never,
-        group: None,
-        help: "Prints on standard error how far the work is, at most twice a second",
-    },
-    Word {
-        name: "max-packets",
-        form: Form::Setting("N"),
-        need: Need::Never,
-        group: LIMITS,
-        help: "The most packets of a file, 1 to 16777216 [default: 1048576]",
-    },
-    Word {
-        name: "max-pixels",
-        form: Form::Setting("N"),
-        need: Need::Never,
-        group: LIMITS,
-        help: "The most pixels of a picture, 1 to 268402689 [default: 16777216]",
-    },
-    Word {
-        name: "IN",
-        form: Form::Operands,
-        need: Need::Always,
-        group: None,
-        help: "The IVF files, or - for standard input",
-    },
+    PROGRESS,
+    MAX_PACKETS,
+    MAX_PIXELS,
+    FILES,
 ];
 
 const CHECK_WORDS: [Word; 5] = [
@@ -330,37 +323,13 @@ const CHECK_WORDS: [Word; 5] = [
         group: None,
         help: "Prints a line for each packet that has a fault or is read past its end",
     },
-    Word {
-        name: "progress",
-        form: Form::Flag,
-        need: Need::Never,
-        group: None,
-        help: "Prints on standard error how far the work is, at most twice a second",
-    },
-    Word {
-        name: "max-packets",
-        form: Form::Setting("N"),
-        need: Need::Never,
-        group: LIMITS,
-        help: "The most packets of a file, 1 to 16777216 [default: 1048576]",
-    },
-    Word {
-        name: "max-pixels",
-        form: Form::Setting("N"),
-        need: Need::Never,
-        group: LIMITS,
-        help: "The most pixels of a picture, 1 to 268402689 [default: 16777216]",
-    },
-    Word {
-        name: "IN",
-        form: Form::Operands,
-        need: Need::Always,
-        group: None,
-        help: "The IVF files, or - for standard input",
-    },
+    PROGRESS,
+    MAX_PACKETS,
+    MAX_PIXELS,
+    FILES,
 ];
 
-const PICTURE_WORDS: [Word; 5] = [
+const PICTURE_WORDS: [Word; 7] = [
     Word {
         name: "packet",
         form: Form::Setting("N"),
@@ -382,6 +351,8 @@ const PICTURE_WORDS: [Word; 5] = [
         group: QUALITY,
         help: "The quantiser index of a picture that is encoded anew, 0 (loses least) to 127 [default: 8]",
     },
+    MAX_PACKETS,
+    MAX_PIXELS,
     Word {
         name: "IN",
         form: Form::Operand,

@@ -170,3 +170,26 @@ fn info_unprinted(rt: &HostRuntime) -> (u8, bool) {
 fn info_that_is_not_printed_has_status_1(rt: HostRuntime) {
     assert!(rt; info_unprinted(&rt) == (1, true));
 }
+
+/// Returns whether `check` of a missing file of this name has status 1, and prints exactly this line.
+fn is_told_of(rt: &HostRuntime, name: &str, line: &[u8]) -> bool {
+    let words = ["vp8", "check", name];
+    let mut input = Counted::new(HEAD.as_slice());
+    let mut output = Counted::new(Vec::new(rt.alloc()));
+    let mut errors = Counted::new(Vec::new(rt.alloc()));
+    let status = command(rt, &words, &mut input, &mut output, &mut errors);
+    let told = output.into_inner();
+    status == 1 && told.as_slice() == line
+}
+
+#[test]
+fn names_in_lines_have_no_control_bytes(rt: HostRuntime) {
+    assert!(rt; is_told_of(&rt, "no such \\ file", b"no such \\ file: Device\n"));
+    assert!(rt;
+        is_told_of(
+            &rt,
+            "no\nfi\u{1b}[31mle\u{7f}",
+            b"no\\nfi\\x1b[31mle\\x7f: Device\n"
+        )
+    );
+}

@@ -1,3 +1,4 @@
 pub mod ListingLemmas
+pub mod NameLemmas
 pub mod SumLemmas
 pub mod TextLemmas

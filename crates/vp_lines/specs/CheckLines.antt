@@ -1,7 +1,8 @@
 -- The lines that `vp8 check` and `vp8 info` print of files that are checked, and when nothing is wrong. Pinned by the
--- tests `check_tells_damage`, `check_of_several_files`, `info_marks_damage` and `info_prints_json`.
+-- tests `check_tells_damage`, `check_of_several_files`, `info_marks_damage`, `info_prints_json` and
+-- `names_in_lines_have_no_control_bytes`.
 use Rattle.std.specs.Prelude.{◌+◌, ◌/◌, ◌%◌, ℕ, Bool, true, false, List, [], ◌∷◌, ◌++◌, length, codes, decimal, is_none}
-use Rattle.std.specs.Prelude.{count_by, Option, Some, None, Result, Ok, Err, nat_eq, nat_lt, ◌&&◌, if◌then◌else◌}
+use Rattle.std.specs.Prelude.{count_by, Option, Some, None, Result, Ok, Err, nat_eq, nat_lt, not, ◌&&◌, if◌then◌else◌}
 use Rattle.vp_head.specs.Names.{packet_fault_name}
 use Rattle.vp_ivf.specs.declared.fault.FileFault.{FileFault}
 use Rattle.vp_ivf.specs.declared.packet.IvfHead.{IvfHead}
@@ -56,18 +57,37 @@ total_from a (d ∷ ds) = total_from (both_counts a (counts_of d)) ds
 
 -- ---- the lines
 
+-- a hexadecimal digit
+abbrev pub hex_digit : ℕ → ℕ
+hex_digit n = if nat_lt n 10 then n + 48 else n + 87
+
+-- a byte that moves no terminal's cursor and ends no line
+abbrev pub is_plain_byte : ℕ → Bool
+is_plain_byte b = not (nat_lt b 32) && not (nat_eq b 127)
+
+-- a byte of a file's name in a line: a control byte as \n or \x1b, any other as it is
+abbrev pub name_byte : ℕ → List ℕ
+name_byte b =
+    if is_plain_byte b then b ∷ [] else
+    if nat_eq b 10 then codes "\\n" else codes "\\x" ++ (hex_digit (b / 16) ∷ hex_digit (b % 16) ∷ [])
+
+-- a file's name in a line
+abbrev pub shown_name : List ℕ → List ℕ
+shown_name [] = []
+shown_name (b ∷ bs) = name_byte b ++ shown_name bs
+
 -- NAME: N packets, N shown, N hidden, N faults, N corrupt
 abbrev pub counts_line : List ℕ → Counts → List ℕ
 counts_line name c =
-    name ++ (codes ": " ++ (decimal c.packets ++ (codes " packets, " ++ (decimal c.shown ++ (codes " shown, "
+    shown_name name ++ (codes ": " ++ (decimal c.packets ++ (codes " packets, " ++ (decimal c.shown ++ (codes " shown, "
     ++ (decimal c.hidden ++ (codes " hidden, " ++ (decimal c.faults ++ (codes " faults, "
     ++ (decimal c.corrupt ++ codes " corrupt\n"))))))))))
 
 -- the line of a packet that has a fault or is corrupt; of another there is none
 abbrev pub outcome_line : List ℕ → ℕ → Outcome → Bool → List ℕ
 outcome_line name number (outcome.Fault f) corrupt =
-    name ++ (codes ": packet " ++ (decimal number ++ (codes ": " ++ (packet_fault_name f ++ codes "\n"))))
-outcome_line name number _ true = name ++ (codes ": packet " ++ (decimal number ++ codes ": corrupt\n"))
+    shown_name name ++ (codes ": packet " ++ (decimal number ++ (codes ": " ++ (packet_fault_name f ++ codes "\n"))))
+outcome_line name number _ true = shown_name name ++ (codes ": packet " ++ (decimal number ++ codes ": corrupt\n"))
 outcome_line name number _ false = []
 
 abbrev pub damage_line : List ℕ → ℕ → CheckedPacket → List ℕ
@@ -125,7 +145,7 @@ packet_texts form number (c ∷ cs) = packet_text form number c ++ packet_texts 
 -- the fault of a file, if it has one
 abbrev pub fault_text : List ℕ → Option FileFault → List ℕ
 fault_text name None = []
-fault_text name (Some fault) = name ++ (codes ": " ++ (file_fault_name fault ++ codes "\n"))
+fault_text name (Some fault) = shown_name name ++ (codes ": " ++ (file_fault_name fault ++ codes "\n"))
 
 -- a line for each damaged packet if they are asked for, the numbers of packets, and the file's fault; or why the file
 -- can't be read
@@ -133,11 +153,11 @@ abbrev pub check_text : Bool → List ℕ → Result Checked DecodeFault → Lis
 check_text verbose name (Ok checked) =
     (if verbose then packet_texts (damage name) 0 checked.packets else [])
     ++ (counts_line name (counts_of (Ok checked)) ++ fault_text name checked.fault)
-check_text verbose name (Err fault) = name ++ (codes ": " ++ (decode_fault_name fault ++ codes "\n"))
+check_text verbose name (Err fault) = shown_name name ++ (codes ": " ++ (decode_fault_name fault ++ codes "\n"))
 
 -- the line with a file's name, if it is wanted
 abbrev pub name_line : Bool → List ℕ → List ℕ
-name_line true name = codes "file " ++ (name ++ codes "\n")
+name_line true name = codes "file " ++ (shown_name name ++ codes "\n")
 name_line false name = []
 
 -- the size and the rate if the head is valid, the number of packets, and a line for each
@@ -150,10 +170,6 @@ whole_text long c =
 abbrev pub packets_text : Bool → Bool → List ℕ → Result Checked DecodeFault → List ℕ
 packets_text long named name (Ok checked) = name_line named name ++ whole_text long checked
 packets_text long named name (Err fault) = name_line named name
-
--- a hexadecimal digit
-abbrev pub hex_digit : ℕ → ℕ
-hex_digit n = if nat_lt n 10 then n + 48 else n + 87
 
 -- a byte of a text in JSON
 abbrev pub json_byte : ℕ → List ℕ

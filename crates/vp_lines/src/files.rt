@@ -7,6 +7,7 @@ ghost use Rattle.vp_lines.specs.CheckLines.{check_text, counts_line, file_text, 
 ghost use Rattle.vp_lines.specs.CheckLines.{is_whole, total_text};
 
 use crate::counts::Counts;
+use crate::file_names::print_file_name;
 use crate::lines::{PacketLine, print_document, print_fault, print_listing, print_packets};
 use crate::styles::LineStyle;
 use std::alloc::Global;
@@ -131,7 +132,10 @@ fn print_check<W: Write>(
             print_counts(name, &Counts::of(done), output)?;
             print_fault(name, checked.fault, output)
         }
-        Err(fault) => writeln!(output, "{name}: {fault}"),
+        Err(fault) => {
+            print_file_name(name, output)?;
+            writeln!(output, ": {fault}")
+        }
     }
 }
 
@@ -146,8 +150,9 @@ fn print_counts<W: Write>(name: &str, counts: &Counts, output: &mut W) -> io::Re
         faults,
         corrupt,
     } = *counts;
+    print_file_name(name, output)?;
     writeln!(
         output,
-        "{name}: {packets} packets, {shown} shown, {hidden} hidden, {faults} faults, {corrupt} corrupt"
+        ": {packets} packets, {shown} shown, {hidden} hidden, {faults} faults, {corrupt} corrupt"
     )
 }

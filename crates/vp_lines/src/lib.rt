@@ -2,6 +2,7 @@
 #![tactic(auto)]
 
 mod counts;
+mod file_names;
 mod files;
 mod lines;
 mod listing;
@@ -10,6 +11,7 @@ mod summer;
 mod sums;
 
 pub use counts::Counts;
+pub use file_names::names_have_no_control_bytes;
 pub use files::{has_total, is_well, put_done, put_total};
 pub use listing::{print_faults, print_survey, report_fault};
 pub use styles::LineStyle;

@@ -1,13 +1,14 @@
 //! The text of packets and files that are checked.
 
-ghost use Rattle.std.specs.Prelude.{◌≡◌, ◌<◌, OnOk};
+ghost use Rattle.std.specs.Prelude.{OnOk};
 ghost use Rattle.std.specs.Io.KnownBytes.{Appends};
 ghost use Rattle.vp_lines.specs.CheckLines.{damage_line, document, fault_text, json_byte, json_head, json_packet};
-ghost use Rattle.vp_lines.specs.CheckLines.{hex_digit, json_end, json_object, json_start, json_text, line_form};
+ghost use Rattle.vp_lines.specs.CheckLines.{json_end, json_object, json_start, json_text, line_form};
 ghost use Rattle.vp_lines.specs.CheckLines.{listed_line, name_line, packet_text, packet_texts, packets_text, whole_text};
 ghost use Rattle.vp_lines.specs.Listing.{word_of};
 ghost use Rattle.vp_hub.specs.Pages.{head_lines};
 
+use crate::file_names::{hex_digit, print_file_name};
 use crate::listing::print_rate;
 use std::io::Write;
 use std::{fmt, io};
@@ -88,9 +89,13 @@ fn print_damage<W: Write>(
         (damage_line name.now number packet)) }
 {
     match packet.outcome {
-        Outcome::Fault(fault) => writeln!(output, "{name}: packet {number}: {fault}"),
+        Outcome::Fault(fault) => {
+            print_file_name(name, output)?;
+            writeln!(output, ": packet {number}: {fault}")
+        }
         Outcome::Shown | Outcome::Hidden if packet.corrupt => {
-            writeln!(output, "{name}: packet {number}: corrupt")
+            print_file_name(name, output)?;
+            writeln!(output, ": packet {number}: corrupt")
         }
         Outcome::Shown | Outcome::Hidden => Ok(()),
     }
@@ -171,7 +176,9 @@ fn print_name<W: Write>(named: bool, name: &str, output: &mut W) -> io::Result<(
     ensures { OnOk result (Appends (W.contents output.old) (W.contents output.new) (name_line named name.now)) }
 {
     if named {
-        writeln!(output, "file {name}")
+        output.write_all(b"file ")?;
+        print_file_name(name, output)?;
+        output.write_all(b"\n")
     } else {
         Ok(())
     }
@@ -248,14 +255,6 @@ fn print_json_byte<W: Write>(byte: u8, output: &mut W) -> io::Result<()>
     }
 }
 
-// A hexadecimal digit.
-fn hex_digit(value: u8) -> u8
-    requires { value < 16 }
-    ensures { result ≡ hex_digit value }
-{
-    if value < 10 { value + 48 } else { value + 87 }
-}
-
 // Prints a file's head as JSON, up to its packets.
 fn print_json_head<W: Write>(head: Option<IvfHead>, output: &mut W) -> io::Result<()>
     ensures { OnOk result (Appends (W.contents output.old) (W.contents output.new) (json_head head)) }
@@ -292,7 +291,10 @@ pub(crate) fn print_fault<W: Write>(
     ensures { OnOk result (Appends (W.contents output.old) (W.contents output.new) (fault_text name.now fault)) }
 {
     match fault {
-        Some(fault) => writeln!(output, "{name}: {fault}"),
+        Some(fault) => {
+            print_file_name(name, output)?;
+            writeln!(output, ": {fault}")
+        }
         None => Ok(()),
     }
 }

@@ -3,10 +3,9 @@ use Rattle.vp_app.proofs.encode.encode_over.Goals as goal
 
 pub returns-then-encoding : goal.returns-then-encoding
 returns-then-encoding g c =
-    let usual = c.usual.ensures in
     let done = c.encode_live.ensures.answer in record {
-      limits = c.usual.result;
-      usual = record { pixels = usual.pixels; packet_bytes = usual.packet_bytes; packets = usual.packets; cache_is = usual.cache };
+      limits = c.limits_of-limits.result;
+      usual = c.limits_of-limits.ensures;
       file = done.file;
       consumed = done.consumed;
       answer = rw (c.if-encoding.true, ← c.settings_of-settings.ensures) (length done.frames, done.answer);
@@ -18,10 +17,9 @@ returns-then-encoding g c =
 
 pub returns-else-encoding : goal.returns-else-encoding
 returns-else-encoding g c =
-    let usual = c.usual-else-encoding.ensures in
     let done = c.encode_all_watched.ensures.answer in record {
-      limits = c.usual-else-encoding.result;
-      usual = record { pixels = usual.pixels; packet_bytes = usual.packet_bytes; packets = usual.packets; cache_is = usual.cache };
+      limits = c.limits_of-limits.result;
+      usual = c.limits_of-limits.ensures;
       file = done.file;
       consumed = done.consumed;
       answer = rw (c.if-encoding.false, ← c.settings_of-settings.ensures) done.answer;
