@@ -286,7 +286,7 @@ pub record Encoding : Type 0 where
 abbrev pub encoding_of : EncodeArgs → Encoding
 encoding_of e = record { settings = settings_of e.options; live = e.live; most = e.limits }
 
--- the answer of `encode_all`, which writes behind the last picture, or of `encode_live`
+-- the answer of `encode_all`, which writes after the last picture, or of `encode_live`
 abbrev pub IsAnswerOf : Bool → Limits → Settings → Result EncodeReport EncodeAllFault → List ℕ → Option (List ℕ)
     → Option (List ℕ) → Type 0
 IsAnswerOf false limits settings done file before after = IsEncoderAnswerFor limits settings done file before after

@@ -71,7 +71,7 @@ pub fn what_is_not_begun_changes_nothing()
     ensures unbegun { (status : ℕ) (i j o p : Side) → IsUnbegun status i j o p → (status ≡ 1) × (j ≡ i) × (p ≡ o) }
 {}
 
-/// Standard input stays, or else a file was decoded, encoded, surveyed or checked, as it stands in the file's answer.
+/// Standard input stays, or else a file was decoded, encoded, surveyed or checked, as the file's answer says.
 #[tactic(auto, using(crate::proofs::CommandLemmas::reads_by_decoding, crate::proofs::CommandLemmas::reads_by_range, crate::proofs::CommandLemmas::reads_by_encoding, crate::proofs::CommandLemmas::reads_by_surveying, crate::proofs::CheckLemmas::reads_by_checking))]
 pub fn standard_input_is_left_or_answered()
     ensures decoded { (most : FileLimits) (form : Form) (to : List ℕ) (done : Result Report DecodeFault) (i j o p : Side)

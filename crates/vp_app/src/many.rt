@@ -353,7 +353,7 @@ pub(crate) fn print_fault<E: Write>(
     let _ = hint_fault(fault, many, errors);
 }
 
-// Prints what was wrong, where, and what to do. What standard output met is told elsewhere.
+// Prints what was wrong, where, and what to do. What standard output met is reported elsewhere.
 fn hint_fault<E: Write>(
     fault: &ManyFault,
     many: &ServeManyArgs<'_>,

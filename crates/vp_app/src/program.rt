@@ -73,7 +73,7 @@ use vp_stream::{DecodeFault, Form, Report, Survey, SurveyFault, decode_all, surv
 /// `picture` read packets and pictures up to the limits of `--max-packets` and `--max-pixels`.
 ///
 /// `vp8 check IN...` decodes IVF files, one after another, and prints what is found in each: the numbers of its
-/// packets, and its fault. With `--verbose` a line stands before these for each packet that has a fault or is read past
+/// packets, and its fault. With `--verbose` a line comes before these for each packet that has a fault or is read past
 /// its end. The status is 1 if anything is wrong. A file that can't be opened does not stop the others.
 ///
 /// `vp8 picture IN OUT` writes the first shown picture of an IVF or WebP file, or with `--packet N` that of packet N, as
@@ -189,7 +189,7 @@ fn run_task<
     }
 }
 
-// Lets progress be told, if that is asked for.
+// Lets progress be reported, if that is asked for.
 fn switch_on<H>(outside: &Outside<'_, H>, asked: bool, unit: Unit) {
     if asked {
         outside.meter().count(unit);

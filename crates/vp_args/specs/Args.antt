@@ -202,7 +202,7 @@ is_many_option word =
 abbrev pub asks_many_at : Text → Bool → Bool
 asks_many_at word later = if bytes_eq word (codes "--") then false else is_many_option word || later
 
--- such an option stands before `--`
+-- such an option comes before `--`
 unfoldable pub asks_many : List Text → Bool
 asks_many [] = false
 asks_many (w ∷ ws) = asks_many_at w (asks_many ws)

@@ -118,7 +118,7 @@ fn named_task<'a>(alloc: Global, name: &str, found: &ArgMatches<'a>) -> Result<T
     }
 }
 
-// The same of `info`, `check` and the ones behind them.
+// Converts the arguments of `info`, `check` or a command after them.
 fn listing_task<'a>(alloc: Global, name: &str, found: &ArgMatches<'a>) -> Result<Task<'a>, Refusal>
     ensures plan { IfOk result (IsTaskFor (listing_at name.now (rows_of (found_of found.now)))) }
     ensures refusal { IfErr result (IsRefusal (listing_at name.now (rows_of (found_of found.now)))) }
@@ -130,7 +130,7 @@ fn listing_task<'a>(alloc: Global, name: &str, found: &ArgMatches<'a>) -> Result
     }
 }
 
-// The same of `picture` and `serve`.
+// Converts the arguments of `picture` or `serve`.
 fn serving_task<'a>(alloc: Global, name: &str, found: &ArgMatches<'a>) -> Result<Task<'a>, Refusal>
     ensures plan { IfOk result (IsTaskFor (serving_at name.now (rows_of (found_of found.now)))) }
     ensures refusal { IfErr result (IsRefusal (serving_at name.now (rows_of (found_of found.now)))) }

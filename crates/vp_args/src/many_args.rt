@@ -43,7 +43,7 @@ fn is_many_option(word: &str) -> bool
         || name == "--access-log"
 }
 
-// What stands before the first `=`.
+// What comes before the first `=`.
 fn option_name(word: &str) -> &str
     ensures { result.now ≡ before_first is_equals word.now }
 {

@@ -93,7 +93,7 @@ outcome_line name number _ false = []
 abbrev pub damage_line : List ℕ → ℕ → CheckedPacket → List ℕ
 damage_line name number c = outcome_line name number c.outcome c.corrupt
 
--- behind the line of a packet, whether it is said to be corrupt
+-- after the line of a packet, whether it is said to be corrupt
 abbrev pub mark_of : Bool → List ℕ
 mark_of true = codes " corrupt\n"
 mark_of false = codes "\n"
@@ -113,13 +113,13 @@ abbrev pub json_object : CheckedPacket → List ℕ
 json_object c = codes "{\"bytes\":" ++ (decimal c.bytes ++ (codes ",\"outcome\":\""
     ++ (word_of c.outcome ++ (codes "\",\"corrupt\":" ++ json_mark c.corrupt))))
 
--- a packet in JSON, behind a comma unless its number is 0
+-- a packet in JSON, after a comma unless its number is 0
 abbrev pub json_packet : ℕ → CheckedPacket → List ℕ
 json_packet number c = if nat_eq number 0 then json_object c else codes "," ++ json_object c
 
 -- the form of the text of a packet
 pub data PacketForm : Type 0 where
-  -- its line, if it has a fault or is corrupt, behind this name
+  -- its line, if it has a fault or is corrupt, after this name
   damage : List ℕ → PacketForm
   -- its line, which says that it is corrupt or not
   listed : Bool → PacketForm
@@ -183,7 +183,7 @@ abbrev pub json_text : List ℕ → List ℕ
 json_text [] = []
 json_text (b ∷ bs) = json_byte b ++ json_text bs
 
--- a file's head in JSON, behind its name and up to its packets
+-- a file's head in JSON, after its name and up to its packets
 abbrev pub json_head : Option IvfHead → List ℕ
 json_head None = codes "\",\"width\":null,\"height\":null,\"rate\":null,\"scale\":null,\"packets\":["
 json_head (Some h) = codes "\",\"width\":" ++ (decimal h.w ++ (codes ",\"height\":" ++ (decimal h.h
@@ -193,7 +193,7 @@ json_head (Some h) = codes "\",\"width\":" ++ (decimal h.w ++ (codes ",\"height\
 abbrev pub json_start : List ℕ → Option IvfHead → List ℕ
 json_start name head = codes "{\"file\":\"" ++ (json_text name ++ json_head head)
 
--- its end, behind its packets
+-- its end, after its packets
 abbrev pub json_end : Option FileFault → List ℕ
 json_end None = codes "],\"fault\":null}\n"
 json_end (Some fault) = codes "],\"fault\":\"" ++ (file_fault_name fault ++ codes "\"}\n")

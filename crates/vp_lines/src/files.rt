@@ -114,7 +114,7 @@ fn print_done<W: Write>(
     }
 }
 
-// Prints the numbers of a file's packets, behind its damage if that is asked for.
+// Prints the numbers of a file's packets, after its damage if that is asked for.
 fn print_check<W: Write>(
     name: &str,
     done: &Result<Checked, DecodeFault>,

@@ -20,7 +20,7 @@ use vp_stream::DecodeFault;
 /// The form of the text of a packet.
 #[derive(Clone, Copy)]
 pub(crate) enum PacketLine<'a> {
-    /// Its line, if it has a fault or is corrupt, behind this name.
+    /// Its line, if it has a fault or is corrupt, after this name.
     Damage(&'a str),
     /// Its line, which says that it is corrupt or not.
     Listed(bool),
@@ -119,7 +119,7 @@ fn print_listed<W: Write>(
     }
 }
 
-// Prints a packet as JSON, behind a comma unless it is the first.
+// Prints a packet as JSON, after a comma unless it is the first.
 fn print_json_packet<W: Write>(
     number: usize,
     packet: CheckedPacket,
@@ -272,7 +272,7 @@ fn print_json_head<W: Write>(head: Option<IvfHead>, output: &mut W) -> io::Resul
     )
 }
 
-// Prints the end of a file's JSON document, behind its packets.
+// Prints the end of a file's JSON document, after its packets.
 fn print_json_end<W: Write>(fault: Option<FileFault>, output: &mut W) -> io::Result<()>
     ensures { OnOk result (Appends (W.contents output.old) (W.contents output.new) (json_end fault)) }
 {

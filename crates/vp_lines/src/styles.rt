@@ -12,7 +12,7 @@ pub enum LineStyle {
     Packets {
         /// Whether it says that a packet is corrupt.
         long: bool,
-        /// Whether the file's name stands before its lines.
+        /// Whether the file's name comes before its lines.
         named: bool,
     },
     /// A JSON document.
