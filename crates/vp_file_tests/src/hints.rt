@@ -2,6 +2,7 @@
 
 use crate::check::equal;
 use std::io::{Read, Write};
+use std::process::Abort;
 use std::{fs, io};
 use vp_base::FailAt;
 use vp_hints::{
@@ -19,39 +20,27 @@ const TWO: [u8; 59] = [
 
 #[test]
 fn kinds_of_files(rt: HostRuntime) {
-    equal(&rt, &kind_of(b""), &FileKind::Empty);
-    equal(&rt, &kind_of(&TWO), &FileKind::Ivf);
-    equal(&rt, &kind_of(b"\x1a\x45\xdf\xa3\x01"), &FileKind::WebM);
-    equal(&rt, &kind_of(b"\x00\x00\x00\x20ftypisom"), &FileKind::Mp4);
-    equal(
-        &rt,
-        &kind_of(b"RIFF\x24\x00\x00\x00AVI LIST"),
-        &FileKind::Avi,
-    );
-    equal(
-        &rt,
-        &kind_of(b"RIFF\x24\x00\x00\x00WEBPVP8 "),
-        &FileKind::WebP,
-    );
-    equal(&rt, &kind_of(b"YUV4MPEG2 W16 H16"), &FileKind::Y4m);
-    equal(&rt, &kind_of(b"OggS\x00\x02"), &FileKind::Ogg);
-    equal(&rt, &kind_of(b"\x00\x00\x00\x01\x67"), &FileKind::H264);
-    equal(&rt, &kind_of(b"\x89PNG\r\n\x1a\n"), &FileKind::Png);
-    equal(&rt, &kind_of(b"\xff\xd8\xff\xe0"), &FileKind::Jpeg);
-    equal(&rt, &kind_of(b"GIF89a"), &FileKind::Gif);
-    equal(&rt, &kind_of(b"DKI"), &FileKind::Unknown);
+    equal!(rt; kind_of(b""), FileKind::Empty);
+    equal!(rt; kind_of(&TWO), FileKind::Ivf);
+    equal!(rt; kind_of(b"\x1a\x45\xdf\xa3\x01"), FileKind::WebM);
+    equal!(rt; kind_of(b"\x00\x00\x00\x20ftypisom"), FileKind::Mp4);
+    equal!(rt; kind_of(b"RIFF\x24\x00\x00\x00AVI LIST"), FileKind::Avi);
+    equal!(rt; kind_of(b"RIFF\x24\x00\x00\x00WEBPVP8 "), FileKind::WebP);
+    equal!(rt; kind_of(b"YUV4MPEG2 W16 H16"), FileKind::Y4m);
+    equal!(rt; kind_of(b"OggS\x00\x02"), FileKind::Ogg);
+    equal!(rt; kind_of(b"\x00\x00\x00\x01\x67"), FileKind::H264);
+    equal!(rt; kind_of(b"\x89PNG\r\n\x1a\n"), FileKind::Png);
+    equal!(rt; kind_of(b"\xff\xd8\xff\xe0"), FileKind::Jpeg);
+    equal!(rt; kind_of(b"GIF89a"), FileKind::Gif);
+    equal!(rt; kind_of(b"DKI"), FileKind::Unknown);
 }
 
 #[test]
 fn heads_with_faults(rt: HostRuntime) {
-    equal(&rt, &head_fault(&TWO), &None);
-    equal(&rt, &head_fault(&TWO[..31]), &None);
-    equal(&rt, &head_fault(&TWO[1..]), &Some(FileFault::Signature));
-    equal(
-        &rt,
-        &head_fault(b"DKIF....VP90...................."),
-        &Some(FileFault::Codec),
-    );
+    equal!(rt; head_fault(&TWO), None);
+    equal!(rt; head_fault(&TWO[..31]), None);
+    equal!(rt; head_fault(&TWO[1..]), Some(FileFault::Signature));
+    equal!(rt; head_fault(b"DKIF....VP90...................."), Some(FileFault::Codec));
 }
 
 // The number of packets in some bytes.
@@ -63,33 +52,30 @@ fn packets_in(bytes: &[u8]) -> u64 {
 
 #[test]
 fn packets_are_counted(rt: HostRuntime) {
-    equal(&rt, &packets_in(&TWO), &2);
-    equal(&rt, &packets_in(&TWO[..58]), &1);
-    equal(&rt, &packets_in(&TWO[..47]), &1);
-    equal(&rt, &packets_in(&TWO[..46]), &0);
-    equal(&rt, &packets_in(&TWO[..32]), &0);
+    equal!(rt; packets_in(&TWO), 2);
+    equal!(rt; packets_in(&TWO[..58]), 1);
+    equal!(rt; packets_in(&TWO[..47]), 1);
+    equal!(rt; packets_in(&TWO[..46]), 0);
+    equal!(rt; packets_in(&TWO[..32]), 0);
 }
 
-// Reads 40 bytes, and then once more, where the reader fails.
-fn read_twice(reader: &mut Witness<FailAt<&[u8]>>) -> bool {
+// Reads into 40 bytes, and then once more. Returns the number of bytes, and whether the second read fails.
+fn read_twice(reader: &mut Witness<FailAt<&[u8]>>) -> (usize, bool) {
     let mut buffer = [0; 40];
-    reader.read(&mut buffer).unwrap_or(0) == 40 && reader.read(&mut buffer).is_err()
+    let first = reader.read(&mut buffer).unwrap_or(0);
+    (first, reader.read(&mut buffer).is_err())
 }
 
 #[test]
 fn a_witness_remembers(rt: HostRuntime) {
     let mut reader = Witness::new(FailAt::new(&TWO[..], 1));
-    equal(&rt, &reader.error().is_some(), &false);
-    equal(&rt, &read_twice(&mut reader), &true);
-    equal(
-        &rt,
-        &reader.error().map(|error| error.kind()),
-        &Some(io::ErrorKind::Other),
-    );
+    equal!(rt; reader.error().is_some(), false);
+    equal!(rt; read_twice(&mut reader), (40, true));
+    equal!(rt; reader.error().map(|error| error.kind()), Some(io::ErrorKind::Other));
     let (_, seen) = reader.into_parts();
-    equal(&rt, &seen.bytes(), &40);
-    equal(&rt, &(seen.head() == &TWO[..40]), &true);
-    equal(&rt, &seen.kind(), &FileKind::Ivf);
+    equal!(rt; seen.bytes(), 40);
+    equal!(rt; seen.head(), &TWO[..40]);
+    equal!(rt; seen.kind(), FileKind::Ivf);
 }
 
 #[test]
@@ -98,47 +84,53 @@ fn a_metered_reader_reads_on(rt: HostRuntime) {
     meter.count(Unit::Packets);
     let mut reader = Metered::new(&TWO[..], &meter);
     let mut buffer = [0; 58];
-    equal(&rt, &reader.read(&mut buffer).unwrap_or(0), &58);
-    equal(&rt, &reader.into_witness().seen().packets().whole, &1);
+    equal!(rt; reader.read(&mut buffer).unwrap_or(0), 58);
+    equal!(rt; reader.into_witness().seen().packets().whole, 1);
 }
 
 #[test]
 fn a_tally_remembers(rt: HostRuntime) {
     let mut tally = Tally::new(Vec::new(rt.alloc()));
-    equal(&rt, &tally.write(&TWO).unwrap_or(0), &TWO.len());
+    equal!(rt; tally.write(&TWO).unwrap_or(0), TWO.len());
     let seen = tally.into_seen();
-    equal(&rt, &seen.packets().whole, &2);
-    equal(&rt, &(seen.head() == &TWO[..]), &true);
+    equal!(rt; seen.packets().whole, 2);
+    equal!(rt; seen.head(), &TWO[..]);
 }
 
-// Whether a file holds these bytes.
-fn holds(rt: &HostRuntime, name: &str, bytes: &[u8]) -> io::Result<bool> {
-    let found = fs::read(rt, name)?;
-    Ok(found.as_slice() == bytes)
-}
-
-// Overwrites an old file, and returns whether it held its old bytes until then, and the new one afterwards.
-fn overwritten(rt: &HostRuntime, name: &str) -> io::Result<bool> {
+// Overwrites an old file. Returns the numbers of bytes that two writes take, of none and of one, and what the file
+// holds between them and in the end.
+fn overwritten(rt: &HostRuntime, name: &str) -> io::Result<((usize, usize), Vec<u8>, Vec<u8>)> {
     fs::write(rt, name, "old film")?;
     let mut file = Overwrite::new(open_to_overwrite(rt, name)?);
-    let stays = file.write(&[])? == 0 && holds(rt, name, b"old film")?;
-    let taken = file.write(b"n")?;
+    let none = file.write(&[])?;
+    let before = fs::read(rt, name)?;
+    let one = file.write(b"n")?;
     file.finish()?;
-    Ok(stays && taken == 1 && holds(rt, name, b"n")?)
+    Ok(((none, one), before, fs::read(rt, name)?))
 }
 
-// Finishes an old file without a write, and returns whether it held its old bytes until then, and none afterwards.
-fn finished(rt: &HostRuntime, name: &str) -> io::Result<bool> {
+// Finishes an old file without a write. Returns what it holds before and afterwards.
+fn finished(rt: &HostRuntime, name: &str) -> io::Result<(Vec<u8>, Vec<u8>)> {
     fs::write(rt, name, "old film")?;
     let mut file = Overwrite::new(open_to_overwrite(rt, name)?);
-    let stays = holds(rt, name, b"old film")?;
+    let before = fs::read(rt, name)?;
     file.finish()?;
-    Ok(stays && holds(rt, name, b"")?)
+    Ok((before, fs::read(rt, name)?))
+}
+
+// Fails the test if a file held other bytes than its old ones until then, or than these afterwards.
+fn check_bytes(rt: &impl Abort, before: Vec<u8>, after: Vec<u8>, wanted: &[u8]) {
+    let old = b"old film".as_slice();
+    equal!(rt; (before.as_slice(), after.as_slice()), (old, wanted));
 }
 
 #[test]
-fn an_old_file_is_emptied_late(rt: HostRuntime) {
-    equal(&rt, &overwritten(&rt, "late.tmp").unwrap_or(false), &true);
-    equal(&rt, &finished(&rt, "late.tmp").unwrap_or(false), &true);
+fn an_old_file_is_emptied_late(rt: HostRuntime) -> io::Result<()> {
+    let (taken, before, after) = overwritten(&rt, "late.tmp")?;
+    equal!(rt; taken, (0, 1));
+    check_bytes(&rt, before, after, b"n");
+    let (before, after) = finished(&rt, "late.tmp")?;
+    check_bytes(&rt, before, after, b"");
     let _ = fs::remove_file(&rt, "late.tmp");
+    Ok(())
 }

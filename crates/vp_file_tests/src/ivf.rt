@@ -4,6 +4,7 @@ ghost use Rattle.std.specs.Prelude.{◌<◌};
 
 use crate::check::equal;
 use std::alloc::Global;
+use std::process::Abort;
 use vp_base::{Counted, Dim, FailAt, Limits};
 use vp_ivf::{FeedError, FileFault, IvfHead, Reader, WriteFault, Writer};
 
@@ -21,74 +22,83 @@ const WIDE: [u8; 59] = [
     0, 0, 0, 0, 0, 1, 0, 0, 0, 0, 0, 0,
 ];
 
-/// Returns whether no packet is ready before the byte, and the byte is taken at the first or the second attempt.
-fn takes(reader: &mut Reader, byte: &[u8]) -> bool {
-    reader.next_packet().is_none() && (reader.feed(byte) == Ok(()) || reader.feed(byte) == Ok(()))
-}
-
-/// Returns whether the next packet has this time and these bytes.
-fn gives(reader: &mut Reader, time: u64, bytes: &[u8]) -> bool {
-    match reader.next_packet() {
-        Some(packet) => packet.time == time && packet.bytes.as_slice() == bytes,
-        None => false,
+/// Returns whether no packet is ready before the byte, and the answer to it, at the second attempt if the first fails.
+fn fed(reader: &mut Reader, byte: &[u8]) -> (bool, Result<(), FeedError>) {
+    let is_between = reader.next_packet().is_none();
+    if reader.feed(byte) == Ok(()) {
+        (is_between, Ok(()))
+    } else {
+        (is_between, reader.feed(byte))
     }
 }
 
-/// Returns whether marking the end succeeds, twice, and no more bytes are taken.
-fn ends(reader: &mut Reader) -> bool {
-    reader.next_packet().is_none()
-        && reader.refusal() == None
-        && reader.finish() == Ok(())
-        && reader.finish() == Ok(())
-        && reader.refusal() == Some(FileFault::Ended)
-        && reader.feed(&[]) == Err(FeedError::Fault(FileFault::Ended))
+/// The next packet has this time and these bytes.
+fn check_next(rt: &impl Abort, reader: &mut Reader, time: u64, bytes: &[u8]) {
+    let Some(packet) = reader.next_packet() else {
+        panic!(rt; "no packet of time {time}");
+    };
+    equal!(rt; (packet.time, packet.bytes.as_slice()), (time, bytes));
+}
+
+/// Marking the end succeeds, twice, and no more bytes are taken.
+fn check_end(rt: &impl Abort, reader: &mut Reader) {
+    equal!(rt; (reader.next_packet().is_none(), reader.refusal()), (true, None));
+    equal!(rt; (reader.finish(), reader.finish()), (Ok(()), Ok(())));
+    let ended = FileFault::Ended;
+    let found = (reader.refusal(), reader.feed(&[]));
+    equal!(rt; found, (Some(ended), Err(FeedError::Fault(ended))));
 }
 
 #[test]
 fn fed_byte_by_byte(rt: HostRuntime) {
     let mut reader = Reader::new(rt.alloc(), Limits::usual());
-    for byte in FILE.chunks(1) {
-        assert!(rt; takes(&mut reader, byte));
+    for i in 0..54 {
+        let fed = fed(&mut reader, &FILE[i..i + 1]);
+        equal!(rt; (i, fed), (i, (true, Ok(()))));
     }
-    assert!(rt; gives(&mut reader, 0, &FILE[44..]));
-    assert!(rt; ends(&mut reader));
+    check_next(&rt, &mut reader, 0, &FILE[44..]);
+    check_end(&rt, &mut reader);
 }
 
-/// Returns whether a prefix of the file is taken, its head is there or not, no packet is, and marking its end gives
-/// this answer.
-fn ends_after(alloc: Global, front: &[u8], has_head: bool, answer: Result<(), FileFault>) -> bool {
+/// What a reader says of a prefix of the file: its answer, whether the head is there, whether no packet is, and the
+/// answer when its end is marked.
+type End = (Result<(), FeedError>, bool, bool, Result<(), FileFault>);
+
+/// Feeds a prefix of the file, and marks its end.
+fn end_of(alloc: Global, front: &[u8]) -> End {
     let mut reader = Reader::new(alloc, Limits::usual());
-    reader.feed(front) == Ok(())
-        && reader.head().is_some() == has_head
-        && reader.next_packet().is_none()
-        && reader.finish() == answer
+    let answer = reader.feed(front);
+    let has_head = reader.head().is_some();
+    let has_none = reader.next_packet().is_none();
+    (answer, has_head, has_none, reader.finish())
 }
 
 #[test]
 fn file_cut_short(rt: HostRuntime) {
-    assert!(rt; ends_after(rt.alloc(), &FILE[..31], false, Err(FileFault::Torn)));
-    assert!(rt; ends_after(rt.alloc(), &FILE[..32], true, Ok(())));
-    assert!(rt; ends_after(rt.alloc(), &FILE[..53], true, Err(FileFault::Torn)));
+    let torn = Err(FileFault::Torn);
+    equal!(rt; end_of(rt.alloc(), &FILE[..31]), (Ok(()), false, true, torn));
+    equal!(rt; end_of(rt.alloc(), &FILE[..32]), (Ok(()), true, true, Ok(())));
+    equal!(rt; end_of(rt.alloc(), &FILE[..53]), (Ok(()), true, true, torn));
 }
 
-/// Returns whether the file with another byte in its head has this fault, once the head is complete.
-fn has_head_fault(alloc: Global, at: usize, letter: u8, fault: FileFault) -> bool
+/// The file with another byte in its head has this fault, once the head is complete.
+fn check_head_fault(rt: &impl Abort, alloc: Global, at: usize, letter: u8, fault: FileFault)
     requires { at < 54 }
 {
     let mut bytes = FILE;
     bytes[at] = letter;
     let mut reader = Reader::new(alloc, Limits::usual());
-    reader.feed(&bytes[..31]) == Ok(())
-        && reader.feed(&bytes[31..]) == Err(FeedError::Fault(fault))
-        && reader.head() == None
-        && reader.finish() == Err(fault)
-        && reader.feed(&[]) == Err(FeedError::Fault(fault))
+    let refused = Err(FeedError::Fault(fault));
+    let fed = (reader.feed(&bytes[..31]), reader.feed(&bytes[31..]));
+    equal!(rt; (at, fed), (at, (Ok(()), refused)));
+    let after = (reader.head(), reader.finish(), reader.feed(&[]));
+    equal!(rt; (at, after), (at, (None, Err(fault), refused)));
 }
 
 #[test]
 fn head_faults(rt: HostRuntime) {
-    assert!(rt; has_head_fault(rt.alloc(), 3, b'X', FileFault::Signature));
-    assert!(rt; has_head_fault(rt.alloc(), 10, b'9', FileFault::Codec));
+    check_head_fault(&rt, rt.alloc(), 3, b'X', FileFault::Signature);
+    check_head_fault(&rt, rt.alloc(), 10, b'9', FileFault::Codec);
 }
 
 const HEAD: IvfHead = IvfHead {
@@ -98,28 +108,29 @@ const HEAD: IvfHead = IvfHead {
     scale: 1,
 };
 
-/// Returns whether the file, followed by the head of a second packet of eleven bytes, has this fault.
-fn meets(reader: &mut Reader, fault: FileFault) -> bool {
-    reader.feed(&FILE) == Ok(())
-        && reader.head() == Some(HEAD)
-        && reader.feed(&[11, 0, 0, 0, 1, 0, 0, 0, 0, 0, 0]) == Ok(())
-        && reader.feed(&[0]) == Err(FeedError::Fault(fault))
-        && reader.next_packet().is_some()
-        && reader.finish() == Err(fault)
+/// The file, followed by the head of a second packet of eleven bytes, has this fault.
+fn check_fault(rt: &impl Abort, reader: &mut Reader, fault: FileFault) {
+    let one = (reader.feed(&FILE), reader.head());
+    equal!(rt; (fault, one), (fault, (Ok(()), Some(HEAD))));
+    let front = reader.feed(&[11, 0, 0, 0, 1, 0, 0, 0, 0, 0, 0]);
+    let back = reader.feed(&[0]);
+    equal!(rt; (front, back), (Ok(()), Err(FeedError::Fault(fault))));
+    let end = (reader.next_packet().is_some(), reader.finish());
+    equal!(rt; end, (true, Err(fault)));
 }
 
-/// Returns whether a reader with a limit of `packets` packets of ten bytes meets this fault.
-fn limits_meet(alloc: Global, packets: u32, fault: FileFault) -> bool {
-    match Limits::new(256, 10, packets, 1) {
-        Some(limits) => meets(&mut Reader::new(alloc, limits), fault),
-        None => false,
-    }
+/// A reader with a limit of `packets` packets of ten bytes meets this fault.
+fn check_limit(rt: &impl Abort, alloc: Global, packets: u32, fault: FileFault) {
+    let Some(limits) = Limits::new(256, 10, packets, 1) else {
+        panic!(rt; "limits of {packets} packets");
+    };
+    check_fault(rt, &mut Reader::new(alloc, limits), fault);
 }
 
 #[test]
 fn packet_limits(rt: HostRuntime) {
-    assert!(rt; limits_meet(rt.alloc(), 1, FileFault::TooMany));
-    assert!(rt; limits_meet(rt.alloc(), 2, FileFault::PacketTooLarge));
+    check_limit(&rt, rt.alloc(), 1, FileFault::TooMany);
+    check_limit(&rt, rt.alloc(), 2, FileFault::PacketTooLarge);
 }
 
 const WIDE_HEAD: IvfHead = IvfHead {
@@ -135,19 +146,20 @@ const TIME: u64 = 0x8000_0102_0000_0304;
 #[test]
 fn numbers_of_several_bytes(rt: HostRuntime) {
     let mut reader = Reader::new(rt.alloc(), Limits::usual());
-    equal(&rt, &reader.feed(&WIDE), &Ok(()));
-    equal(&rt, &reader.head(), &Some(WIDE_HEAD));
-    assert!(rt; gives(&mut reader, TIME, &[0xaa, 0xbb, 0xcc]));
-    assert!(rt; gives(&mut reader, 256, &[]));
-    equal(&rt, &reader.finish(), &Ok(()));
+    equal!(rt; reader.feed(&WIDE), Ok(()));
+    equal!(rt; reader.head(), Some(WIDE_HEAD));
+    check_next(&rt, &mut reader, TIME, &[0xaa, 0xbb, 0xcc]);
+    check_next(&rt, &mut reader, 256, &[]);
+    equal!(rt; reader.finish(), Ok(()));
 }
 
-/// Returns whether the file is complete after one packet, and no other packet is taken.
-fn takes_one(writer: &mut Writer<Vec<u8>>) -> bool {
-    writer.finish() == Err(WriteFault::Count)
-        && writer.packet(0, &FILE[44..]) == Ok(())
-        && writer.packet(1, &FILE[44..]) == Err(WriteFault::Count)
-        && writer.finish() == Ok(())
+/// The file is complete after one packet, and no other packet is taken.
+fn write_one(rt: &impl Abort, writer: &mut Writer<Vec<u8>>) {
+    let count = Err(WriteFault::Count);
+    let before = (writer.finish(), writer.packet(0, &FILE[44..]));
+    equal!(rt; before, (count, Ok(())));
+    let after = (writer.packet(1, &FILE[44..]), writer.finish());
+    equal!(rt; after, (count, Ok(())));
 }
 
 #[test]
@@ -156,16 +168,16 @@ fn file_of_one_packet(rt: HostRuntime) {
         panic!(rt; "a size");
     };
     let mut out = Counted::new(Vec::new(rt.alloc()));
-    assert!(rt; takes_one(&mut Writer::begin(&mut out, dim, 30, 1, 1)));
-    assert!(rt; out.into_inner().as_slice() == FILE.as_slice());
+    write_one(&rt, &mut Writer::begin(&mut out, dim, 30, 1, 1));
+    equal!(rt; out.into_inner().as_slice(), FILE.as_slice());
 }
 
-/// Returns whether the file is complete after two packets, and not after one.
-fn takes_two(writer: &mut Writer<Vec<u8>>) -> bool {
-    writer.packet(TIME, &[0xaa, 0xbb, 0xcc]) == Ok(())
-        && writer.finish() == Err(WriteFault::Count)
-        && writer.packet(256, &[]) == Ok(())
-        && writer.finish() == Ok(())
+/// The file is complete after two packets, and not after one.
+fn write_two(rt: &impl Abort, writer: &mut Writer<Vec<u8>>) {
+    let one = (writer.packet(TIME, &[0xaa, 0xbb, 0xcc]), writer.finish());
+    equal!(rt; one, (Ok(()), Err(WriteFault::Count)));
+    let two = (writer.packet(256, &[]), writer.finish());
+    equal!(rt; two, (Ok(()), Ok(())));
 }
 
 #[test]
@@ -174,23 +186,25 @@ fn file_of_two_packets(rt: HostRuntime) {
         panic!(rt; "a size");
     };
     let mut out = Counted::new(Vec::new(rt.alloc()));
-    assert!(rt; takes_two(&mut Writer::begin(&mut out, dim, 30_000, 1_001, 2)));
-    assert!(rt; out.into_inner().as_slice() == WIDE.as_slice());
+    write_two(&rt, &mut Writer::begin(&mut out, dim, 30_000, 1_001, 2));
+    equal!(rt; out.into_inner().as_slice(), WIDE.as_slice());
 }
 
-/// Returns whether each call reports the device's failure.
-fn has_failed(writer: &mut Writer<FailAt<Vec<u8>>>) -> bool {
-    writer.packet(0, &FILE[44..]) == Err(WriteFault::Device)
-        && writer.packet(0, &FILE[44..]) == Err(WriteFault::Device)
-        && writer.finish() == Err(WriteFault::Device)
+/// Each call reports the device's failure.
+fn write_failing(rt: &impl Abort, writer: &mut Writer<FailAt<Vec<u8>>>) {
+    let first = writer.packet(0, &FILE[44..]);
+    let found = (first, writer.packet(0, &FILE[44..]), writer.finish());
+    let device = Err(WriteFault::Device);
+    equal!(rt; found, (device, device, device));
 }
 
-/// Returns whether the file of one packet fails at write `k`, after these bytes are written.
-fn fails_after(alloc: Global, dim: Dim, k: u64, written: &[u8]) -> bool {
+/// The file of one packet fails at write `k`, after these bytes are written.
+fn check_failure(rt: &impl Abort, alloc: Global, dim: Dim, k: u64, written: &[u8]) {
     let mut out = Counted::new(FailAt::new(Vec::new(alloc), k));
-    has_failed(&mut Writer::begin(&mut out, dim, 30, 1, 1))
-        && out.failures() == 1
-        && out.into_inner().into_inner().as_slice() == written
+    write_failing(rt, &mut Writer::begin(&mut out, dim, 30, 1, 1));
+    let failures = out.failures();
+    let bytes = out.into_inner().into_inner();
+    equal!(rt; (k, failures, bytes.as_slice()), (k, 1, written));
 }
 
 #[test]
@@ -198,16 +212,16 @@ fn fails_at_each_write(rt: HostRuntime) {
     let Ok(dim) = Dim::new(16, 16, &Limits::usual()) else {
         panic!(rt; "a size");
     };
-    assert!(rt; fails_after(rt.alloc(), dim, 0, &[]));
-    assert!(rt; fails_after(rt.alloc(), dim, 1, &FILE[..32]));
-    assert!(rt; fails_after(rt.alloc(), dim, 2, &FILE[..44]));
+    check_failure(&rt, rt.alloc(), dim, 0, &[]);
+    check_failure(&rt, rt.alloc(), dim, 1, &FILE[..32]);
+    check_failure(&rt, rt.alloc(), dim, 2, &FILE[..44]);
 }
 
-fn is_told_as(alloc: Global, fault: FileFault, name: &str) -> bool {
-    match format!(in alloc; "{fault}") {
-        Ok(text) => text.as_str() == name,
-        Err(_) => false,
-    }
+fn check_name(rt: &impl Abort, alloc: Global, fault: FileFault, name: &str) {
+    let Ok(text) = format!(in alloc; "{fault}") else {
+        panic!(rt; "memory");
+    };
+    equal!(rt; text.as_str(), name);
 }
 
 const NAMES: [(FileFault, &str); 6] = [
@@ -222,7 +236,7 @@ const NAMES: [(FileFault, &str); 6] = [
 #[test]
 fn names_of_file_faults(rt: HostRuntime) {
     for (fault, name) in NAMES {
-        assert!(rt; is_told_as(rt.alloc(), fault, name));
+        check_name(&rt, rt.alloc(), fault, name);
     }
 }
 
@@ -233,8 +247,8 @@ fn other_numbers_of_a_head(rt: HostRuntime) {
     bytes[4..8].copy_from_slice(&[1, 0, 44, 0]);
     bytes[24..32].copy_from_slice(&[9; 8]);
     let mut reader = Reader::new(rt.alloc(), Limits::usual());
-    equal(&rt, &reader.feed(&bytes), &Ok(()));
-    equal(&rt, &reader.head(), &Some(HEAD));
-    assert!(rt; gives(&mut reader, 0, &FILE[44..]));
-    equal(&rt, &reader.finish(), &Ok(()));
+    equal!(rt; reader.feed(&bytes), Ok(()));
+    equal!(rt; reader.head(), Some(HEAD));
+    check_next(&rt, &mut reader, 0, &FILE[44..]);
+    equal!(rt; reader.finish(), Ok(()));
 }

@@ -3,6 +3,7 @@
 
 use crate::check::equal;
 use std::alloc::{AllocError, Global};
+use std::process::Abort;
 use std::test::Fail;
 use vp_base::{Dim, Limits};
 use vp_scale::{Scale, scaled};
@@ -27,32 +28,37 @@ const QUARTER: [u8; 10] = [133, 130, 70, 75, 64, 97, 134, 61, 125, 170];
 // Planes of 2 by 1, 1 by 1 and 1 by 1 pixels.
 const EIGHTH: [u8; 4] = [100, 107, 103, 144];
 
-/// Returns whether the picture, made smaller, has this size and these pixels.
-fn gives(
-    alloc: Global,
-    scale: Scale,
-    width: u16,
-    height: u16,
-    wanted: &[u8],
-) -> Result<bool, Fail> {
+/// Returns the width, the height and the pixels of the picture, made smaller.
+fn smaller(alloc: Global, scale: Scale) -> Result<(u16, u16, Vec<u8>), Fail> {
     let dim = Dim::new(11, 5, &Limits::usual())?;
     let picture = scaled(alloc, dim, &PIXELS, scale)?;
     let found = picture.crop_i420(alloc)?;
-    Ok(picture.dim().w == width && picture.dim().h == height && found.as_slice() == wanted)
+    Ok((picture.dim().w, picture.dim().h, found))
+}
+
+/// The picture, made smaller, has this size and these pixels.
+fn check_smaller(
+    rt: &impl Abort,
+    alloc: Global,
+    scale: Scale,
+    size: (u16, u16),
+    wanted: &[u8],
+) -> Result<(), Fail> {
+    let (width, height, found) = smaller(alloc, scale)?;
+    equal!(rt; ((width, height), found.as_slice()), (size, wanted));
+    Ok(())
 }
 
 #[test]
 fn planes_are_scaled_alike(rt: HostRuntime) -> Result<(), Fail> {
-    assert!(rt; gives(rt.alloc(), Scale::Half, 6, 3, &HALF)?);
-    assert!(rt; gives(rt.alloc(), Scale::Quarter, 3, 2, &QUARTER)?);
-    Ok(())
+    check_smaller(&rt, rt.alloc(), Scale::Half, (6, 3), &HALF)?;
+    check_smaller(&rt, rt.alloc(), Scale::Quarter, (3, 2), &QUARTER)
 }
 
 #[test]
 fn edges_are_repeated(rt: HostRuntime) -> Result<(), Fail> {
-    assert!(rt; gives(rt.alloc(), Scale::Eighth, 2, 1, &EIGHTH)?);
-    assert!(rt; gives(rt.alloc(), Scale::Full, 11, 5, &PIXELS)?);
-    Ok(())
+    check_smaller(&rt, rt.alloc(), Scale::Eighth, (2, 1), &EIGHTH)?;
+    check_smaller(&rt, rt.alloc(), Scale::Full, (11, 5), &PIXELS)
 }
 
 /// Appends a plane whose pixels are `step` more from column to column and from row to row.
@@ -104,21 +110,9 @@ fn scaled_slopes(alloc: Global, scale: Scale) -> Result<Vec<u8>, Fail> {
 // Each row of these planes has whole groups of eight squares, and some more.
 #[test]
 fn squares_of_wide_planes(rt: HostRuntime) -> Result<(), Fail> {
-    equal(
-        &rt,
-        &scaled_slopes(rt.alloc(), Scale::Half)?,
-        &slopes(rt.alloc(), 2)?,
-    );
-    equal(
-        &rt,
-        &scaled_slopes(rt.alloc(), Scale::Quarter)?,
-        &slopes(rt.alloc(), 4)?,
-    );
-    equal(
-        &rt,
-        &scaled_slopes(rt.alloc(), Scale::Eighth)?,
-        &slopes(rt.alloc(), 8)?,
-    );
+    equal!(rt; scaled_slopes(rt.alloc(), Scale::Half)?, slopes(rt.alloc(), 2)?);
+    equal!(rt; scaled_slopes(rt.alloc(), Scale::Quarter)?, slopes(rt.alloc(), 4)?);
+    equal!(rt; scaled_slopes(rt.alloc(), Scale::Eighth)?, slopes(rt.alloc(), 8)?);
     Ok(())
 }
 
@@ -126,7 +120,7 @@ fn squares_of_wide_planes(rt: HostRuntime) -> Result<(), Fail> {
 fn sizes_are_rounded_up(rt: HostRuntime) -> Result<(), Fail> {
     let dim = Dim::new(17, 1, &Limits::usual())?;
     let size = Scale::Eighth.size(dim);
-    equal(&rt, &size.w, &3);
-    equal(&rt, &size.h, &1);
+    equal!(rt; size.w, 3);
+    equal!(rt; size.h, 1);
     Ok(())
 }

@@ -63,21 +63,19 @@ const CANVAS: Canvas = Canvas {
     height: 16,
 };
 
-/// Returns whether the file is read, with this packet, alpha and canvas.
-fn gives(file: &[u8], packet: &[u8], has_alpha: bool, canvas: Option<Canvas>) -> bool {
+/// Returns the packet of a file, whether it has alpha, and its canvas.
+fn parts_of(file: &[u8]) -> Result<(&[u8], bool, Option<Canvas>), WebPFault> {
     match read(file) {
-        Ok(image) => {
-            image.packet() == packet && image.has_alpha() == has_alpha && image.canvas() == canvas
-        }
-        Err(_) => false,
+        Ok(image) => Ok((image.packet(), image.has_alpha(), image.canvas())),
+        Err(fault) => Err(fault),
     }
 }
 
 #[test]
 fn webp_files(rt: HostRuntime) {
-    assert!(rt; gives(&HALF, &HALF[20..], false, None));
-    assert!(rt; gives(&ALPHA, &ALPHA[64..], true, Some(CANVAS)));
-    assert!(rt; gives(&PROFILE, &PROFILE[50..78], false, Some(CANVAS)));
+    equal!(rt; parts_of(&HALF), Ok((&HALF[20..], false, None)));
+    equal!(rt; parts_of(&ALPHA), Ok((&ALPHA[64..], true, Some(CANVAS))));
+    equal!(rt; parts_of(&PROFILE), Ok((&PROFILE[50..78], false, Some(CANVAS))));
 }
 
 /// The packets lie where webpinfo says that they do. A file without one has the fault of `read`.
@@ -86,55 +84,43 @@ fn webp_places(rt: HostRuntime) {
     let half = PacketPlace { start: 20, len: 28 };
     let alpha = PacketPlace { start: 64, len: 32 };
     let profile = PacketPlace { start: 50, len: 28 };
-    equal(&rt, &packet_place(&HALF), &Ok(half));
-    equal(&rt, &packet_place(&ALPHA), &Ok(alpha));
-    equal(&rt, &packet_place(&PROFILE), &Ok(profile));
-    equal(&rt, &packet_place(&LOSSLESS), &Err(WebPFault::Lossless));
-    equal(&rt, &packet_place(&HALF[..47]), &Err(WebPFault::Torn));
+    equal!(rt; packet_place(&HALF), Ok(half));
+    equal!(rt; packet_place(&ALPHA), Ok(alpha));
+    equal!(rt; packet_place(&PROFILE), Ok(profile));
+    equal!(rt; packet_place(&LOSSLESS), Err(WebPFault::Lossless));
+    equal!(rt; packet_place(&HALF[..47]), Err(WebPFault::Torn));
 }
 
 fn fault_of(file: &[u8]) -> Option<WebPFault> {
     read(file).err()
 }
 
-/// Returns whether each file that lacks bytes at its end is torn.
-fn is_torn_at_each_cut(file: &[u8]) -> bool {
-    (0..file.len()).all(|count| fault_of(file.split_at(count).0) == Some(WebPFault::Torn))
+/// Each file that lacks bytes at its end is torn.
+fn check_cuts(rt: &impl Abort, file: &[u8]) {
+    for count in 0..file.len() {
+        let fault = fault_of(file.split_at(count).0);
+        let torn = Some(WebPFault::Torn);
+        equal!(rt; (file.len(), count, fault), (file.len(), count, torn));
+    }
 }
 
 #[test]
 fn webp_cut_short(rt: HostRuntime) {
-    assert!(rt; is_torn_at_each_cut(&HALF));
-    assert!(rt; is_torn_at_each_cut(&ALPHA));
-    assert!(rt; is_torn_at_each_cut(&PROFILE));
+    check_cuts(&rt, &HALF);
+    check_cuts(&rt, &ALPHA);
+    check_cuts(&rt, &PROFILE);
 }
 
 #[test]
 fn webp_faults(rt: HostRuntime) {
-    equal(&rt, &fault_of(&LOSSLESS), &Some(WebPFault::Lossless));
-    equal(&rt, &fault_of(&ANIMATION), &Some(WebPFault::Animated));
-    equal(
-        &rt,
-        &fault_of(b"RIFF\x04\0\0\0WEBP"),
-        &Some(WebPFault::NoPicture),
-    );
-    equal(
-        &rt,
-        &fault_of(b"RIFF\x03\0\0\0WEBP"),
-        &Some(WebPFault::Torn),
-    );
-    equal(&rt, &fault_of(b"DKIF"), &Some(WebPFault::Signature));
-    equal(&rt, &fault_of(b"RIX"), &Some(WebPFault::Signature));
-    equal(
-        &rt,
-        &fault_of(b"RIFF\xff\xff\xff\xffWAVE"),
-        &Some(WebPFault::Signature),
-    );
-    equal(
-        &rt,
-        &fault_of(b"RIFF\xff\xff\xff\xffWEBP"),
-        &Some(WebPFault::Torn),
-    );
+    equal!(rt; fault_of(&LOSSLESS), Some(WebPFault::Lossless));
+    equal!(rt; fault_of(&ANIMATION), Some(WebPFault::Animated));
+    equal!(rt; fault_of(b"RIFF\x04\0\0\0WEBP"), Some(WebPFault::NoPicture));
+    equal!(rt; fault_of(b"RIFF\x03\0\0\0WEBP"), Some(WebPFault::Torn));
+    equal!(rt; fault_of(b"DKIF"), Some(WebPFault::Signature));
+    equal!(rt; fault_of(b"RIX"), Some(WebPFault::Signature));
+    equal!(rt; fault_of(b"RIFF\xff\xff\xff\xffWAVE"), Some(WebPFault::Signature));
+    equal!(rt; fault_of(b"RIFF\xff\xff\xff\xffWEBP"), Some(WebPFault::Torn));
 }
 
 /// The first file with another byte at one place.
@@ -149,17 +135,17 @@ fn with_byte(at: usize, byte: u8) -> [u8; 48]
 #[test]
 fn webp_sizes(rt: HostRuntime) {
     // The file ends one byte before its size, or one byte after it.
-    equal(&rt, &fault_of(&with_byte(4, 0x29)), &Some(WebPFault::Torn));
-    assert!(rt; gives(&with_byte(16, 0x1b), &HALF[20..47], false, None));
+    equal!(rt; fault_of(&with_byte(4, 0x29)), Some(WebPFault::Torn));
+    equal!(rt; parts_of(&with_byte(16, 0x1b)), Ok((&HALF[20..47], false, None)));
     // The chunk ends after the size of the file, with its padding or before it.
-    equal(&rt, &fault_of(&with_byte(16, 0x1d)), &Some(WebPFault::Torn));
-    equal(&rt, &fault_of(&with_byte(4, 0x26)), &Some(WebPFault::Torn));
-    equal(&rt, &fault_of(&with_byte(19, 0xff)), &Some(WebPFault::Torn));
+    equal!(rt; fault_of(&with_byte(16, 0x1d)), Some(WebPFault::Torn));
+    equal!(rt; fault_of(&with_byte(4, 0x26)), Some(WebPFault::Torn));
+    equal!(rt; fault_of(&with_byte(19, 0xff)), Some(WebPFault::Torn));
     // A size that does not count the padding of the last chunk; dwebp reads such a file.
     let mut odd = with_byte(4, 0x27);
     odd[16] = 0x1b;
-    assert!(rt; gives(odd.split_at(47).0, &HALF[20..47], false, None));
-    equal(&rt, &fault_of(odd.split_at(46).0), &Some(WebPFault::Torn));
+    equal!(rt; parts_of(odd.split_at(47).0), Ok((&HALF[20..47], false, None)));
+    equal!(rt; fault_of(odd.split_at(46).0), Some(WebPFault::Torn));
 }
 
 // The first bytes of an extended file: its canvas is 16,777,216 by 513 pixels, with one more field than today's files.
@@ -184,73 +170,56 @@ fn chunks_before_the_picture(rt: HostRuntime) {
         width: 16_777_216,
         height: 513,
     };
-    assert!(rt; gives(&wide(0, 11), &HALF[20..], false, Some(canvas)));
-    assert!(rt; gives(&wide(0xfd, 12), &HALF[20..], false, Some(canvas)));
-    equal(&rt, &fault_of(&wide(2, 11)), &Some(WebPFault::Animated));
-    equal(&rt, &fault_of(&wide(0, 9)), &Some(WebPFault::Torn));
+    equal!(rt; parts_of(&wide(0, 11)), Ok((&HALF[20..], false, Some(canvas))));
+    equal!(rt; parts_of(&wide(0xfd, 12)), Ok((&HALF[20..], false, Some(canvas))));
+    equal!(rt; fault_of(&wide(2, 11)), Some(WebPFault::Animated));
+    equal!(rt; fault_of(&wide(0, 9)), Some(WebPFault::Torn));
     // The parameters of an animation without its flag are passed over, as dwebp does; its frames are not.
     let mut file = wide(0, 11);
     file[12..16].copy_from_slice(b"ANIM");
-    assert!(rt; gives(&file, &HALF[20..], false, None));
+    equal!(rt; parts_of(&file), Ok((&HALF[20..], false, None)));
     file[12..16].copy_from_slice(b"ANMF");
-    equal(&rt, &fault_of(&file), &Some(WebPFault::Animated));
+    equal!(rt; fault_of(&file), Some(WebPFault::Animated));
 }
 
 #[test]
 fn webp_packets(rt: HostRuntime) {
-    equal(
-        &rt,
-        &fault_of(&with_byte(20, 0x51)),
-        &Some(WebPFault::NotKey),
-    );
-    equal(
-        &rt,
-        &fault_of(&with_byte(20, 0x40)),
-        &Some(WebPFault::Hidden),
-    );
-    equal(
-        &rt,
-        &fault_of(b"RIFF\x0e\0\0\0WEBPVP8 \x02\0\0\0\x10\0"),
-        &Some(WebPFault::NotKey),
-    );
+    equal!(rt; fault_of(&with_byte(20, 0x51)), Some(WebPFault::NotKey));
+    equal!(rt; fault_of(&with_byte(20, 0x40)), Some(WebPFault::Hidden));
+    equal!(rt; fault_of(b"RIFF\x0e\0\0\0WEBPVP8 \x02\0\0\0\x10\0"), Some(WebPFault::NotKey));
 }
 
-/// Returns whether a packet is written as this file.
-fn is_written(alloc: Global, packet: &[u8], file: &[u8]) -> bool {
+/// A packet is written as this file, with this answer.
+fn check_written(
+    rt: &impl Abort,
+    alloc: Global,
+    packet: &[u8],
+    answer: Result<(), WebPWriteFault>,
+    file: &[u8],
+) {
     let mut out = Counted::new(Vec::new(alloc));
-    write(&mut out, packet) == Ok(()) && out.into_inner().as_slice() == file
+    let found = write(&mut out, packet);
+    let bytes = out.into_inner();
+    equal!(rt; (packet, found, bytes.as_slice()), (packet, answer, file));
 }
 
 // The second file has a packet of 27 bytes, and a byte of padding in place of the last one.
 #[test]
 fn webp_written(rt: HostRuntime) {
-    assert!(rt; is_written(rt.alloc(), &HALF[20..], &HALF));
-    assert!(rt; is_written(rt.alloc(), &HALF[20..47], &with_byte(16, 0x1b)));
-}
-
-/// Returns whether a packet is rejected with this fault, and nothing is written.
-fn is_refused(alloc: Global, packet: &[u8], fault: WebPWriteFault) -> bool {
-    let mut out = Counted::new(Vec::new(alloc));
-    write(&mut out, packet) == Err(fault) && out.into_inner().is_empty()
+    let odd = with_byte(16, 0x1b);
+    check_written(&rt, rt.alloc(), &HALF[20..], Ok(()), &HALF);
+    check_written(&rt, rt.alloc(), &HALF[20..47], Ok(()), &odd);
 }
 
 #[test]
 fn webp_refused(rt: HostRuntime) {
-    assert!(rt;
-        is_refused(
-            rt.alloc(),
-            &with_byte(20, 0x51)[20..],
-            WebPWriteFault::NotKey
-        )
-    );
-    assert!(rt;
-        is_refused(
-            rt.alloc(),
-            &with_byte(20, 0x40)[20..],
-            WebPWriteFault::Hidden
-        )
-    );
-    assert!(rt; is_refused(rt.alloc(), &HALF[20..22], WebPWriteFault::NotKey));
+    let inter = with_byte(20, 0x51);
+    let hidden = with_byte(20, 0x40);
+    let no_key = Err(WebPWriteFault::NotKey);
+    let is_hidden = Err(WebPWriteFault::Hidden);
+    check_written(&rt, rt.alloc(), &inter[20..], no_key, &[]);
+    check_written(&rt, rt.alloc(), &hidden[20..], is_hidden, &[]);
+    check_written(&rt, rt.alloc(), &HALF[20..22], no_key, &[]);
 }
 
 /// Returns a buffer of 50 nines after the file of a packet is copied to its first `count` bytes.
@@ -263,7 +232,7 @@ fn copied(
     requires { count ≤ 50 }
 {
     let mut out = [9; 50];
-    equal(rt, &copy_file(&mut out[..count], packet), &wanted);
+    equal!(rt; copy_file(&mut out[..count], packet), wanted);
     out
 }
 
@@ -277,47 +246,49 @@ fn with_nines(file: &[u8; 48]) -> [u8; 50] {
 #[test]
 fn webp_copied(rt: HostRuntime) {
     let (even, odd) = (&HALF[20..], &HALF[20..47]);
-    equal(&rt, &file_len(even), &Ok(48));
-    equal(&rt, &file_len(odd), &Ok(48));
+    equal!(rt; file_len(even), Ok(48));
+    equal!(rt; file_len(odd), Ok(48));
     let odd_file = with_byte(16, 0x1b);
-    equal(&rt, &copied(&rt, even, 50, Ok(())), &with_nines(&HALF));
-    equal(&rt, &copied(&rt, odd, 48, Ok(())), &with_nines(&odd_file));
+    equal!(rt; copied(&rt, even, 50, Ok(())), with_nines(&HALF));
+    equal!(rt; copied(&rt, odd, 48, Ok(())), with_nines(&odd_file));
     let device = Err(WebPWriteFault::Device);
-    equal(&rt, &copied(&rt, even, 47, device), &[9; 50]);
+    equal!(rt; copied(&rt, even, 47, device), [9; 50]);
 }
 
 #[test]
 fn webp_not_copied(rt: HostRuntime) {
     let hidden = with_byte(20, 0x40);
-    equal(&rt, &file_len(&HALF[20..22]), &Err(WebPWriteFault::NotKey));
-    equal(&rt, &file_len(&hidden[20..]), &Err(WebPWriteFault::Hidden));
+    equal!(rt; file_len(&HALF[20..22]), Err(WebPWriteFault::NotKey));
+    equal!(rt; file_len(&hidden[20..]), Err(WebPWriteFault::Hidden));
     let fault = Err(WebPWriteFault::Hidden);
-    equal(&rt, &copied(&rt, &hidden[20..], 50, fault), &[9; 50]);
+    equal!(rt; copied(&rt, &hidden[20..], 50, fault), [9; 50]);
 }
 
-/// Returns whether the file of the odd packet fails at write `k`, after its first `count` bytes are written.
-fn fails_after(alloc: Global, k: u64, count: usize) -> bool
+/// The file of the odd packet fails at write `k`, after its first `count` bytes are written.
+fn check_failure(rt: &impl Abort, alloc: Global, k: u64, count: usize)
     requires { count ≤ 48 }
 {
     let file = with_byte(16, 0x1b);
     let mut out = Counted::new(FailAt::new(Vec::new(alloc), k));
-    write(&mut out, &HALF[20..47]) == Err(WebPWriteFault::Device)
-        && out.failures() == 1
-        && out.into_inner().into_inner().as_slice() == file.split_at(count).0
+    let answer = write(&mut out, &HALF[20..47]);
+    let device = Err(WebPWriteFault::Device);
+    equal!(rt; (k, answer, out.failures()), (k, device, 1));
+    let bytes = out.into_inner().into_inner();
+    equal!(rt; (k, bytes.as_slice()), (k, file.split_at(count).0));
 }
 
 #[test]
 fn webp_device_fails(rt: HostRuntime) {
-    assert!(rt; fails_after(rt.alloc(), 0, 0));
-    assert!(rt; fails_after(rt.alloc(), 1, 20));
-    assert!(rt; fails_after(rt.alloc(), 2, 47));
+    check_failure(&rt, rt.alloc(), 0, 0);
+    check_failure(&rt, rt.alloc(), 1, 20);
+    check_failure(&rt, rt.alloc(), 2, 47);
 }
 
-fn is_named(alloc: Global, fault: WebPFault, name: &str) -> bool {
-    match format!(in alloc; "{fault}") {
-        Ok(text) => text.as_str() == name,
-        Err(_) => false,
-    }
+fn check_name(rt: &impl Abort, alloc: Global, fault: WebPFault, name: &str) {
+    let Ok(text) = format!(in alloc; "{fault}") else {
+        panic!(rt; "memory");
+    };
+    equal!(rt; text.as_str(), name);
 }
 
 const NAMES: [(WebPFault, &str); 7] = [
@@ -333,6 +304,6 @@ const NAMES: [(WebPFault, &str); 7] = [
 #[test]
 fn names_of_webp_faults(rt: HostRuntime) {
     for (fault, name) in NAMES {
-        assert!(rt; is_named(rt.alloc(), fault, name));
+        check_name(&rt, rt.alloc(), fault, name);
     }
 }

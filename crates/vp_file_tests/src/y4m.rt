@@ -3,6 +3,7 @@
 use crate::check::equal;
 use std::alloc::Global;
 use std::io::{Read, Write};
+use std::process::Abort;
 use std::test::Fail;
 use vp_base::{Counted, Dim, FailAt, Limits, Picture};
 use vp_y4m::{PictureFault, Source, SourceFault, SourceHead, write_header, write_picture};
@@ -26,9 +27,10 @@ fn head_of(line: &[u8], k: u64) -> Result<SourceHead, SourceFault> {
 fn header_text(rt: HostRuntime) -> Result<(), Fail> {
     let dim = Dim::new(16, 16, &Limits::usual()).ok().ok_or("a size")?;
     let mut file = Counted::new(Vec::new(rt.alloc()));
-    assert!(rt; write_header(&mut file, dim, 30, 1).is_ok());
+    let is_written = write_header(&mut file, dim, 30, 1).is_ok();
     let text = b"YUV4MPEG2 W16 H16 F30:1 Ip A0:0 C420jpeg\n".as_slice();
-    assert!(rt; file.into_inner().as_slice() == text);
+    let bytes = file.into_inner();
+    equal!(rt; (is_written, bytes.as_slice()), (true, text));
     Ok(())
 }
 
@@ -52,8 +54,8 @@ fn write_two<W: Write>(
 fn picture_of_another_size(rt: HostRuntime) {
     let mut file = Counted::new(Vec::new(rt.alloc()));
     let fault = Err(PictureFault::SizeChange);
-    equal(&rt, &write_two(&mut file), &Some((Ok(()), fault)));
-    equal(&rt, &file.into_inner().len(), &390);
+    equal!(rt; write_two(&mut file), Some((Ok(()), fault)));
+    equal!(rt; file.into_inner().len(), 390);
 }
 
 // Writes a header and a picture. Returns whether the header is written, and the result for the picture.
@@ -63,18 +65,19 @@ fn write_file<W: Write>(file: &mut Counted<W>) -> Option<(bool, Result<(), Pictu
     Some((header, write_picture(file, dim, &pixels(), dim)))
 }
 
-fn holds(alloc: Global, picture: &Picture, wanted: &[u8]) -> bool {
-    match picture.crop_i420(alloc) {
-        Ok(bytes) => bytes.as_slice() == wanted,
-        Err(_) => false,
-    }
+fn check_picture(rt: &impl Abort, alloc: Global, picture: &Picture, wanted: &[u8]) {
+    let Ok(bytes) = picture.crop_i420(alloc) else {
+        panic!(rt; "memory");
+    };
+    equal!(rt; bytes.as_slice(), wanted);
 }
 
-// Returns whether the next picture has these bytes.
-fn gives(alloc: Global, source: &mut Source<'_, &[u8]>, wanted: &[u8]) -> bool {
+// The next picture has these bytes.
+fn check_next(rt: &impl Abort, alloc: Global, source: &mut Source<'_, &[u8]>, wanted: &[u8]) {
     match source.next_picture() {
-        Ok(Some(picture)) => holds(alloc, &picture, wanted),
-        _ => false,
+        Ok(Some(picture)) => check_picture(rt, alloc, &picture, wanted),
+        Ok(None) => panic!(rt; "no picture of {wanted:?}"),
+        Err(fault) => panic!(rt; "{fault:?} in place of {wanted:?}"),
     }
 }
 
@@ -90,21 +93,23 @@ fn pictures_of<R: Read>(source: &mut Source<'_, R>) -> (u64, Option<SourceFault>
     (4, None)
 }
 
-/// Returns whether a file has one picture, and these are its bytes.
-fn is_one_picture(alloc: Global, file: &[u8], wanted: &[u8]) -> bool {
+/// A file has one picture, and these are its bytes.
+fn check_one_picture(rt: &impl Abort, alloc: Global, file: &[u8], wanted: &[u8]) {
     let mut reader = Counted::new(file);
     let Ok(head) = SourceHead::read(&mut reader, Limits::usual()) else {
-        return false;
+        panic!(rt; "a head");
     };
     let mut source = Source::open(alloc, &mut reader, head);
-    gives(alloc, &mut source, wanted) && pictures_of(&mut source) == (0, None)
+    check_next(rt, alloc, &mut source, wanted);
+    equal!(rt; pictures_of(&mut source), (0, None));
 }
 
 #[test]
 fn source_reads_back(rt: HostRuntime) {
     let mut file = Counted::new(Vec::new(rt.alloc()));
-    assert!(rt; write_file(&mut file) == Some((true, Ok(()))));
-    assert!(rt; is_one_picture(rt.alloc(), file.into_inner().as_slice(), &pixels()));
+    equal!(rt; write_file(&mut file), Some((true, Ok(()))));
+    let bytes = file.into_inner();
+    check_one_picture(&rt, rt.alloc(), bytes.as_slice(), &pixels());
 }
 
 #[test]
@@ -115,11 +120,7 @@ fn source_says_its_head(rt: HostRuntime) -> Result<(), Fail> {
     };
     let source = Source::open(rt.alloc(), &mut reader, head);
     let dim = source.dim();
-    equal(
-        &rt,
-        &(dim.w, dim.h, source.rate(), source.scale()),
-        &(3, 2, 30, 1),
-    );
+    equal!(rt; (dim.w, dim.h, source.rate(), source.scale()), (3, 2, 30, 1));
     Ok(())
 }
 
@@ -134,20 +135,20 @@ fn said_of(line: &[u8], k: u64) -> Option<(u16, u16, u32, u32)> {
 #[test]
 fn header_lines(rt: HostRuntime) {
     let line = b"YUV4MPEG2  H02 W9 W007 Xany C420paldv I? F24:1\n";
-    equal(&rt, &said_of(line, 2_000), &Some((7, 2, 24, 1)));
+    equal!(rt; said_of(line, 2_000), Some((7, 2, 24, 1)));
     let small = b"YUV4MPEG2 W1 H1\nFRAME\n";
-    equal(&rt, &said_of(small, 16), &Some((1, 1, 25, 1)));
+    equal!(rt; said_of(small, 16), Some((1, 1, 25, 1)));
     let plain = b"YUV4MPEG2 W1 H1 C420\n";
-    equal(&rt, &said_of(plain, 2_000), &Some((1, 1, 25, 1)));
+    equal!(rt; said_of(plain, 2_000), Some((1, 1, 25, 1)));
     let mpeg2 = b"YUV4MPEG2 W1 H1 C420mpeg2\n";
-    equal(&rt, &said_of(mpeg2, 2_000), &Some((1, 1, 25, 1)));
+    equal!(rt; said_of(mpeg2, 2_000), Some((1, 1, 25, 1)));
 }
 
 #[test]
 fn header_of_another_writer(rt: HostRuntime) {
     let line =
         b"YUV4MPEG2 W35 H17 F30000:1001 Ip A1:1 C420jpeg XYSCSS=420JPEG XCOLORRANGE=LIMITED\n";
-    equal(&rt, &said_of(line, 2_000), &Some((35, 17, 30_000, 1_001)));
+    equal!(rt; said_of(line, 2_000), Some((35, 17, 30_000, 1_001)));
 }
 
 /// Header lines that are refused, and their faults.
@@ -168,7 +169,8 @@ const REFUSED: [(&[u8], SourceFault); 11] = [
 #[test]
 fn header_faults(rt: HostRuntime) {
     for (line, fault) in REFUSED {
-        equal(&rt, &head_of(line, 2_000).err(), &Some(fault));
+        let found = head_of(line, 2_000).err();
+        equal!(rt; (line, found), (line, Some(fault)));
     }
 }
 
@@ -205,7 +207,7 @@ fn fault_after(k: u64) -> SourceFault {
 fn fails_at_each_read(rt: HostRuntime) {
     for k in 0..46u64 {
         let wanted = (pictures_before(k), Some(fault_after(k)));
-        equal(&rt, &read_all(rt.alloc(), SMALL, k), &wanted);
+        equal!(rt; (k, read_all(rt.alloc(), SMALL, k)), (k, wanted));
     }
 }
 
@@ -222,7 +224,7 @@ fn reads_of(alloc: Global, file: &[u8]) -> Option<(u64, (u64, Option<SourceFault
 #[test]
 fn reads_are_counted(rt: HostRuntime) {
     let file = b"YUV4MPEG2 W1 H1\nFRAME\nabc";
-    equal(&rt, &reads_of(rt.alloc(), file), &Some((16, (1, None), 26)));
+    equal!(rt; reads_of(rt.alloc(), file), Some((16, (1, None), 26)));
 }
 
 /// After a failed read there are no more reads.
@@ -230,8 +232,8 @@ fn reads_are_counted(rt: HostRuntime) {
 fn a_failed_read_is_the_last(rt: HostRuntime) {
     let mut reader = Counted::new(FailAt::new(SMALL, 3));
     let fault = SourceHead::read(&mut reader, Limits::usual()).err();
-    equal(&rt, &fault, &Some(SourceFault::Device));
-    equal(&rt, &reader.reads(), &4);
+    equal!(rt; fault, Some(SourceFault::Device));
+    equal!(rt; reader.reads(), 4);
 }
 
 // Returns the results for header and picture, and the number of bytes written, with a writer that fails after k writes.
@@ -244,9 +246,9 @@ fn write_all(alloc: Global, k: u64) -> (Option<(bool, Result<(), PictureFault>)>
 #[test]
 fn fails_at_each_write(rt: HostRuntime) {
     let fault = Err(PictureFault::Device);
-    equal(&rt, &write_all(rt.alloc(), 0), &(Some((false, fault)), 0));
-    equal(&rt, &write_all(rt.alloc(), 1), &(Some((true, fault)), 41));
-    equal(&rt, &write_all(rt.alloc(), 2), &(Some((true, fault)), 47));
+    equal!(rt; write_all(rt.alloc(), 0), (Some((false, fault)), 0));
+    equal!(rt; write_all(rt.alloc(), 1), (Some((true, fault)), 41));
+    equal!(rt; write_all(rt.alloc(), 2), (Some((true, fault)), 47));
 }
 
 /// The rows of Y, U and V follow each other; those of chroma have half of three pixels, rounded up.
@@ -257,7 +259,7 @@ fn planes_stand_in_order(rt: HostRuntime) -> Result<(), Fail> {
         panic!(rt; "a head");
     };
     let mut source = Source::open(rt.alloc(), &mut reader, head);
-    assert!(rt; gives(rt.alloc(), &mut source, b"abcdefg"));
+    check_next(&rt, rt.alloc(), &mut source, b"abcdefg");
     Ok(())
 }
 
@@ -266,13 +268,9 @@ fn planes_stand_in_order(rt: HostRuntime) -> Result<(), Fail> {
 fn first_words_are_whole(rt: HostRuntime) {
     let longer = b"YUV4MPEG22 W1 H1\nFRAME\nabc";
     let magic = Some(SourceFault::Magic);
-    equal(&rt, &read_all(rt.alloc(), longer, 2_000), &(0, magic));
+    equal!(rt; read_all(rt.alloc(), longer, 2_000), (0, magic));
     let frames = b"YUV4MPEG2 W1 H1\nFRAMES\nabc";
-    equal(&rt, &read_all(rt.alloc(), frames, 2_000), &(0, magic));
+    equal!(rt; read_all(rt.alloc(), frames, 2_000), (0, magic));
     let frames_and_word = b"YUV4MPEG2 W1 H1\nFRAME\nabcFRAMES x\nabc";
-    equal(
-        &rt,
-        &read_all(rt.alloc(), frames_and_word, 2_000),
-        &(1, magic),
-    );
+    equal!(rt; read_all(rt.alloc(), frames_and_word, 2_000), (1, magic));
 }

@@ -21,18 +21,18 @@ fn darken(plane: &mut Plane) {
     }
 }
 
-/// Returns whether the pixels at the edge of the plane are predicted as expected, for vectors of a quarter pixel and
-/// far outside.
-fn moves(plane: &Plane) -> bool {
+/// Returns predicted pixels at the edge of a plane of 16 by 16, for vectors of a quarter pixel and far outside.
+fn edge_pixels(plane: &Plane) -> Option<[u8; 4]> {
     if plane.width() != 16 || plane.height() != 16 {
-        return false;
+        return None;
     }
     let quarter = luma_vector(0, 1);
     let turned = luma_vector(-400, 1 - 4000);
-    predict_block4(plane, 0, 0, quarter, 0)[2] == 58
-        && predict_block4(plane, 0, 0, quarter, 1)[2] == 64
-        && predict_block16(plane, 0, 0, quarter, 0)[242] == 58
-        && predict_block8(plane, 8, 8, turned, 0)[63] == 0
+    let six_taps = predict_block4(plane, 0, 0, quarter, 0)[2];
+    let bilinear = predict_block4(plane, 0, 0, quarter, 1)[2];
+    let large = predict_block16(plane, 0, 0, quarter, 0)[242];
+    let outside = predict_block8(plane, 8, 8, turned, 0)[63];
+    Some([six_taps, bilinear, large, outside])
 }
 
 /// Three columns of 0, followed by 255.
@@ -41,20 +41,11 @@ fn kernel_examples(rt: HostRuntime) {
     let Ok(mut plane) = Plane::new(rt.alloc(), 16, 16, 255) else {
         panic!(rt; "memory");
     };
-    equal(&rt, &plane.width(), &16);
-    equal(&rt, &plane.height(), &16);
+    equal!(rt; (plane.width(), plane.height()), (16, 16));
     darken(&mut plane);
-    assert!(rt; moves(&plane));
-    equal(
-        &rt,
-        &chroma_vector(0, &[-1, -1, -1, -2], &[1, 2, 3, 4]),
-        &PlaneVector { row: -1, column: 3 },
-    );
-    equal(
-        &rt,
-        &chroma_vector(3, &[-1, -1, -1, -2], &[9, 9, 9, 9]),
-        &PlaneVector { row: -8, column: 8 },
-    );
+    equal!(rt; edge_pixels(&plane), Some([58, 64, 58, 0]));
+    equal!(rt; chroma_vector(0, &[-1, -1, -1, -2], &[1, 2, 3, 4]), PlaneVector { row: -1, column: 3 });
+    equal!(rt; chroma_vector(3, &[-1, -1, -1, -2], &[9, 9, 9, 9]), PlaneVector { row: -8, column: 8 });
 }
 
 /// Offsets in whole pixels: far outside, across each border, just outside and just inside, for each block size.
@@ -219,7 +210,7 @@ fn first_difference(plane: &Plane) -> Option<(PlaneVector, u8)>
 /// Fills the rows of a plane of 48 by 48.
 fn fill_rows(rt: &impl Abort, plane: &mut Plane) {
     for y in 0..48 {
-        assert!(rt; y < plane.height());
+        assert!(rt; y < plane.height(), "no row {y}");
         fill(plane.row_mut(y), y);
     }
 }
@@ -228,8 +219,8 @@ fn fill_rows(rt: &impl Abort, plane: &mut Plane) {
 fn lanes_predict_as_pixels(rt: HostRuntime) -> Result<(), Fail> {
     let mut plane = Plane::new(rt.alloc(), 48, 48, 0)?;
     fill_rows(&rt, &mut plane);
-    assert!(rt; 0 < plane.width() && 0 < plane.height());
-    equal(&rt, &first_difference(&plane), &None);
+    assert!(rt; 0 < plane.width() && 0 < plane.height(), "an empty plane");
+    equal!(rt; first_difference(&plane), None);
     Ok(())
 }
 
@@ -245,47 +236,54 @@ fn wanted(block: &[u8], size: usize, at: usize, x: usize, y: usize) -> u8 {
     }
 }
 
-/// Returns whether row `y` has the expected pixels.
-fn has_row(row: &[u8], block: &[u8], size: usize, at: usize, y: usize) -> bool {
+/// A pixel that isn't as expected: its column and row, its value, and the expected one.
+type Pixel = (usize, usize, u8, u8);
+
+/// Returns the first pixel of row `y` that isn't as expected.
+fn other_of_row(row: &[u8], block: &[u8], size: usize, at: usize, y: usize) -> Option<Pixel> {
     for x in 0..row.len() {
-        if row[x] != wanted(block, size, at, x, y) {
-            return false;
+        let expected = wanted(block, size, at, x, y);
+        if row[x] != expected {
+            return Some((x, y, row[x], expected));
         }
     }
-    true
+    None
 }
 
-/// Returns whether a plane has the block at column and row `at`, and 7 elsewhere.
-fn has_block(plane: &Plane, block: &[u8], size: usize, at: usize) -> bool {
+/// Returns the first pixel that isn't as expected: the block at column and row `at`, and 7 elsewhere.
+fn other_of_plane(plane: &Plane, block: &[u8], size: usize, at: usize) -> Option<Pixel> {
     for y in 0..plane.height() {
-        if !has_row(plane.row(y), block, size, at, y) {
-            return false;
+        let other = other_of_row(plane.row(y), block, size, at, y);
+        if other.is_some() {
+            return other;
         }
     }
-    true
+    None
 }
 
-/// Returns whether the planes have the predicted blocks at their places, and all other pixels are 7.
-fn has_blocks(picture: &Picture, reference: &Plane, vector: PlaneVector) -> bool
+/// Returns the first pixel of each plane that isn't as expected: the predicted blocks at their places, and 7 elsewhere.
+fn other_pixels(picture: &Picture, reference: &Plane, vector: PlaneVector) -> [Option<Pixel>; 3]
     requires wide { 0 < reference.now.width }
     requires high { 0 < reference.now.height }
 {
     let large = predict_block16(reference, 16, 16, vector, 0);
     let middle = predict_block8(reference, 8, 8, vector, 0);
     let small = predict_block4(reference, 8, 8, vector, 0);
-    has_block(picture.plane(0), &large, 16, 16)
-        && has_block(picture.plane(1), &middle, 8, 8)
-        && has_block(picture.plane(2), &small, 4, 8)
+    [
+        other_of_plane(picture.plane(0), &large, 16, 16),
+        other_of_plane(picture.plane(1), &middle, 8, 8),
+        other_of_plane(picture.plane(2), &small, 4, 8),
+    ]
 }
 
-/// Returns whether blocks of each size, written to the planes of a picture of 7, are at their places, and all other
-/// pixels are unchanged.
-fn are_written(
+/// Writes blocks of each size to the planes of a picture of 7. Returns the first pixel of each plane that isn't as
+/// expected: the blocks at their places, and all other pixels unchanged.
+fn others_of_written(
     alloc: Global,
     dim: Dim,
     reference: &Plane,
     vector: PlaneVector,
-) -> Result<bool, AllocError>
+) -> Result<[Option<Pixel>; 3], AllocError>
     requires wide { 0 < reference.now.width }
     requires high { 0 < reference.now.height }
     requires columns { 48 ≤ dim.w }
@@ -295,7 +293,7 @@ fn are_written(
     predict_into16(&mut picture, 0, 16, 16, reference, vector, 0);
     predict_into8(&mut picture, 1, 8, 8, reference, vector, 0);
     predict_into4(&mut picture, 2, 8, 8, reference, vector, 0);
-    Ok(has_blocks(&picture, reference, vector))
+    Ok(other_pixels(&picture, reference, vector))
 }
 
 /// Fails the test if blocks with one of these vectors are written elsewhere.
@@ -308,10 +306,14 @@ fn check_written(
     requires columns { 48 ≤ dim.w }
     requires rows { 48 ≤ dim.h }
 {
-    assert!(rt; 0 < reference.width() && 0 < reference.height());
+    assert!(rt;
+        0 < reference.width() && 0 < reference.height(),
+        "an empty plane"
+    );
     for (row, column) in [(0, 0), (16, -8), (3, 5), (-4000, 4001)] {
         let vector = PlaneVector { row, column };
-        assert!(rt; are_written(alloc, dim, reference, vector)?);
+        let others = others_of_written(alloc, dim, reference, vector)?;
+        equal!(rt; (vector, others), (vector, [None; 3]));
     }
     Ok(())
 }

@@ -86,17 +86,15 @@ const SUB_MODES: [(SubMode, [u8; 16]); 10] = [
     ),
 ];
 
-/// Returns whether each subblock mode gives the expected prediction.
-fn predicts_subs(plane: &Plane) -> bool
+/// Fails the test if a subblock mode gives another prediction.
+fn check_modes(rt: &impl Abort, plane: &Plane)
     requires width { plane.now.width ≡ 32 }
     requires height { plane.now.height ≡ 32 }
 {
     for (mode, pixels) in &SUB_MODES {
-        if predict_sub(plane, 4, 4, *mode) != *pixels {
-            return false;
-        }
+        let found = predict_sub(plane, 4, 4, *mode);
+        equal!(rt; (*mode, found), (*mode, *pixels));
     }
-    true
 }
 
 const RIGHT_OF_MACROBLOCK: [u8; 16] = [
@@ -119,11 +117,11 @@ fn check_size(rt: &impl Abort, plane: &Plane)
 /// Fails the test if a subblock is predicted otherwise.
 fn check_subs(rt: &impl Abort, plane: &Plane) {
     check_size(rt, plane);
-    assert!(rt; predicts_subs(plane));
-    assert!(rt; predict_sub(plane, 12, 20, SubMode::Ld) == RIGHT_OF_MACROBLOCK);
-    assert!(rt; predict_sub(plane, 28, 20, SubMode::Ld) == RIGHT_OF_FRAME);
+    check_modes(rt, plane);
+    equal!(rt; predict_sub(plane, 12, 20, SubMode::Ld), RIGHT_OF_MACROBLOCK);
+    equal!(rt; predict_sub(plane, 28, 20, SubMode::Ld), RIGHT_OF_FRAME);
     // The fifth mode is LD.
-    assert!(rt; predict_sub_modes(plane, 12, 20)[4] == RIGHT_OF_MACROBLOCK);
+    equal!(rt; predict_sub_modes(plane, 12, 20)[4], RIGHT_OF_MACROBLOCK);
 }
 
 #[test]
@@ -142,13 +140,13 @@ const ROW_OF_MOTION: [u8; 16] = [
 fn check_whole(rt: &impl Abort, plane: &Plane) {
     check_size(rt, plane);
     let mean = predict_luma(plane, 16, 16, LumaMode::Dc);
-    equal(rt, &mean[255], &108);
+    equal!(rt; mean[255], 108);
     let motion = predict_luma(plane, 16, 16, LumaMode::Tm);
-    assert!(rt; &motion[48..64] == ROW_OF_MOTION.as_slice());
+    equal!(rt; &motion[48..64], ROW_OF_MOTION.as_slice());
     let outside = predict_chroma(plane, 0, 0, ChromaMode::V);
-    equal(rt, &outside[63], &127);
+    equal!(rt; outside[63], 127);
     let beside = predict_chroma(plane, 0, 8, ChromaMode::H);
-    equal(rt, &beside[0], &129);
+    equal!(rt; beside[0], 129);
 }
 
 #[test]

@@ -4,6 +4,7 @@ ghost use Rattle.std.specs.Prelude.{◌≡◌, ◌≤◌, ◌≤ℤ◌, pos, neg
 
 use crate::check::equal;
 use std::alloc::Global;
+use std::process::Abort;
 use vp_base::{Dim, Limits, Picture, Place, Plane};
 use vp_head::Reference;
 use vp_modes::Modes;
@@ -34,26 +35,28 @@ fn modes(luma: LumaMode) -> Modes {
     }
 }
 
-/// Returns whether luma is 128 in rows 0 to 3 and 129 below, of 16 columns and 32 rows, and chroma is 128.
-fn is_empty_picture(bytes: &[u8]) -> bool {
+/// Returns the first pixel that isn't that of the empty picture: its position, its value, and the expected one. Luma is
+/// 128 in rows 0 to 3 and 129 below, of 16 columns and 32 rows, and chroma is 128.
+fn first_not_empty(bytes: &[u8]) -> Option<(usize, u8, u8)> {
     for (i, byte) in bytes.iter().enumerate() {
         let wanted = if i >= 64 && i < 512 { 129 } else { 128 };
         if *byte != wanted {
-            return false;
+            return Some((i, *byte, wanted));
         }
     }
-    bytes.len() == 768
+    None
 }
 
-fn is_empty(alloc: Global, picture: &Picture) -> bool {
-    match picture.crop_i420(alloc) {
-        Ok(bytes) => is_empty_picture(&bytes),
-        Err(_) => false,
-    }
+/// Fails the test if this isn't the empty picture.
+fn check_empty(rt: &impl Abort, alloc: Global, picture: &Picture) {
+    let Ok(bytes) = picture.crop_i420(alloc) else {
+        panic!(rt; "memory");
+    };
+    equal!(rt; (bytes.len(), first_not_empty(&bytes)), (768, None));
 }
 
-/// Returns whether two B_PRED macroblocks without residue give the empty picture.
-fn rebuilds_empty(alloc: Global, picture: &mut Picture) -> bool
+/// Two B_PRED macroblocks without residue give the empty picture.
+fn rebuild_empty(rt: &impl Abort, alloc: Global, picture: &mut Picture)
     requires width { picture.old.width ≡ 16 }
     requires height { picture.old.height ≡ 32 }
 {
@@ -65,34 +68,32 @@ fn rebuilds_empty(alloc: Global, picture: &mut Picture) -> bool
     };
     rebuild_macroblock(picture, TOP, &source, &tokens, &FACTORS);
     rebuild_macroblock(picture, below, &source, &tokens, &FACTORS);
-    is_empty(alloc, picture)
-}
-
-/// Returns whether these two macroblocks of a black picture give the empty picture.
-fn gives_empty(alloc: Global) -> Option<bool> {
-    let dim = Dim::new(16, 32, &Limits::usual()).ok()?;
-    let mut picture = Picture::new(alloc, dim, 0).ok()?;
-    Some(rebuilds_empty(alloc, &mut picture))
+    check_empty(rt, alloc, picture);
 }
 
 #[test]
 fn two_macroblock_rows(rt: HostRuntime) {
-    equal(&rt, &gives_empty(rt.alloc()), &Some(true));
+    let Ok(dim) = Dim::new(16, 32, &Limits::usual()) else {
+        panic!(rt; "a size");
+    };
+    let Ok(mut picture) = Picture::new(rt.alloc(), dim, 0) else {
+        panic!(rt; "memory");
+    };
+    rebuild_empty(&rt, rt.alloc(), &mut picture);
 }
 
-/// Returns whether the plane has this 4 by 4 block at column and row `at`.
-fn has_block(plane: &Plane, at: usize, wanted: &[[u8; 4]; 4]) -> bool
+/// Returns the 4 by 4 block of the plane at column and row `at`.
+fn block_at(plane: &Plane, at: usize) -> Option<[[u8; 4]; 4]>
     requires { at ≤ 4 }
 {
     if plane.width() < 8 || plane.height() < 8 {
-        return false;
+        return None;
     }
-    for (y, row) in wanted.iter().enumerate() {
-        if &plane.row(at + y)[at..at + 4] != row.as_slice() {
-            return false;
-        }
+    let mut block = [[0; 4]; 4];
+    for y in 0..4 {
+        block[y].copy_from_slice(&plane.row(at + y)[at..at + 4]);
     }
-    true
+    Some(block)
 }
 
 const LEAST: Block = Block {
@@ -117,11 +118,13 @@ fn rebuilt(alloc: Global, luma: LumaMode, tokens: &Tokens) -> Option<Picture> {
     Some(picture)
 }
 
-/// Returns whether each plane begins with the block.
-fn each_plane_has(picture: &Picture, wanted: &[[u8; 4]; 4]) -> bool {
-    has_block(picture.plane(0), 0, wanted)
-        && has_block(picture.plane(1), 0, wanted)
-        && has_block(picture.plane(2), 0, wanted)
+/// Returns the first block of each plane.
+fn first_blocks(picture: &Picture) -> [Option<[[u8; 4]; 4]>; 3] {
+    [
+        block_at(picture.plane(0), 0),
+        block_at(picture.plane(1), 0),
+        block_at(picture.plane(2), 0),
+    ]
 }
 
 /// Returns whether a macroblock with this luma mode has a Y2 block.
@@ -129,39 +132,34 @@ fn has_y2(luma: LumaMode) -> bool {
     Predictor::Intra(&modes(luma)).has_y2()
 }
 
-/// Returns whether each plane begins with these pixels, rebuilt from the least levels.
-fn all_ones_give(alloc: Global, wanted: &[[u8; 4]; 4]) -> Option<bool> {
+/// Returns the first block of each plane, rebuilt from the least levels.
+fn blocks_of_ones(alloc: Global) -> Option<[Option<[[u8; 4]; 4]>; 3]> {
     let tokens = Tokens {
         blocks: [LEAST; 25],
     };
     let picture = rebuilt(alloc, LumaMode::B, &tokens)?;
-    Some(each_plane_has(&picture, wanted))
+    Some(first_blocks(&picture))
 }
 
 #[test]
 fn all_ones_tokens(rt: HostRuntime) {
-    assert!(rt; !has_y2(LumaMode::B));
-    let found = all_ones_give(rt.alloc(), &FIRST_OF_ONES);
-    equal(&rt, &found, &Some(true));
+    equal!(rt; has_y2(LumaMode::B), false);
+    let wanted = Some([Some(FIRST_OF_ONES); 3]);
+    equal!(rt; blocks_of_ones(rt.alloc()), wanted);
 }
 
-/// Returns whether a black picture's first subblock, rebuilt from this block, has these pixels.
-fn subblock_gives(
-    alloc: Global,
-    block: &Block,
-    factors: &Factors,
-    wanted: &[[u8; 4]; 4],
-) -> Option<bool> {
+/// Returns a black picture's first subblock, rebuilt from this block.
+fn subblock_of(alloc: Global, block: &Block, factors: &Factors) -> Option<[[u8; 4]; 4]> {
     let dim = Dim::new(16, 16, &Limits::usual()).ok()?;
     let mut picture = Picture::new(alloc, dim, 0).ok()?;
     rebuild_subblock(&mut picture, TOP, SubMode::Dc, block, factors);
-    Some(has_block(picture.plane(0), 0, wanted))
+    block_at(picture.plane(0), 0)
 }
 
 #[test]
 fn one_subblock(rt: HostRuntime) {
-    let found = subblock_gives(rt.alloc(), &LEAST, &FACTORS, &FIRST_OF_ONES);
-    equal(&rt, &found, &Some(true));
+    let found = subblock_of(rt.alloc(), &LEAST, &FACTORS);
+    equal!(rt; found, Some(FIRST_OF_ONES));
 }
 
 /// Two levels; the product of the first one exceeds 16 bits.
@@ -179,8 +177,8 @@ fn great_products_do_not_wrap(rt: HostRuntime) {
         y_ac: 284,
         ..FACTORS
     };
-    let found = subblock_gives(rt.alloc(), &GREAT, &factors, &[[255; 4]; 4]);
-    equal(&rt, &found, &Some(true));
+    let found = subblock_of(rt.alloc(), &GREAT, &factors);
+    equal!(rt; found, Some([[255; 4]; 4]));
 }
 
 const Y2: Block = Block {
@@ -207,26 +205,25 @@ const MIXED: [[u8; 4]; 4] = [
     [139, 136, 132, 130],
 ];
 
-/// Returns whether the plane has one macroblock, with these pixels in its corners.
-fn has_corners(plane: &Plane, first: u8, last: u8) -> bool {
-    plane.width() == 16
-        && plane.height() == 16
-        && plane.get(0, 0) == first
-        && plane.get(15, 15) == last
+/// Returns the first and the last pixel of a plane of one macroblock.
+fn corners(plane: &Plane) -> Option<(u8, u8)> {
+    if plane.width() != 16 || plane.height() != 16 {
+        return None;
+    }
+    Some((plane.get(0, 0), plane.get(15, 15)))
 }
 
-/// Returns whether luma has the sixth block's pixels at its place, and those of Y2 alone in its corners.
-fn two_blocks_give(alloc: Global, wanted: &[[u8; 4]; 4]) -> Option<bool> {
+/// Returns luma where the sixth block is, and in its corners, which show Y2 alone.
+fn luma_of_two_blocks(alloc: Global) -> Option<([[u8; 4]; 4], (u8, u8))> {
     let tokens = tokens_of_two_blocks();
     let picture = rebuilt(alloc, LumaMode::Dc, &tokens)?;
-    Some(has_block(picture.plane(0), 4, wanted) && has_corners(picture.plane(0), 128, 129))
+    Some((block_at(picture.plane(0), 4)?, corners(picture.plane(0))?))
 }
 
 #[test]
 fn first_coefficients_of_y2(rt: HostRuntime) {
-    assert!(rt; has_y2(LumaMode::Dc));
-    let found = two_blocks_give(rt.alloc(), &MIXED);
-    equal(&rt, &found, &Some(true));
+    equal!(rt; has_y2(LumaMode::Dc), true);
+    equal!(rt; luma_of_two_blocks(rt.alloc()), Some((MIXED, (128, 129))));
 }
 
 const OTHER: Block = Block {
@@ -264,19 +261,18 @@ fn tokens_of_pairs() -> Tokens {
     Tokens { blocks }
 }
 
-/// Returns whether the plane has these four rows of eight pixels from column `x` of its first row on.
-fn has_pair(plane: &Plane, x: usize, wanted: &[[u8; 8]; 4]) -> bool
+/// Returns four rows of eight pixels of the plane from column `x` of its first row on.
+fn pair_at(plane: &Plane, x: usize) -> Option<[[u8; 8]; 4]>
     requires { x ≤ 8 }
 {
     if plane.width() < x + 8 || plane.height() < 4 {
-        return false;
+        return None;
     }
-    for (y, row) in wanted.iter().enumerate() {
-        if &plane.row(y)[x..x + 8] != row.as_slice() {
-            return false;
-        }
+    let mut pair = [[0; 8]; 4];
+    for y in 0..4 {
+        pair[y].copy_from_slice(&plane.row(y)[x..x + 8]);
     }
-    true
+    Some(pair)
 }
 
 const BOTH_WITH_AC: [[u8; 8]; 4] = [
@@ -302,24 +298,23 @@ const DC_AND_AC: [[u8; 8]; 4] = [
     [133, 133, 133, 133, 137, 162, 162, 137],
 ];
 
-/// Returns whether the planes have the expected pairs.
-fn has_pairs(picture: &Picture) -> bool {
-    has_pair(picture.plane(0), 0, &BOTH_WITH_AC)
-        && has_pair(picture.plane(0), 8, &LARGE_AND_AC)
-        && has_pair(picture.plane(1), 0, &[BOTH_WITH_DC; 4])
-        && has_pair(picture.plane(2), 0, &DC_AND_AC)
-        && has_corners(picture.plane(0), 127, 128)
-}
-
-fn pairs_are_rebuilt(alloc: Global) -> Option<bool> {
-    let tokens = tokens_of_pairs();
-    let picture = rebuilt(alloc, LumaMode::Dc, &tokens)?;
-    Some(has_pairs(&picture))
+/// Fails the test if the planes have other pairs.
+fn check_pairs(rt: &impl Abort, picture: &Picture) {
+    let luma = picture.plane(0);
+    let left_and_right = (pair_at(luma, 0), pair_at(luma, 8));
+    equal!(rt; left_and_right, (Some(BOTH_WITH_AC), Some(LARGE_AND_AC)));
+    let chroma = (pair_at(picture.plane(1), 0), pair_at(picture.plane(2), 0));
+    equal!(rt; chroma, (Some([BOTH_WITH_DC; 4]), Some(DC_AND_AC)));
+    equal!(rt; corners(luma), Some((127, 128)));
 }
 
 /// The expected sums come from the formulas of RFC 6386, chapter 14, computed by an independent script. The prediction
 /// is 128 everywhere.
 #[test]
 fn subblocks_side_by_side(rt: HostRuntime) {
-    equal(&rt, &pairs_are_rebuilt(rt.alloc()), &Some(true));
+    let tokens = tokens_of_pairs();
+    let Some(picture) = rebuilt(rt.alloc(), LumaMode::Dc, &tokens) else {
+        panic!(rt; "a picture");
+    };
+    check_pairs(&rt, &picture);
 }

@@ -5,6 +5,7 @@ ghost use Rattle.std.specs.Prelude.{◌≡◌, ◌<◌};
 use crate::check::equal;
 use crate::recon::{FACTORS, TOP};
 use std::alloc::Global;
+use std::process::Abort;
 use vp_base::{Dim, Limits, Picture};
 use vp_head::Reference;
 use vp_motion::{MacroblockMotion, Vector};
@@ -17,15 +18,30 @@ const RIGHT: Vector = Vector { row: 0, column: 4 };
 
 const STILL: Vector = Vector { row: 0, column: 0 };
 
-/// Returns whether the 384 pixels are 200 from one position to another, and 7 elsewhere.
-fn is_lit(bytes: &[u8], from: usize, to: usize) -> bool {
+/// The positions in a picture at which pixels of 200 begin and end.
+type Lit = (usize, usize);
+
+/// Returns the first pixel that isn't as expected: its position, its value, and the expected one. Pixels are 200 from
+/// one position to another, and 7 elsewhere.
+fn first_other(bytes: &[u8], lit: Lit) -> Option<(usize, u8, u8)> {
     for (i, byte) in bytes.iter().enumerate() {
-        let wanted = if i >= from && i < to { 200 } else { 7 };
+        let wanted = if i >= lit.0 && i < lit.1 { 200 } else { 7 };
         if *byte != wanted {
-            return false;
+            return Some((i, *byte, wanted));
         }
     }
-    bytes.len() == 384
+    None
+}
+
+/// Returns the size of a macroblock.
+fn size(rt: &impl Abort) -> Dim
+    ensures width { result.w ≡ 16 }
+    ensures height { result.h ≡ 16 }
+{
+    let Ok(dim) = Dim::new(16, 16, &Limits::usual()) else {
+        panic!(rt; "a size");
+    };
+    dim
 }
 
 /// Returns a picture of 16 by 16 pixels, all 7 except for one luma pixel, which is 200.
@@ -44,23 +60,23 @@ fn lit_at(alloc: Global, dim: Dim, x: usize, y: usize) -> Option<Picture>
     Some(picture)
 }
 
-/// Returns whether a picture's pixels are 200 from one position to another.
-fn shows(alloc: Global, picture: &Picture, from: usize, to: usize) -> bool {
+/// Returns the number of a picture's pixels, and the first that isn't as expected.
+fn other_pixel(alloc: Global, picture: &Picture, lit: Lit) -> (usize, Option<(usize, u8, u8)>) {
     match picture.crop_i420(alloc) {
-        Ok(bytes) => is_lit(&bytes, from, to),
-        Err(_) => false,
+        Ok(bytes) => (bytes.len(), first_other(&bytes, lit)),
+        Err(_) => (0, None),
     }
 }
 
-/// Returns whether the macroblock rebuilt with this motion, without residue, has 200 from one position to another.
-fn rebuilds_to(
+/// Fails the test if the macroblock rebuilt with this motion, without residue, has other pixels.
+fn check_rebuilt(
+    rt: &impl Abort,
     alloc: Global,
     dim: Dim,
     motion: &MacroblockMotion,
     reference: &Picture,
-    from: usize,
-    to: usize,
-) -> bool
+    lit: Lit,
+)
     requires width { dim.w ≡ 16 }
     requires height { dim.h ≡ 16 }
 {
@@ -72,72 +88,55 @@ fn rebuilds_to(
         reference,
         version: 0,
     };
-    match Picture::new(alloc, dim, 0) {
-        Ok(mut rebuilt) => {
-            rebuild_macroblock(&mut rebuilt, TOP, &source, &tokens, &FACTORS);
-            shows(alloc, &rebuilt, from, to)
-        }
-        Err(_) => false,
-    }
+    let Ok(mut rebuilt) = Picture::new(alloc, dim, 0) else {
+        panic!(rt; "memory");
+    };
+    rebuild_macroblock(&mut rebuilt, TOP, &source, &tokens, &FACTORS);
+    equal!(rt; other_pixel(alloc, &rebuilt, lit), (384, None));
 }
 
-/// Returns whether the macroblock predicted with this motion has 200 from one position to another.
-fn predicts_to(
+/// Fails the test if the macroblock predicted with this motion has other pixels.
+fn check_predicted(
+    rt: &impl Abort,
     alloc: Global,
     dim: Dim,
     motion: &MacroblockMotion,
     reference: &Picture,
-    from: usize,
-    to: usize,
-) -> bool
+    lit: Lit,
+)
     requires width { dim.w ≡ 16 }
     requires height { dim.h ≡ 16 }
 {
-    match Picture::new(alloc, dim, 0) {
-        Ok(mut moved) => {
-            let source = Predictor::Inter {
-                motion,
-                reference,
-                version: 0,
-            };
-            predict_macroblock(&mut moved, TOP, &source);
-            shows(alloc, &moved, from, to)
-        }
-        Err(_) => false,
-    }
+    let source = Predictor::Inter {
+        motion,
+        reference,
+        version: 0,
+    };
+    let Ok(mut predicted) = Picture::new(alloc, dim, 0) else {
+        panic!(rt; "memory");
+    };
+    predict_macroblock(&mut predicted, TOP, &source);
+    equal!(rt; other_pixel(alloc, &predicted, lit), (384, None));
 }
 
-/// Returns whether the macroblock has 200 from one position to another, by either function.
-fn moves_to(
-    alloc: Global,
-    dim: Dim,
-    motion: &MacroblockMotion,
-    reference: &Picture,
-    from: usize,
-    to: usize,
-) -> bool
-    requires width { dim.w ≡ 16 }
-    requires height { dim.h ≡ 16 }
-{
-    rebuilds_to(alloc, dim, motion, reference, from, to)
-        && predicts_to(alloc, dim, motion, reference, from, to)
-}
-
-/// Returns whether the luma pixel at column `x` of row `y` is moved to one position up to another.
-fn moves_pixel(
+/// Fails the test if the luma pixel at column `x` of row `y` is not moved as expected, by either function.
+fn check_moved(
+    rt: &impl Abort,
     alloc: Global,
     motion: &MacroblockMotion,
     x: usize,
     y: usize,
-    from: usize,
-    to: usize,
-) -> Option<bool>
+    lit: Lit,
+)
     requires column { x < 16 }
     requires row { y < 16 }
 {
-    let dim = Dim::new(16, 16, &Limits::usual()).ok()?;
-    let reference = lit_at(alloc, dim, x, y)?;
-    Some(moves_to(alloc, dim, motion, &reference, from, to))
+    let dim = size(rt);
+    let Some(reference) = lit_at(alloc, dim, x, y) else {
+        panic!(rt; "a picture");
+    };
+    check_rebuilt(rt, alloc, dim, motion, &reference, lit);
+    check_predicted(rt, alloc, dim, motion, &reference, lit);
 }
 
 fn moved() -> MacroblockMotion {
@@ -150,8 +149,7 @@ fn moved() -> MacroblockMotion {
 
 #[test]
 fn a_moved_macroblock(rt: HostRuntime) {
-    let found = moves_pixel(rt.alloc(), &moved(), 5, 3, 52, 53);
-    equal(&rt, &found, &Some(true));
+    check_moved(&rt, rt.alloc(), &moved(), 5, 3, (52, 53));
 }
 
 fn split() -> MacroblockMotion {
@@ -166,6 +164,5 @@ fn split() -> MacroblockMotion {
 
 #[test]
 fn a_split_macroblock(rt: HostRuntime) {
-    let found = moves_pixel(rt.alloc(), &split(), 4, 0, 3, 5);
-    equal(&rt, &found, &Some(true));
+    check_moved(&rt, rt.alloc(), &split(), 4, 0, (3, 5));
 }

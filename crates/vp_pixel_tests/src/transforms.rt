@@ -12,30 +12,22 @@ use vp_transform::{
 
 /// The expected numbers of the second block are those of RFC 6386's own program (chapters 14.3 and 14.4).
 #[test]
-fn kernel_examples(rt: HostRuntime) {
+fn inverse_examples(rt: HostRuntime) {
     let mut first = [0; 16];
     first[0] = 8;
-    equal(&rt, &iwht(&first), &[1; 16]);
-    equal(&rt, &idct(&first), &[1; 16]);
-    equal(&rt, &idct_of_first(8), &1);
-    equal(&rt, &iwht_of_first(12), &1);
+    equal!(rt; iwht(&first), [1; 16]);
+    equal!(rt; idct(&first), [1; 16]);
+    equal!(rt; idct_of_first(8), 1);
+    equal!(rt; iwht_of_first(12), 1);
     let block = [
         -700, 123, -45, 6, 77, -888, 99, -10, 11, 12, -1313, 14, -15, 160, 17, -1818,
     ];
-    equal(
-        &rt,
-        &idct(&block),
-        &[
+    equal!(rt; idct(&block), [
             -447, 174, -18, -7, 146, -669, 181, 16, 28, 192, -694, 88, -18, 5, 174, -551,
-        ],
-    );
-    equal(
-        &rt,
-        &iwht(&block),
-        &[
+        ]);
+    equal!(rt; iwht(&block), [
             -534, 229, -75, 66, 199, -588, 96, -17, -34, 123, -621, 130, 61, -33, 213, -617,
-        ],
-    );
+        ]);
 }
 
 /// The inverse transform of that block in 16 bits.
@@ -44,13 +36,9 @@ fn short_example(rt: HostRuntime) {
     let block = [
         -700, 123, -45, 6, 77, -888, 99, -10, 11, 12, -1313, 14, -15, 160, 17, -1818,
     ];
-    equal(
-        &rt,
-        &idct_short(&block),
-        &[
+    equal!(rt; idct_short(&block), [
             -447, 174, -18, -7, 146, -669, 181, 16, 28, 192, -694, 88, -18, 5, 174, -551,
-        ],
-    );
+        ]);
 }
 
 /// Fails the test if the inverse transforms of a pair have other rows.
@@ -59,10 +47,10 @@ fn check_pair(rt: &impl Abort, a: &[i16; 16], b: &[i16; 16], rows: &[[i16; 8]; 4
     requires second { EachWithin 2200 b.now }
 {
     let (top, upper, lower, bottom) = idct_pair(a, b);
-    equal(rt, &top.to_array(), &rows[0]);
-    equal(rt, &upper.to_array(), &rows[1]);
-    equal(rt, &lower.to_array(), &rows[2]);
-    equal(rt, &bottom.to_array(), &rows[3]);
+    equal!(rt; top.to_array(), rows[0]);
+    equal!(rt; upper.to_array(), rows[1]);
+    equal!(rt; lower.to_array(), rows[2]);
+    equal!(rt; bottom.to_array(), rows[3]);
 }
 
 /// The inverse transform of that block and the first one as a pair, in either order.
@@ -122,26 +110,18 @@ fn scattered_pairs(rt: HostRuntime) {
 fn forward_examples(rt: HostRuntime) {
     let mut even = [0; 16];
     even[0] = 576;
-    equal(&rt, &fdct(&[72; 16]), &even);
+    equal!(rt; fdct(&[72; 16]), even);
     let block = [
         -700, 123, -45, 6, 77, -888, 99, -10, 11, 12, -1313, 14, -15, 160, 17, -1818,
     ];
-    equal(
-        &rt,
-        &fdct(&block),
-        &[
+    equal!(rt; fdct(&block), [
             -2135, 947, -300, -104, 829, -2440, 682, -78, -137, 654, -2482, 292, -80, -143, 642,
             -2382,
-        ],
-    );
-    equal(
-        &rt,
-        &fwht(&block),
-        &[
+        ]);
+    equal!(rt; fwht(&block), [
             -2135, 915, -300, 266, 797, -2353, 384, -66, -137, 493, -2482, 520, 243, -131, 854,
             -2468,
-        ],
-    );
+        ]);
 }
 
 /// These rows in 16-bit lanes.
@@ -149,19 +129,15 @@ fn forward_examples(rt: HostRuntime) {
 fn short_forward_examples(rt: HostRuntime) {
     let mut even = [0i16; 16];
     even[0] = 576;
-    equal(&rt, &differences(&[200; 16], &[128; 16]), &[72; 16]);
-    equal(&rt, &fdct_short(&[72; 16]), &even);
+    equal!(rt; differences(&[200; 16], &[128; 16]), [72; 16]);
+    equal!(rt; fdct_short(&[72; 16]), even);
     let block = [
         -700, 123, -45, 6, 77, -888, 99, -10, 11, 12, -1313, 14, -15, 160, 17, -1818,
     ];
-    equal(
-        &rt,
-        &fwht_short(&block),
-        &[
+    equal!(rt; fwht_short(&block), [
             -2135, 915, -300, 266, 797, -2353, 384, -66, -137, 493, -2482, 520, 243, -131, 854,
             -2468,
-        ],
-    );
+        ]);
 }
 
 /// Multiplies by sqrt(2) sin(pi / 8), in the integer form of RFC 6386, chapter 14.4.
@@ -258,85 +234,84 @@ const LINES: [(usize, usize); 8] = [
     (12, 1),
 ];
 
-/// Returns whether the numbers of a block are those of another, clamped to 16 bits.
-fn are_cut(block: &[i16; 16], other: &[i64; 16]) -> bool {
+/// Returns the numbers of a block, clamped to 16 bits.
+fn cut_block(block: &[i64; 16]) -> [i16; 16] {
+    let mut numbers = [0; 16];
     for i in 0..16 {
-        if block[i] != cut(other[i]) {
-            return false;
-        }
+        numbers[i] = cut(block[i]);
     }
-    true
+    numbers
 }
 
-/// Returns whether `idct` equals the direct formula.
-fn is_as_plain(block: &[i64; 16]) -> bool
+/// Fails the test if `idct` differs from the direct formula.
+fn check_idct(rt: &impl Abort, block: &[i64; 16])
     requires { IdctFits block.now }
 {
-    idct(block) == plain_idct(block)
+    equal!(rt; (block, idct(block)), (block, plain_idct(block)));
 }
 
 /// Numbers at the bounds of 16-bit arithmetic and one beyond, in the first and in the last place, and the largest of a
 /// stream.
 #[test]
 fn narrow_and_wide_blocks(rt: HostRuntime) {
-    assert!(rt; is_as_plain(&[-2114 * 157; 16]));
+    check_idct(&rt, &[-2114 * 157; 16]);
     let mut block = [
         8191, -8192, 8191, 8191, -8192, -8192, 8191, -8192, -8192, 8191, -8192, 8191, 8191, 8191,
         -8192, -8192,
     ];
-    assert!(rt; is_as_plain(&block));
+    check_idct(&rt, &block);
     block[15] = -8193;
-    assert!(rt; is_as_plain(&block));
+    check_idct(&rt, &block);
     block[15] = 8192;
     block[0] = 2114 * 157;
-    assert!(rt; is_as_plain(&block));
+    check_idct(&rt, &block);
 }
 
-/// Returns whether `idct_cut` equals the direct formula, clamped to 16 bits.
-fn cut_is_as_plain(block: &[i64; 16]) -> bool
+/// Fails the test if `idct_cut` differs from the direct formula, clamped to 16 bits.
+fn check_idct_cut(rt: &impl Abort, block: &[i64; 16])
     requires { IdctFits block.now }
 {
-    are_cut(&idct_cut(block), &plain_idct(block))
+    equal!(rt; (block, idct_cut(block)), (block, cut_block(&plain_idct(block))));
 }
 
 /// Numbers whose transform is clamped, numbers at the bounds of 16-bit arithmetic, and one beyond.
 #[test]
 fn cut_blocks(rt: HostRuntime) {
-    equal(&rt, &cut(-32769), &-32768);
-    equal(&rt, &cut(32768), &32767);
-    assert!(rt; cut_is_as_plain(&[-2114 * 157; 16]));
+    equal!(rt; cut(-32769), -32768);
+    equal!(rt; cut(32768), 32767);
+    check_idct_cut(&rt, &[-2114 * 157; 16]);
     let mut block = [
         4095, -4096, 4095, 4095, -4096, -4096, 4095, -4096, -4096, 4095, -4096, 4095, 4095, 4095,
         -4096, -4096,
     ];
-    assert!(rt; cut_is_as_plain(&block));
+    check_idct_cut(&rt, &block);
     block[15] = 4096;
-    assert!(rt; cut_is_as_plain(&block));
+    check_idct_cut(&rt, &block);
     block[15] = -4097;
-    assert!(rt; cut_is_as_plain(&block));
+    check_idct_cut(&rt, &block);
 }
 
-/// Returns whether `iwht` equals the direct formula.
-fn hadamard_is_as_plain(block: &[i64; 16]) -> bool
+/// Fails the test if `iwht` differs from the direct formula.
+fn check_iwht(rt: &impl Abort, block: &[i64; 16])
     requires { IwhtFits block.now }
 {
-    iwht(block) == plain_iwht(block)
+    equal!(rt; (block, iwht(block)), (block, plain_iwht(block)));
 }
 
 /// Numbers at the bounds of the arithmetic of `iwht` and one beyond.
 #[test]
 fn narrow_and_wide_hadamard_blocks(rt: HostRuntime) {
-    assert!(rt; hadamard_is_as_plain(&[-2114 * 157; 16]));
+    check_iwht(&rt, &[-2114 * 157; 16]);
     let mut block = [
         67108863, -67108864, 67108863, 67108863, -67108864, -67108864, 67108863, -67108864,
         -67108864, 67108863, -67108864, 67108863, 67108863, 67108863, -67108864, -67108864,
     ];
-    assert!(rt; hadamard_is_as_plain(&block));
+    check_iwht(&rt, &block);
     block[15] = -67108865;
-    assert!(rt; hadamard_is_as_plain(&block));
+    check_iwht(&rt, &block);
     block[15] = 67108864;
     block[0] = 1 << 40;
-    assert!(rt; hadamard_is_as_plain(&block));
+    check_iwht(&rt, &block);
 }
 
 /// Returns a pseudo-random number.
@@ -362,8 +337,8 @@ fn scattered_block(seed: u64) -> [i64; 16]
 fn scattered_blocks(rt: HostRuntime) {
     for seed in 1..50 {
         let block = scattered_block(seed);
-        assert!(rt; is_as_plain(&block));
-        assert!(rt; cut_is_as_plain(&block));
-        assert!(rt; hadamard_is_as_plain(&block));
+        check_idct(&rt, &block);
+        check_idct_cut(&rt, &block);
+        check_iwht(&rt, &block);
     }
 }

@@ -202,17 +202,13 @@ fn flat_planes(alloc: Global, source: u8, reference: u8) -> Result<Planes, Alloc
 
 /// Fails the test if blocks of flat planes are found elsewhere than in place.
 fn check_flat(rt: &impl Abort, source: &Plane, reference: &Plane) {
-    equal(rt, &search(source, source, 1, 1, 16), &Some(found(0, 0, 0)));
-    equal(
-        rt,
-        &search(source, reference, 0, 2, 64),
-        &Some(found(0, 0, 768)),
-    );
+    equal!(rt; search(source, source, 1, 1, 16), Some(found(0, 0, 0)));
+    equal!(rt; search(source, reference, 0, 2, 64), Some(found(0, 0, 768)));
     let still = Refined {
         vector: QuarterVector { row: 0, column: 0 },
         cost: 768,
     };
-    equal(rt, &refined(source, reference, 0, 0), &Some(still));
+    equal!(rt; refined(source, reference, 0, 0), Some(still));
 }
 
 #[test]
@@ -239,7 +235,8 @@ fn check_moves(rt: &impl Abort, source: &mut Plane, reference: &mut Plane) {
     for (column, row, down, right) in MOVES {
         fill(source, down, right);
         let wanted = Some(found(down, right, 0));
-        equal(rt, &search(source, reference, column, row, 16), &wanted);
+        let moved = search(source, reference, column, row, 16);
+        equal!(rt; (column, row, moved), (column, row, wanted));
     }
 }
 
@@ -254,11 +251,7 @@ fn moved_blocks_are_found(rt: HostRuntime) -> Result<(), Fail> {
 fn check_far(rt: &impl Abort, source: &mut Plane, reference: &mut Plane) {
     fill(reference, 0, 0);
     fill(source, 40, -50);
-    equal(
-        rt,
-        &search(source, reference, 1, 1, 64),
-        &Some(found(31, -31, 0)),
-    );
+    equal!(rt; search(source, reference, 1, 1, 64), Some(found(31, -31, 0)));
 }
 
 /// Far below and to the left of the plane all pixels equal its corner: the shortest such vector is chosen.
@@ -273,7 +266,8 @@ fn far_outside_the_shortest_is_taken(rt: HostRuntime) -> Result<(), Fail> {
 fn check_lines(rt: &impl Abort, source: &mut Plane, reference: &mut Plane) {
     for (slant, later, column) in [(1, 1, 1), (2, 6, 3), (32, 32, -1)] {
         let wanted = Some(found(0, column, 0));
-        equal(rt, &along_lines(source, reference, slant, later), &wanted);
+        let found = along_lines(source, reference, slant, later);
+        equal!(rt; (slant, later, found), (slant, later, wanted));
     }
 }
 
@@ -295,7 +289,7 @@ fn check_neighbours(rt: &impl Abort, source: &mut Plane, reference: &mut Plane) 
         vector: QuarterVector { row: 0, column: 2 },
         cost: 0,
     };
-    equal(rt, &refined(source, reference, 0, 0), &Some(best));
+    equal!(rt; refined(source, reference, 0, 0), Some(best));
 }
 
 /// Along lines that go as far down as to the left, half a pixel to the right equals half a pixel down: the first by
@@ -320,7 +314,7 @@ const SLOPED: Refined = Refined {
 fn check_predicted(rt: &impl Abort, source: &mut Plane, reference: &mut Plane) {
     fill_slope(reference);
     predict_middle(source, reference, 10, -11);
-    equal(rt, &refined(source, reference, 2, -3), &Some(SLOPED));
+    equal!(rt; refined(source, reference, 2, -3), Some(SLOPED));
 }
 
 #[test]
@@ -334,7 +328,7 @@ fn predicted_blocks_are_refined(rt: HostRuntime) -> Result<(), Fail> {
 fn found_blocks_are_refined(rt: HostRuntime) -> Result<(), Fail> {
     let mut reference = Plane::new(rt.alloc(), 48, 48, 0)?;
     fill_slope(&mut reference);
-    equal(&rt, &searched(&reference, 10, -11), &Some(SLOPED));
+    equal!(rt; searched(&reference, 10, -11), Some(SLOPED));
     Ok(())
 }
 
@@ -342,11 +336,11 @@ fn found_blocks_are_refined(rt: HostRuntime) -> Result<(), Fail> {
 fn sums_are_the_plain_ones(rt: HostRuntime) {
     let a = noise_block(3);
     let b = noise_block(201);
-    equal(&rt, &sad16(&a, &b), &plain_differences(&a, &b));
-    equal(&rt, &sad16(&[0; 256], &[255; 256]), &65280);
-    equal(&rt, &first_wrong_length(&a, &b), &None);
-    equal(&rt, &sse(&[0, 3], &[5, 1]), &29);
-    equal(&rt, &first_least(&[7, 2, 5, 2]), &1);
+    equal!(rt; sad16(&a, &b), plain_differences(&a, &b));
+    equal!(rt; sad16(&[0; 256], &[255; 256]), 65280);
+    equal!(rt; first_wrong_length(&a, &b), None);
+    equal!(rt; sse(&[0, 3], &[5, 1]), 29);
+    equal!(rt; first_least(&[7, 2, 5, 2]), 1);
 }
 
 /// Fills a plane of this size with noise.
@@ -401,27 +395,34 @@ fn block_at(step: usize) -> [u8; 256] {
     }
 }
 
-/// Whether a searcher finds the same as `search_block` at each step of a walk.
-fn is_same_along(alloc: Global, reference: &Plane, range: u8) -> Result<bool, AllocError> {
+/// Returns the first step of a walk at which a searcher finds something else than `search_block` does, and what both
+/// find, or the number of the steps.
+fn first_other_along(
+    alloc: Global,
+    reference: &Plane,
+    range: u8,
+) -> Result<(usize, Option<(Found, Found)>), AllocError> {
     if reference.width() == 0 || reference.height() == 0 || range > 64 {
-        return Ok(false);
+        return Ok((0, None));
     }
     let mut searcher = Searcher::new(alloc, reference, range)?;
     for step in 0..28 {
         let place = stop(step);
         let block = block_at(step);
-        if searcher.search(&block, place) != search_block(&block, reference, place, range) {
-            return Ok(false);
+        let found = searcher.search(&block, place);
+        let wanted = search_block(&block, reference, place, range);
+        if found != wanted {
+            return Ok((step, Some((found, wanted))));
         }
     }
-    Ok(true)
+    Ok((28, None))
 }
 
 /// Fails the test if a searcher finds something else in one of these ranges.
 fn check_along(rt: &impl Abort, alloc: Global, reference: &Plane) -> Result<(), AllocError> {
     for range in [7, 8, 16, 17, 27, 28, 64] {
-        let is_same = is_same_along(alloc, reference, range)?;
-        equal(rt, &(range, is_same), &(range, true));
+        let other = first_other_along(alloc, reference, range)?;
+        equal!(rt; (range, other), (range, (28, None)));
     }
     Ok(())
 }
@@ -435,10 +436,16 @@ fn kept_sums_are_the_same(rt: HostRuntime) -> Result<(), Fail> {
     Ok(check_along(&rt, rt.alloc(), &reference)?)
 }
 
-/// Whether a searcher finds the best vector below a limit that is one above its cost, and none below its cost.
-fn is_limited_along(alloc: Global, reference: &Plane, range: u8) -> Result<bool, AllocError> {
+/// Returns the first step of a walk at which a searcher finds something else than the best vector below a limit that is
+/// one above its cost, or something below its cost: what it finds at both, and the best vector. Or the number of the
+/// steps.
+fn first_unlimited_along(
+    alloc: Global,
+    reference: &Plane,
+    range: u8,
+) -> Result<(usize, Option<(Option<Found>, Option<Found>, Found)>), AllocError> {
     if reference.width() == 0 || reference.height() == 0 || range > 64 {
-        return Ok(false);
+        return Ok((0, None));
     }
     let mut searcher = Searcher::new(alloc, reference, range)?;
     for step in 0..28 {
@@ -446,11 +453,12 @@ fn is_limited_along(alloc: Global, reference: &Plane, range: u8) -> Result<bool,
         let block = block_at(step);
         let best = search_block(&block, reference, place, range);
         let above = searcher.search_below(&block, place, best.cost.saturating_add(1));
-        if above != Some(best) || searcher.search_below(&block, place, best.cost).is_some() {
-            return Ok(false);
+        let below = searcher.search_below(&block, place, best.cost);
+        if above != Some(best) || below.is_some() {
+            return Ok((step, Some((above, below, best))));
         }
     }
-    Ok(true)
+    Ok((28, None))
 }
 
 /// What costs as much as the limit is not found.
@@ -459,25 +467,32 @@ fn limits_are_kept(rt: HostRuntime) -> Result<(), Fail> {
     let mut reference = Plane::new(rt.alloc(), 53, 37, 0)?;
     fill_with_noise(&mut reference, 53, 37);
     for range in [7, 8, 28, 64] {
-        assert!(rt; is_limited_along(rt.alloc(), &reference, range)?);
+        let other = first_unlimited_along(rt.alloc(), &reference, range)?;
+        equal!(rt; (range, other), (range, (28, None)));
     }
     Ok(())
 }
 
-/// Whether a searcher finds the same as `search_block` along a row of 67 macroblocks.
-fn is_same_across(alloc: Global, reference: &Plane) -> Result<bool, AllocError> {
+/// Returns the first of 67 columns at which a searcher finds something else than `search_block` does, and what both
+/// find, or their number.
+fn first_other_across(
+    alloc: Global,
+    reference: &Plane,
+) -> Result<(usize, Option<(Found, Found)>), AllocError> {
     if reference.width() == 0 || reference.height() == 0 {
-        return Ok(false);
+        return Ok((0, None));
     }
     let mut searcher = Searcher::new(alloc, reference, 16)?;
     for column in 0..67 {
         let place = Place { column, row: 0 };
         let block = noise_at(place, column % 3, column % 5);
-        if searcher.search(&block, place) != search_block(&block, reference, place, 16) {
-            return Ok(false);
+        let found = searcher.search(&block, place);
+        let wanted = search_block(&block, reference, place, 16);
+        if found != wanted {
+            return Ok((column, Some((found, wanted))));
         }
     }
-    Ok(true)
+    Ok((67, None))
 }
 
 /// Sums slide by 64 macroblocks at most; then all are made anew.
@@ -485,6 +500,7 @@ fn is_same_across(alloc: Global, reference: &Plane) -> Result<bool, AllocError> 
 fn kept_sums_begin_anew(rt: HostRuntime) -> Result<(), Fail> {
     let mut reference = Plane::new(rt.alloc(), 1072, 16, 0)?;
     fill_with_noise(&mut reference, 1072, 16);
-    assert!(rt; is_same_across(rt.alloc(), &reference)?);
+    let other = first_other_across(rt.alloc(), &reference)?;
+    equal!(rt; other, (67, None));
     Ok(())
 }

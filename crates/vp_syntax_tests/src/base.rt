@@ -46,17 +46,24 @@ fn value_at(i: usize, marks: &[(usize, u8)]) -> u8 {
     128
 }
 
-// Returns whether the 35 shown pixels are 128, except for the marks.
-fn shows(alloc: Global, picture: &Picture, marks: &[(usize, u8)]) -> bool {
-    let Ok(bytes) = picture.crop_i420(alloc) else {
-        return false;
-    };
+// Returns the first pixel that is neither 128 nor as marked: its position, its value and the wanted one.
+fn first_other(bytes: &[u8], marks: &[(usize, u8)]) -> Option<(usize, u8, u8)> {
     for (i, byte) in bytes.iter().enumerate() {
-        if *byte != value_at(i, marks) {
-            return false;
+        let wanted = value_at(i, marks);
+        if *byte != wanted {
+            return Some((i, *byte, wanted));
         }
     }
-    bytes.len() == 35
+    None
+}
+
+// The 35 shown pixels are 128, except for the marks.
+fn check_shown(rt: &impl Abort, alloc: Global, picture: &Picture, marks: &[(usize, u8)]) {
+    let Ok(bytes) = picture.crop_i420(alloc) else {
+        panic!(rt; "memory");
+    };
+    let found = (bytes.len(), first_other(&bytes, marks));
+    equal!(rt; (marks, found), (marks, (35, None)));
 }
 
 // Marks a picture. The copy that was made before keeps its pixels.
@@ -64,9 +71,9 @@ fn check_marks(rt: &impl Abort, alloc: Global, picture: &mut Picture, before: &P
     requires wide { picture.old.width ≡ 17 }
     requires high { picture.old.height ≡ 1 }
 {
-    equal(rt, &mark(picture), &8);
-    assert!(rt; shows(alloc, before, &[]));
-    assert!(rt; shows(alloc, picture, &MARKS));
+    equal!(rt; mark(picture), 8);
+    check_shown(rt, alloc, before, &[]);
+    check_shown(rt, alloc, picture, &MARKS);
 }
 
 fn check_copied_picture(rt: &impl Abort, alloc: Global, picture: &mut Picture)
@@ -100,7 +107,7 @@ fn size_of_shown(
 fn check_memory(rt: &impl Abort, alloc: Global, picture: &Picture) {
     for room in &[0, 34, 35, 36, 1_000] {
         let size = size_of_shown(alloc, picture, *room).ok();
-        equal(rt, &size, &Some((35, 35)));
+        equal!(rt; (*room, size), (*room, Some((35, 35))));
     }
 }
 
@@ -126,8 +133,8 @@ fn check_copied_block(rt: &impl Abort, alloc: Global, picture: &mut Picture)
     requires wide { picture.old.width ≡ 17 }
     requires high { picture.old.height ≡ 1 }
 {
-    equal(rt, &copy_four(alloc, picture).ok(), &Some(9));
-    assert!(rt; shows(alloc, picture, &[(15, 5), (16, 6)]));
+    equal!(rt; copy_four(alloc, picture).ok(), Some(9));
+    check_shown(rt, alloc, picture, &[(15, 5), (16, 6)]);
 }
 
 #[test]
@@ -139,11 +146,11 @@ fn copied_block(rt: HostRuntime) {
 #[test]
 fn size_limits(rt: HostRuntime) -> Result<(), Fail> {
     let limits = Limits::new(16_384, 1, 1, 1).ok_or("limits")?;
-    equal(&rt, &Dim::new(0, 16, &limits), &Err(DimFault::Size));
-    equal(&rt, &Dim::new(129, 129, &limits), &Err(DimFault::TooLarge));
+    equal!(rt; Dim::new(0, 16, &limits), Err(DimFault::Size));
+    equal!(rt; Dim::new(129, 129, &limits), Err(DimFault::TooLarge));
     let dim = Dim::new(128, 128, &limits).ok().ok_or("a size")?;
-    equal(&rt, &(dim.mb_cols(), dim.mb_rows()), &(8, 8));
-    equal(&rt, &Limits::new(16_384, 1, 0, 1), &None);
+    equal!(rt; (dim.mb_cols(), dim.mb_rows()), (8, 8));
+    equal!(rt; Limits::new(16_384, 1, 0, 1), None);
     Ok(())
 }
 
@@ -163,12 +170,12 @@ fn check_failures(rt: &impl Abort, alloc: Global, k: u64)
     requires { k < 3 }
 {
     let mut writer = Counted::new(FailAt::new(Vec::new(alloc), k));
-    equal(rt, &put_three(&mut writer), &(2 * k));
-    equal(rt, &writer.failures(), &(3 - k));
-    assert!(rt; writer.flush().is_err());
-    equal(rt, &writer.failures(), &(4 - k));
+    let written = put_three(&mut writer);
+    equal!(rt; (k, written, writer.failures()), (k, 2 * k, 3 - k));
+    let fails = writer.flush().is_err();
+    equal!(rt; (k, fails, writer.failures()), (k, true, 4 - k));
     let inner = writer.into_inner().into_inner();
-    equal(rt, &(inner.len() as u64), &(2 * k));
+    equal!(rt; (k, inner.len() as u64), (k, 2 * k));
 }
 
 #[test]
@@ -189,10 +196,10 @@ fn next_two(reader: &mut Counted<FailAt<&[u8]>>) -> (Option<[u8; 2]>, u64) {
 }
 
 fn check_reads(rt: &impl Abort, reader: &mut Counted<FailAt<&[u8]>>) {
-    equal(rt, &next_two(reader), &(Some(*b"ab"), 0));
-    equal(rt, &next_two(reader), &(Some(*b"cd"), 0));
-    equal(rt, &next_two(reader), &(None, 1));
-    equal(rt, &reader.reads(), &3);
+    equal!(rt; next_two(reader), (Some(*b"ab"), 0));
+    equal!(rt; next_two(reader), (Some(*b"cd"), 0));
+    equal!(rt; next_two(reader), (None, 1));
+    equal!(rt; reader.reads(), 3);
 }
 
 #[test]
@@ -203,30 +210,26 @@ fn reads_are_passed_on(rt: HostRuntime) {
 // Checks the greatest sides, which have 14 bits.
 fn check_sides(rt: &impl Abort, limits: &Limits) {
     let dim = size(rt, 16_383, 1);
-    equal(rt, &(dim.mb_cols(), dim.mb_rows()), &(1_024, 1));
-    equal(rt, &Dim::new(16_384, 1, limits), &Err(DimFault::Size));
-    equal(rt, &Dim::new(1, 16_384, limits), &Err(DimFault::Size));
+    equal!(rt; (dim.mb_cols(), dim.mb_rows()), (1_024, 1));
+    equal!(rt; Dim::new(16_384, 1, limits), Err(DimFault::Size));
+    equal!(rt; Dim::new(1, 16_384, limits), Err(DimFault::Size));
 }
 
 // Checks the greatest limits.
 fn check_limits(rt: &impl Abort) {
-    assert!(rt; Limits::new(268_402_689, 268_435_456, 16_777_216, 4_096).is_some());
-    equal(rt, &Limits::new(268_402_690, 1, 1, 1), &None);
-    equal(rt, &Limits::new(1, 268_435_457, 1, 1), &None);
-    equal(rt, &Limits::new(1, 1, 16_777_217, 1), &None);
-    equal(rt, &Limits::new(1, 1, 1, 4_097), &None);
+    equal!(rt; Limits::new(268_402_689, 268_435_456, 16_777_216, 4_096).is_some(), true);
+    equal!(rt; Limits::new(268_402_690, 1, 1, 1), None);
+    equal!(rt; Limits::new(1, 268_435_457, 1, 1), None);
+    equal!(rt; Limits::new(1, 1, 16_777_217, 1), None);
+    equal!(rt; Limits::new(1, 1, 1, 4_097), None);
 }
 
 // The greatest sides, the greatest limits and the default ones.
 #[test]
 fn greatest_sides_and_limits(rt: HostRuntime) {
     let usual = Limits::usual();
-    equal(
-        &rt,
-        &(usual.pixels, usual.packet_bytes),
-        &(16_777_216, 16_777_216),
-    );
-    equal(&rt, &(usual.packets, usual.cache), &(1_048_576, 16));
+    equal!(rt; (usual.pixels, usual.packet_bytes), (16_777_216, 16_777_216));
+    equal!(rt; (usual.packets, usual.cache), (1_048_576, 16));
     check_sides(&rt, &usual);
     check_limits(&rt);
 }
@@ -239,7 +242,7 @@ fn refilled_grid(alloc: Global) -> Result<Grid<u8>, AllocError> {
 #[test]
 fn a_grid_refilled(rt: HostRuntime) -> Result<(), Fail> {
     let grid = refilled_grid(rt.alloc())?;
-    equal(&rt, &(grid.columns(), grid.rows()), &(3, 2));
-    equal(&rt, &grid.into_entries().as_slice(), &[2; 6].as_slice());
+    equal!(rt; (grid.columns(), grid.rows()), (3, 2));
+    equal!(rt; grid.into_entries().as_slice(), [2; 6].as_slice());
     Ok(())
 }

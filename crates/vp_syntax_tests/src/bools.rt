@@ -23,22 +23,22 @@ fn five_in_three_bits(alloc: Global) -> Result<Vec<u8>, AllocError> {
 
 #[test]
 fn bool_encoder_examples(rt: HostRuntime) -> Result<(), Fail> {
-    equal_bytes(&rt, BoolEncoder::new(rt.alloc()).finish()?, &[0]);
-    equal_bytes(&rt, one_bool(rt.alloc())?, &[0x80, 0]);
-    equal_bytes(&rt, five_in_three_bits(rt.alloc())?, &[0x9f, 0xc0]);
+    equal_bytes!(rt; BoolEncoder::new(rt.alloc()).finish()?, &[0]);
+    equal_bytes!(rt; one_bool(rt.alloc())?, &[0x80, 0]);
+    equal_bytes!(rt; five_in_three_bits(rt.alloc())?, &[0x9f, 0xc0]);
     Ok(())
 }
 
 #[test]
 fn reads_examples(rt: HostRuntime) {
-    equal(&rt, &BoolDecoder::new(&[0x9f, 0xc0]).literal(3), &5);
-    assert!(rt; BoolDecoder::new(&[0x80, 0]).read(128));
+    equal!(rt; BoolDecoder::new(&[0x9f, 0xc0]).literal(3), 5);
+    equal!(rt; BoolDecoder::new(&[0x80, 0]).read(128), true);
     let mut zeros = BoolDecoder::new(&[]);
     let mut ones = BoolDecoder::new(&[255, 0, 0, 0, 0, 0, 0, 0, 0, 0, 0, 0]);
     for i in 0..1000u32 {
         let probability = (i % 256) as u8;
-        assert!(rt; !zeros.read(probability));
-        assert!(rt; ones.read(probability));
+        let (zero, one) = (zeros.read(probability), ones.read(probability));
+        equal!(rt; (i, zero, one), (i, false, true));
     }
 }
 
@@ -53,11 +53,12 @@ fn partitions_end(rt: HostRuntime) {
         for _bit in 0..8 * (length - 1) {
             decoder.read_even();
         }
-        assert!(rt; !decoder.is_past_end());
+        let before = decoder.is_past_end();
         decoder.read_even();
-        assert!(rt; decoder.is_past_end());
+        let after_one = decoder.is_past_end();
         decoder.literal(8);
-        assert!(rt; decoder.is_past_end());
+        let found = (length, before, after_one, decoder.is_past_end());
+        equal!(rt; found, (length, false, true, true));
     }
 }
 
@@ -66,14 +67,14 @@ fn partitions_end(rt: HostRuntime) {
 #[test]
 fn partitions_of_one_byte_end(rt: HostRuntime) {
     let mut above = BoolDecoder::new(&[200]);
-    assert!(rt; !above.is_past_end());
-    assert!(rt; above.read(128));
-    assert!(rt; above.is_past_end());
+    equal!(rt; above.is_past_end(), false);
+    equal!(rt; above.read(128), true);
+    equal!(rt; above.is_past_end(), true);
     let mut below = BoolDecoder::new(&[100]);
-    assert!(rt; !below.read(128));
-    assert!(rt; !below.is_past_end());
+    equal!(rt; below.read(128), false);
+    equal!(rt; below.is_past_end(), false);
     below.read(128);
-    assert!(rt; below.is_past_end());
+    equal!(rt; below.is_past_end(), true);
 }
 
 /// Nothing follows a first byte of 255, so that the first doubling passes the end whatever bytes come after it. With
@@ -81,11 +82,11 @@ fn partitions_of_one_byte_end(rt: HostRuntime) {
 #[test]
 fn partitions_that_begin_with_255_end(rt: HostRuntime) {
     let mut decoder = BoolDecoder::new(&[255, 1, 2, 3, 4, 5, 6, 7, 8, 9]);
-    assert!(rt; !decoder.is_past_end());
-    assert!(rt; decoder.read(1));
-    assert!(rt; !decoder.is_past_end());
-    assert!(rt; decoder.read(128));
-    assert!(rt; decoder.is_past_end());
+    equal!(rt; decoder.is_past_end(), false);
+    equal!(rt; decoder.read(1), true);
+    equal!(rt; decoder.is_past_end(), false);
+    equal!(rt; decoder.read(128), true);
+    equal!(rt; decoder.is_past_end(), true);
 }
 
 /// The number of bools after which `read_rare` and `read` differ, of 4,000 that both read from these bytes with these
@@ -109,24 +110,25 @@ fn rare_bools_are_the_same(rt: HostRuntime) {
         bytes[i] = (i * i * 7 % 251) as u8;
     }
     for probability in 0..=255u8 {
-        equal(&rt, &first_other(&bytes, [probability, 255]), &None);
-        equal(&rt, &first_other(&bytes, [254, probability]), &None);
+        let high = first_other(&bytes, [probability, 255]);
+        let low = first_other(&bytes, [254, probability]);
+        equal!(rt; (probability, high, low), (probability, None, None));
     }
-    equal(&rt, &first_other(&[255], [255, 252]), &None);
-    equal(&rt, &first_other(&[], [1, 128]), &None);
+    equal!(rt; first_other(&[255], [255, 252]), None);
+    equal!(rt; first_other(&[], [1, 128]), None);
 }
 
 #[test]
 fn passing_over_rare_bools(rt: HostRuntime) {
     // The range is 255 at first, and each bool takes one from it.
     let mut zeros = BoolDecoder::new(&[]);
-    assert!(rt; zeros.pass_rare(127));
-    assert!(rt; !zeros.pass_rare(1));
+    equal!(rt; zeros.pass_rare(127), true);
+    equal!(rt; zeros.pass_rare(1), false);
     // The value is 128.
     let mut half = BoolDecoder::new(&[0x80, 0]);
-    assert!(rt; !half.pass_rare(127));
-    assert!(rt; half.pass_rare(126));
-    assert!(rt; half.read(255));
+    equal!(rt; half.pass_rare(127), false);
+    equal!(rt; half.pass_rare(126), true);
+    equal!(rt; half.read(255), true);
 }
 
 /// The number of rounds after which a decoder that passes over `count` bools wherever it can, and one that reads each,
@@ -163,8 +165,9 @@ fn passed_bools_are_the_same(rt: HostRuntime) {
         bytes[i] = (i * i * 7 % 251) as u8;
     }
     for count in [0, 1, 3, 8, 60, 127] {
-        equal(&rt, &first_passed_wrongly(&bytes, count, 128), &None);
-        equal(&rt, &first_passed_wrongly(&bytes, count, 254), &None);
-        equal(&rt, &first_passed_wrongly(&bytes, count, 3), &None);
+        let even = first_passed_wrongly(&bytes, count, 128);
+        let rare = first_passed_wrongly(&bytes, count, 254);
+        let common = first_passed_wrongly(&bytes, count, 3);
+        equal!(rt; (count, even, rare, common), (count, None, None, None));
     }
 }

@@ -24,17 +24,17 @@ fn tag_of(packet: &[u8]) -> Result<Tag, PacketFault> {
 
 #[test]
 fn packet_faults(rt: HostRuntime) {
-    assert!(rt; tag_of(&KEY[..9]) == Err(PacketFault::Truncated));
-    assert!(rt; tag_of(&[0x11, 0]) == Err(PacketFault::Truncated));
-    assert!(rt; tag_of(&[0x18, 0, 0]) == Err(PacketFault::Version));
-    assert!(rt; tag_of(&OTHER) == Err(PacketFault::StartCode));
+    equal!(rt; tag_of(&KEY[..9]), Err(PacketFault::Truncated));
+    equal!(rt; tag_of(&[0x11, 0]), Err(PacketFault::Truncated));
+    equal!(rt; tag_of(&[0x18, 0, 0]), Err(PacketFault::Version));
+    equal!(rt; tag_of(&OTHER), Err(PacketFault::StartCode));
     let wanted = Tag {
         version: 0,
         show: true,
         first_partition: 262_161,
         key: None,
     };
-    assert!(rt; tag_of(&[0x31, 0x02, 0x80]) == Ok(wanted));
+    equal!(rt; tag_of(&[0x31, 0x02, 0x80]), Ok(wanted));
 }
 
 /// Returns the tag of a key packet with these width and height fields.
@@ -58,10 +58,10 @@ fn sides_of(key: Option<KeyTag>) -> Option<(u16, u16, u8, u8)> {
 #[test]
 fn size_limits(rt: HostRuntime) -> Result<(), Fail> {
     let limits = Limits::new(16_384, 1, 1, 1).ok_or("limits")?;
-    assert!(rt; tag_of_size([0, 0, 16, 0], &limits) == Err(PacketFault::Size));
-    assert!(rt; tag_of_size([129, 0, 129, 0], &limits) == Err(PacketFault::TooLarge));
+    equal!(rt; tag_of_size([0, 0, 16, 0], &limits), Err(PacketFault::Size));
+    equal!(rt; tag_of_size([129, 0, 129, 0], &limits), Err(PacketFault::TooLarge));
     let tag = tag_of_size([128, 0x40, 128, 0xc0], &limits)?;
-    equal(&rt, &sides_of(tag.key), &Some((128, 128, 1, 3)));
+    equal!(rt; sides_of(tag.key), Some((128, 128, 1, 3)));
     Ok(())
 }
 
@@ -109,28 +109,28 @@ fn ones_rows() -> (Segmentation, Filter, QuantiserIndices) {
 
 /// Checks some values of a key packet's header that is read from bools of 1.
 fn check_ones(rt: &impl Abort, header: &Header) {
-    assert!(rt; header.key && header.color_space && header.clamping_type);
-    assert!(rt; rows_of(header) == ones_rows());
-    assert!(rt; header.probabilities.coefficients == [[[[255; 11]; 3]; 8]; 4]);
+    equal!(rt; (header.key, header.color_space, header.clamping_type), (true, true, true));
+    equal!(rt; rows_of(header), ones_rows());
+    equal!(rt; &header.probabilities.coefficients, &[[[[255; 11]; 3]; 8]; 4]);
 }
 
 fn check_ones_saved(rt: &impl Abort, saved: &Saved) {
-    equal(rt, &saved.segments, &ONES_VALUES);
+    equal!(rt; saved.segments, ONES_VALUES);
     let kept = Saved::defaults().probabilities.vectors;
-    assert!(rt; saved.probabilities.vectors == kept);
+    equal!(rt; saved.probabilities.vectors, kept);
 }
 
 #[test]
 fn all_ones_header(rt: HostRuntime) -> Result<(), Fail> {
     let (header, saved, _) = header_of(&KEY, &[255])?;
     check_ones(&rt, &header);
-    assert!(rt; header.deltas_enabled && header.refresh_entropy);
+    equal!(rt; (header.deltas_enabled, header.refresh_entropy), (true, true));
     let deltas = LevelDeltas {
         reference: [-63; 4],
         mode: [-63; 4],
     };
-    equal(&rt, &header.deltas, &deltas);
-    equal(&rt, &(header.log2_partitions, header.skip), &(3, Some(255)));
+    equal!(rt; header.deltas, deltas);
+    equal!(rt; (header.log2_partitions, header.skip), (3, Some(255)));
     check_ones_saved(&rt, &saved);
     Ok(())
 }
@@ -145,16 +145,16 @@ fn parts_of(probabilities: &Probabilities) -> ([u8; 4], [u8; 3], [[u8; 19]; 2]) 
 
 /// Checks the flags and the references of an inter packet's header that is read from bools of 1.
 fn check_ones_references(rt: &impl Abort, header: &Header) {
-    assert!(rt; !header.key);
+    equal!(rt; header.key, false);
     let updates = header.updates;
-    assert!(rt; updates.refresh_golden && updates.refresh_alt && updates.refresh_last);
-    equal(rt, &updates.copy_to_golden, &ReferenceCopy::Nothing);
+    equal!(rt; (updates.refresh_golden, updates.refresh_alt, updates.refresh_last), (true, true, true));
+    equal!(rt; updates.copy_to_golden, ReferenceCopy::Nothing);
     let references = ReferenceProbabilities {
         intra: 255,
         last: 255,
         golden: 255,
     };
-    equal(rt, &header.references, &references);
+    equal!(rt; header.references, references);
 }
 
 #[test]
@@ -165,8 +165,8 @@ fn all_ones_inter_header(rt: HostRuntime) -> Result<(), Fail> {
         golden: true,
         alt: true,
     };
-    equal(&rt, &saved.biases, &biases);
-    assert!(rt; parts_of(&saved.probabilities) == ([255; 4], [255; 3], [[254; 19]; 2]));
+    equal!(rt; saved.biases, biases);
+    equal!(rt; parts_of(&saved.probabilities), ([255; 4], [255; 3], [[254; 19]; 2]));
     Ok(())
 }
 
@@ -224,23 +224,19 @@ fn change_for_key(coefficients: &mut [[[[u8; 11]; 3]; 8]; 4]) {
 
 fn check_key_coefficients(rt: &impl Abort, header: &Header, saved: &Saved) {
     let mut wanted = Saved::defaults().probabilities;
-    assert!(rt; saved.probabilities.coefficients == wanted.coefficients);
+    equal!(rt; &saved.probabilities.coefficients, &wanted.coefficients);
     change_for_key(&mut wanted.coefficients);
-    assert!(rt; header.probabilities.coefficients == wanted.coefficients);
+    equal!(rt; &header.probabilities.coefficients, &wanted.coefficients);
 }
 
 #[test]
 fn key_rows_of_a_stream(rt: HostRuntime) -> Result<(), Fail> {
     let (header, saved, behind) = header_of(&KEY_PACKET, &KEY_PACKET[10..])?;
-    assert!(rt; !header.color_space && header.clamping_type);
-    assert!(rt; !header.deltas_enabled && !header.refresh_entropy);
-    assert!(rt; rows_of(&header) == key_rows());
+    equal!(rt; (header.color_space, header.clamping_type), (false, true));
+    equal!(rt; (header.deltas_enabled, header.refresh_entropy), (false, false));
+    equal!(rt; rows_of(&header), key_rows());
     check_key_coefficients(&rt, &header, &saved);
-    equal(
-        &rt,
-        &(header.log2_partitions, header.skip, behind),
-        &(3, Some(127), 200),
-    );
+    equal!(rt; (header.log2_partitions, header.skip, behind), (3, Some(127), 200));
     Ok(())
 }
 
@@ -279,24 +275,24 @@ fn check_inter_references(rt: &impl Abort, header: &Header) {
         copy_to_alt: ReferenceCopy::Last,
         refresh_last: false,
     };
-    equal(rt, &header.updates, &updates);
+    equal!(rt; header.updates, updates);
     let biases = SignBiases {
         golden: false,
         alt: true,
     };
-    equal(rt, &(header.log2_partitions, header.biases), &(0, biases));
+    equal!(rt; (header.log2_partitions, header.biases), (0, biases));
 }
 
 #[test]
 fn inter_rows_of_a_stream(rt: HostRuntime) -> Result<(), Fail> {
     let (header, saved, _) = header_of(&INTER_PACKET, &INTER_PACKET[3..])?;
-    assert!(rt; header.deltas_enabled && !header.refresh_entropy);
-    assert!(rt; rows_of(&header) == inter_rows());
+    equal!(rt; (header.deltas_enabled, header.refresh_entropy), (true, false));
+    equal!(rt; rows_of(&header), inter_rows());
     let deltas = LevelDeltas {
         reference: [0, 0, 46, 58],
         mode: [0, 0, 54, 61],
     };
-    equal(&rt, &saved.deltas, &deltas);
+    equal!(rt; saved.deltas, deltas);
     check_inter_references(&rt, &header);
     Ok(())
 }
@@ -321,14 +317,14 @@ fn inter_probabilities_of_a_stream(rt: HostRuntime) -> Result<(), Fail> {
         last: 158,
         golden: 109,
     };
-    assert!(rt; header.references == references);
-    equal(&rt, &(header.skip, behind), &(Some(46), 183));
+    equal!(rt; header.references, references);
+    equal!(rt; (header.skip, behind), (Some(46), 183));
     let mut wanted = Saved::defaults().probabilities;
     change_for_inter(&mut wanted.coefficients);
-    assert!(rt; header.probabilities.coefficients == wanted.coefficients);
+    equal!(rt; &header.probabilities.coefficients, &wanted.coefficients);
     wanted.luma = [104, 203, 38, 211];
     wanted.vectors[1][2] = 238;
-    assert!(rt; parts_of(&header.probabilities) == parts_of(&wanted));
+    equal!(rt; parts_of(&header.probabilities), parts_of(&wanted));
     Ok(())
 }
 
@@ -348,19 +344,22 @@ fn written_back(alloc: Global, packet: &[u8], partition: &[u8]) -> Result<Header
 fn headers_read_back(rt: HostRuntime) -> Result<(), Fail> {
     check_ones(&rt, &written_back(rt.alloc(), &KEY, &[255])?);
     let inter = written_back(rt.alloc(), &[0x31, 0, 0], &[255])?;
-    assert!(rt; !inter.key && inter.biases.golden && inter.biases.alt);
-    assert!(rt; rows_of(&inter) == ones_rows());
-    assert!(rt; parts_of(&inter.probabilities) == ([255; 4], [255; 3], [[254; 19]; 2]));
+    equal!(rt; (inter.key, inter.biases.golden, inter.biases.alt), (false, true, true));
+    equal!(rt; rows_of(&inter), ones_rows());
+    equal!(rt; parts_of(&inter.probabilities), ([255; 4], [255; 3], [[254; 19]; 2]));
     Ok(())
 }
 
-fn is_told_as(alloc: Global, fault: PacketFault, name: &str) -> Result<bool, Fail> {
-    Ok(format!(in alloc; "{fault}")?.as_str() == name)
+fn check_name(rt: &impl Abort, alloc: Global, fault: PacketFault, name: &str) {
+    let Ok(text) = format!(in alloc; "{fault}") else {
+        panic!(rt; "memory");
+    };
+    equal!(rt; text.as_str(), name);
 }
 
 /// The names of the faults; that of a partition includes its number.
 #[test]
-fn names_of_packet_faults(rt: HostRuntime) -> Result<(), Fail> {
+fn names_of_packet_faults(rt: HostRuntime) {
     let names = [
         (PacketFault::Truncated, "Truncated"),
         (PacketFault::Version, "Version"),
@@ -373,15 +372,14 @@ fn names_of_packet_faults(rt: HostRuntime) -> Result<(), Fail> {
         (PacketFault::Partition(2), "Partition 2"),
     ];
     for (fault, name) in &names {
-        assert!(rt; is_told_as(rt.alloc(), *fault, name)?);
+        check_name(&rt, rt.alloc(), *fault, name);
     }
-    Ok(())
 }
 
 /// A key packet of fewer than ten bytes is truncated, whatever its start code and size are.
 #[test]
 fn truncated_before_start_code(rt: HostRuntime) {
-    assert!(rt; tag_of(&OTHER[..9]) == Err(PacketFault::Truncated));
-    assert!(rt; tag_of(&OTHER[..6]) == Err(PacketFault::Truncated));
-    assert!(rt; tag_of(&OTHER[..3]) == Err(PacketFault::Truncated));
+    equal!(rt; tag_of(&OTHER[..9]), Err(PacketFault::Truncated));
+    equal!(rt; tag_of(&OTHER[..6]), Err(PacketFault::Truncated));
+    equal!(rt; tag_of(&OTHER[..3]), Err(PacketFault::Truncated));
 }

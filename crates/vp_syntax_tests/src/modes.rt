@@ -66,7 +66,7 @@ fn all_ones_header(rt: HostRuntime) {
         subs: modes.subs,
         chroma: ChromaMode::Tm,
     };
-    assert!(rt; modes == wanted);
+    equal!(rt; &modes, &wanted);
 }
 
 const CHANGED: Modes = Modes {
@@ -78,8 +78,8 @@ const CHANGED: Modes = Modes {
     chroma: ChromaMode::H,
 };
 
-/// Returns whether a change of one place of the copy changes no other place, and not the original map.
-fn changes_alone(map: &ModeMap, copy: &mut ModeMap) -> bool
+/// A change of one place of the copy changes no other place, and not the original map.
+fn check_change(rt: &impl Abort, map: &ModeMap, copy: &mut ModeMap)
     requires columns { map.now.columns ≡ 2 }
     requires rows { map.now.rows ≡ 3 }
     requires copied_columns { copy.old.columns ≡ 2 }
@@ -89,7 +89,8 @@ fn changes_alone(map: &ModeMap, copy: &mut ModeMap) -> bool
     let beside = Place { column: 0, row: 2 };
     let plain = *map.get(place);
     copy.set(place, &CHANGED);
-    *copy.get(place) == CHANGED && *copy.get(beside) == plain && *map.get(place) == plain
+    equal!(rt; *copy.get(place), CHANGED);
+    equal!(rt; (*copy.get(beside), *map.get(place)), (plain, plain));
 }
 
 fn check_copy(rt: &impl Abort, alloc: Global, map: &ModeMap)
@@ -99,7 +100,7 @@ fn check_copy(rt: &impl Abort, alloc: Global, map: &ModeMap)
     let Ok(mut copy) = map.copy(alloc) else {
         panic!(rt; "a copy");
     };
-    assert!(rt; changes_alone(map, &mut copy));
+    check_change(rt, map, &mut copy);
 }
 
 /// A new map, and one that is copied and then changed.
@@ -107,7 +108,7 @@ fn check_copy(rt: &impl Abort, alloc: Global, map: &ModeMap)
 fn succeeds_with_memory_maps(rt: HostRuntime) {
     let dim = size(&rt, 17, 33);
     let map = new_map(&rt, rt.alloc(), dim);
-    equal(&rt, &(map.columns(), map.rows()), &(2, 3));
+    equal!(rt; (map.columns(), map.rows()), (2, 3));
     check_copy(&rt, rt.alloc(), &map);
 }
 
@@ -135,9 +136,9 @@ fn modes_of_a_picture(rt: HostRuntime) {
     let dim = size(&rt, 16, 16);
     let map = new_map(&rt, rt.alloc(), dim);
     let modes = modes_after_header(dim, &map, &PICTURE);
-    equal(&rt, &modes.luma, &LumaMode::B);
-    assert!(rt; modes.subs == SUBS_OF_PICTURE);
-    equal(&rt, &modes.chroma, &ChromaMode::V);
+    equal!(rt; modes.luma, LumaMode::B);
+    equal!(rt; modes.subs, SUBS_OF_PICTURE);
+    equal!(rt; modes.chroma, ChromaMode::V);
 }
 
 /// A header with segmentation and skipping, and four macroblocks with random modes, the first of them not B_PRED.
@@ -187,14 +188,15 @@ const MODES: [Modes; 4] = [
     },
 ];
 
-/// Reads a macroblock, stores it in the map, and returns whether it is as expected.
-fn puts_next(
+/// Reads a macroblock, stores it in the map, and checks it.
+fn put_next(
+    rt: &impl Abort,
     header: &Header,
     map: &mut ModeMap,
     place: Place,
     wanted: &Modes,
     d: &mut BoolDecoder,
-) -> bool
+)
     requires columns { map.old.columns ≡ 2 }
     requires rows { map.old.rows ≡ 2 }
     requires column { place.column < 2 }
@@ -204,39 +206,39 @@ fn puts_next(
 {
     let modes = read_modes(header, map, place, d);
     map.set(place, &modes);
-    modes == *wanted
+    equal!(rt; (place, modes), (place, *wanted));
 }
 
-/// Returns whether the next four macroblocks are as expected.
-fn puts_four(header: &Header, map: &mut ModeMap, wanted: &[Modes; 4], d: &mut BoolDecoder) -> bool
+/// Reads, stores and checks the four macroblocks.
+fn put_four(rt: &impl Abort, header: &Header, map: &mut ModeMap, d: &mut BoolDecoder)
     requires columns { map.old.columns ≡ 2 }
     requires rows { map.old.rows ≡ 2 }
 {
-    let [first, second, third, fourth] = wanted;
+    let [first, second, third, fourth] = &MODES;
     let right = Place { column: 1, row: 0 };
     let below = Place { column: 0, row: 1 };
     let last = Place { column: 1, row: 1 };
-    puts_next(header, map, FIRST, first, d)
-        && puts_next(header, map, right, second, d)
-        && puts_next(header, map, below, third, d)
-        && puts_next(header, map, last, fourth, d)
+    put_next(rt, header, map, FIRST, first, d);
+    put_next(rt, header, map, right, second, d);
+    put_next(rt, header, map, below, third, d);
+    put_next(rt, header, map, last, fourth, d);
 }
 
-/// Returns whether the four macroblocks of the partition are as expected.
-fn reads_four(dim: Dim, map: &mut ModeMap) -> bool
+/// Checks the four macroblocks of the partition.
+fn check_four(rt: &impl Abort, dim: Dim, map: &mut ModeMap)
     requires columns { map.old.columns ≡ 2 }
     requires rows { map.old.rows ≡ 2 }
 {
     let mut d = BoolDecoder::new(&FOUR);
     let (header, _) = Header::read(&Saved::defaults(), &key_tag(dim), &mut d);
-    puts_four(&header, map, &MODES, &mut d)
+    put_four(rt, &header, map, &mut d);
 }
 
 #[test]
 fn modes_by_their_neighbours(rt: HostRuntime) {
     let dim = size(&rt, 32, 32);
     let mut map = new_map(&rt, rt.alloc(), dim);
-    assert!(rt; reads_four(dim, &mut map));
+    check_four(&rt, dim, &mut map);
 }
 
 /// Reads a partition's header and the first macroblock's modes, and writes them again.
@@ -268,5 +270,5 @@ fn a_picture_written_again(rt: HostRuntime) {
         panic!(rt; "memory");
     };
     // libwebp's partition has one more byte of 0.
-    equal_bytes(&rt, bytes, &PICTURE[..19]);
+    equal_bytes!(rt; bytes, &PICTURE[..19]);
 }

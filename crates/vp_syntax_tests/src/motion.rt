@@ -77,11 +77,11 @@ fn check_far_vectors(rt: &impl Abort, header: &Header, map: &VectorMap, d: &mut 
         mode: Split,
         vectors: [FAR; 16],
     };
-    equal(rt, &motion, &wanted);
+    equal!(rt; motion, wanted);
     let probabilities = &header.probabilities.vectors;
-    equal(rt, &read_vector(probabilities, d), &FAR);
+    equal!(rt; read_vector(probabilities, d), FAR);
     let split = read_split(probabilities, map, FIRST, BEST, d);
-    equal(rt, &split, &[SIDE; 16]);
+    equal!(rt; split, [SIDE; 16]);
 }
 
 fn check_ones(rt: &impl Abort, alloc: Global, map: &VectorMap)
@@ -90,7 +90,7 @@ fn check_ones(rt: &impl Abort, alloc: Global, map: &VectorMap)
     let mut d = BoolDecoder::new(&[255]);
     let (header, _) = Header::read(&Saved::defaults(), &INTER, &mut d);
     let reference = reference_of(alloc, &header, &mut d);
-    equal(rt, &reference, &Some(Reference::Alt));
+    equal!(rt; reference, Some(Reference::Alt));
     check_far_vectors(rt, &header, map, &mut d);
 }
 
@@ -129,17 +129,17 @@ fn check_neighbours(rt: &impl Abort, map: &mut VectorMap)
 {
     put_neighbours(map);
     let found = near(map, MIDDLE, Reference::Last, UNBIASED);
-    equal(rt, &found.counts, &[0, 4, 0, 0]);
-    equal(rt, &found.best, &FOUR);
+    equal!(rt; found.counts, [0, 4, 0, 0]);
+    equal!(rt; found.best, FOUR);
     let last = map.get(Place { column: 2, row: 2 }).reference;
-    equal(rt, &last, &Reference::Intra);
+    equal!(rt; last, Reference::Intra);
 }
 
 /// A new map, and the motion that is stored in it.
 #[test]
 fn succeeds_with_memory_map(rt: HostRuntime) {
     let mut map = map_of(&rt, rt.alloc(), 48, 33);
-    equal(&rt, &(map.columns(), map.rows()), &(3, 3));
+    equal!(rt; (map.columns(), map.rows()), (3, 3));
     check_neighbours(&rt, &mut map);
 }
 
@@ -214,8 +214,8 @@ fn first_other_block(vectors: &[Vector; 16], i: usize) -> Option<usize>
 fn check_motion(rt: &impl Abort, i: usize, mode: VectorMode, vectors: &[Vector; 16])
     requires { i < 9 }
 {
-    equal(rt, &(i, mode), &(i, MODES[i]));
-    equal(rt, &(i, first_other_block(vectors, i)), &(i, None));
+    equal!(rt; (i, mode), (i, MODES[i]));
+    equal!(rt; (i, first_other_block(vectors, i)), (i, None));
 }
 
 /// Returns the next motion. The decoder stays where it is.
@@ -251,7 +251,7 @@ fn put_next(
     check_motion(rt, i, motion.mode, &motion.vectors);
     read_into(header, map, place, reference, d);
     let kept = map.get(place);
-    equal(rt, &(i, kept.reference), &(i, reference));
+    equal!(rt; (i, kept.reference), (i, reference));
     check_motion(rt, i, kept.mode, &kept.vectors);
 }
 
@@ -296,8 +296,8 @@ fn write_vector_examples(rt: HostRuntime) -> Result<(), Fail> {
     write_vector(probabilities, SIDE, &mut e)?;
     let bytes = e.finish()?;
     let mut d = BoolDecoder::new(bytes.as_slice());
-    assert!(rt; read_vector(probabilities, &mut d) == MIXED);
-    assert!(rt; read_vector(probabilities, &mut d) == SIDE);
+    equal!(rt; read_vector(probabilities, &mut d), MIXED);
+    equal!(rt; read_vector(probabilities, &mut d), SIDE);
     Ok(())
 }
 
@@ -386,43 +386,44 @@ fn first_other(header: &Header, map: &VectorMap, place: Place, bytes: &[u8]) -> 
     None
 }
 
-/// Returns whether exactly the motions that can be coded are written.
-fn writes_given(
+/// Writes the motions that can be coded. Returns the first of them that isn't written, and the first other that is.
+fn write_given(
     header: &Header,
     map: &VectorMap,
     place: Place,
     e: &mut BoolEncoder,
-) -> Result<bool, AllocError>
+) -> Result<(Option<usize>, Option<usize>), AllocError>
     requires { Has map.now place }
 {
     let given = first_given(header, map, place, &GIVEN, false, e)?;
     let refused = first_given(header, map, place, &REFUSED, true, e)?;
-    Ok(given.is_none() && refused.is_none())
+    Ok((given, refused))
 }
 
-/// Returns whether exactly the motions that can be coded are written, and are read back.
+/// Writes the motions that can be coded, and reads them back. Returns the first of them that isn't written, the first
+/// other that is, and the first that isn't read back.
 fn read_back(
     alloc: Global,
     header: &Header,
     map: &VectorMap,
     place: Place,
-) -> Result<bool, AllocError>
+) -> Result<(Option<usize>, Option<usize>, Option<usize>), AllocError>
     requires { Has map.now place }
 {
     let mut e = BoolEncoder::new(alloc);
-    let is_written = writes_given(header, map, place, &mut e)?;
+    let (given, refused) = write_given(header, map, place, &mut e)?;
     let bytes = e.finish()?;
-    Ok(is_written && first_other(header, map, place, &bytes).is_none())
+    Ok((given, refused, first_other(header, map, place, &bytes)))
 }
 
 fn check_read_back(rt: &impl Abort, alloc: Global, map: &mut VectorMap)
     requires columns { map.old.columns ≡ 2 }
     requires rows { map.old.rows ≡ 2 }
 {
-    equal(rt, &(map.columns(), map.rows()), &(2, 2));
+    equal!(rt; (map.columns(), map.rows()), (2, 2));
     put_neighbours(map);
-    let is_read_back = read_back(alloc, &empty_header(), map, MIDDLE);
-    equal(rt, &is_read_back.ok(), &Some(true));
+    let first = read_back(alloc, &empty_header(), map, MIDDLE);
+    equal!(rt; first.ok(), Some((None, None, None)));
 }
 
 /// All modes except split.

@@ -17,27 +17,19 @@ use vp_tokens::{
 
 #[test]
 fn all_ones_partition(rt: HostRuntime) {
-    equal(
-        &rt,
-        &Partitions::cut(&[], 8).err(),
-        &Some(PacketFault::PartitionTable),
-    );
+    equal!(rt; Partitions::cut(&[], 8).err(), Some(PacketFault::PartitionTable));
     let zeros = [0; 21];
     let Ok(partitions) = Partitions::cut(&zeros, 8) else {
         panic!(rt; "21 bytes of 0 are eight empty partitions");
     };
-    equal(&rt, &partitions.count(), &8);
+    equal!(rt; partitions.count(), 8);
 }
 
 #[test]
 fn packet_faults(rt: HostRuntime) {
     let mut table = [0; 21];
     table[0] = 1;
-    equal(
-        &rt,
-        &Partitions::cut(&table, 8).err(),
-        &Some(PacketFault::Partition(0)),
-    );
+    equal!(rt; Partitions::cut(&table, 8).err(), Some(PacketFault::Partition(0)));
 }
 
 /// Allocates contexts for this number of columns.
@@ -80,29 +72,27 @@ const ONES: Block = Block {
     tokens: 16,
 };
 
-/// Returns whether each block is the one that bools of 1 give.
-fn are_ones(blocks: &[Block]) -> bool {
-    for block in blocks {
+/// Returns the first block that isn't the one that bools of 1 give, and its place.
+fn first_other(blocks: &[Block]) -> Option<(usize, Block)> {
+    for (i, block) in blocks.iter().enumerate() {
         if *block != ONES {
-            return false;
+            return Some((i, *block));
         }
     }
-    true
+    None
 }
 
 #[test]
 fn all_ones_tokens(rt: HostRuntime) {
     let tokens = first_tokens_of_ones(&rt, rt.alloc(), false, false);
-    assert!(rt; tokens.any());
-    assert!(rt; tokens.blocks[0] == Block::NONE);
-    assert!(rt; are_ones(&tokens.blocks[1..]));
+    equal!(rt; (tokens.any(), tokens.blocks[0]), (true, Block::NONE));
+    equal!(rt; first_other(&tokens.blocks[1..]), None);
 }
 
 #[test]
 fn skipped_has_no_tokens(rt: HostRuntime) {
     let tokens = first_tokens_of_ones(&rt, rt.alloc(), true, true);
-    assert!(rt; !tokens.any());
-    assert!(rt; tokens == Tokens::NONE);
+    equal!(rt; (tokens.any(), tokens), (false, Tokens::NONE));
 }
 
 /// Writes a macroblock of empty blocks that isn't skipped. Its bytes depend on which blocks above have tokens.
@@ -161,9 +151,9 @@ fn bytes_below_skipped(alloc: Global, has_y2: bool) -> Result<Vec<u8>, AllocErro
 /// Checks what is written below skipped macroblocks. `none` is written where no block above has tokens.
 fn check_skipped(rt: &impl Abort, alloc: Global, none: &[u8]) -> Result<(), Fail> {
     let y2_alone = bytes_below_y2(alloc)?;
-    assert!(rt; none != y2_alone.as_slice());
-    equal_bytes(rt, bytes_below_skipped(alloc, false)?, &y2_alone);
-    equal_bytes(rt, bytes_below_skipped(alloc, true)?, none);
+    assert!(rt; none != y2_alone.as_slice(), "both are {none:?}");
+    equal_bytes!(rt; bytes_below_skipped(alloc, false)?, &y2_alone);
+    equal_bytes!(rt; bytes_below_skipped(alloc, true)?, none);
     Ok(())
 }
 
@@ -179,11 +169,11 @@ fn skipped_leaves_y2(rt: HostRuntime) -> Result<(), Fail> {
 // values. The probabilities that the stream changes are not used in this row.
 const ROW: [u8; 12] = [183, 180, 245, 129, 148, 100, 0, 0, 108, 1, 80, 0];
 
-/// Returns whether a block begins with these levels, and has this many tokens.
-fn begins(block: &Block, levels: &[i16], tokens: u8) -> bool
-    requires { length levels.now ≤ 16 }
+/// Returns the first levels of a block, and the number of its tokens.
+fn start(block: &Block, count: usize) -> (&[i16], u8)
+    requires { count ≤ 16 }
 {
-    &block.levels[..levels.len()] == levels && block.tokens == tokens
+    (&block.levels[..count], block.tokens)
 }
 
 fn level(block: &Block, position: usize) -> i16
@@ -192,19 +182,22 @@ fn level(block: &Block, position: usize) -> i16
     block.levels[position]
 }
 
-fn is_first(blocks: &[Block; 25]) -> bool {
-    blocks[1] == Block::NONE
-        && begins(&blocks[2], &[-1], 1)
-        && level(&blocks[3], 2) == 1
-        && begins(&blocks[7], &[2, 0, -1, 0], 3)
+fn check_first(rt: &impl Abort, blocks: &[Block; 25]) {
+    equal!(rt; blocks[1], Block::NONE);
+    equal!(rt; start(&blocks[2], 1), ([-1].as_slice(), 1));
+    equal!(rt; level(&blocks[3], 2), 1);
+    equal!(rt; start(&blocks[7], 4), ([2, 0, -1, 0].as_slice(), 3));
 }
 
-fn is_second(blocks: &[Block; 25]) -> bool {
-    blocks[9] == Block::NONE && begins(&blocks[10], &[0, 0, 0, 0, 1, 0], 16)
+fn check_second(rt: &impl Abort, blocks: &[Block; 25]) {
+    equal!(rt; blocks[9], Block::NONE);
+    equal!(rt; start(&blocks[10], 6), ([0, 0, 0, 0, 1, 0].as_slice(), 16));
 }
 
-fn is_third(blocks: &[Block; 25]) -> bool {
-    blocks[0] == Block::NONE && level(&blocks[14], 10) == 1 && begins(&blocks[14], &[], 11)
+fn check_third(rt: &impl Abort, blocks: &[Block; 25]) {
+    equal!(rt; blocks[0], Block::NONE);
+    let last = &blocks[14];
+    equal!(rt; (level(last, 10), last.tokens), (1, 11));
 }
 
 /// Reads the tokens of a macroblock of the row; it isn't skipped.
@@ -232,11 +225,11 @@ fn check_row(rt: &impl Abort, contexts: &mut Contexts)
 {
     let mut d = BoolDecoder::new(&ROW);
     let first = next_of_row(contexts, 0, false, &mut d);
-    assert!(rt; is_first(&first.blocks));
+    check_first(rt, &first.blocks);
     let second = next_of_row(contexts, 1, false, &mut d);
-    assert!(rt; is_second(&second.blocks));
+    check_second(rt, &second.blocks);
     let third = next_of_row(contexts, 2, true, &mut d);
-    assert!(rt; is_third(&third.blocks));
+    check_third(rt, &third.blocks);
 }
 
 #[test]
@@ -301,7 +294,7 @@ fn copied_row(alloc: Global, read: &mut Contexts) -> Result<Vec<u8>, AllocError>
 #[test]
 fn writes_row_of_a_stream(rt: HostRuntime) -> Result<(), Fail> {
     let mut read = Contexts::new(rt.alloc(), 3)?;
-    equal_bytes(&rt, copied_row(rt.alloc(), &mut read)?, &ROW);
+    equal_bytes!(rt; copied_row(rt.alloc(), &mut read)?, &ROW);
     Ok(())
 }
 
@@ -318,14 +311,14 @@ fn puts_empty_parts(rt: HostRuntime) -> Result<(), Fail> {
         Vec::new(a),
         Vec::new(a),
     ];
-    equal_bytes(&rt, Partitions::put(a, &parts)?, &[0; 21]);
+    equal_bytes!(rt; Partitions::put(a, &parts)?, &[0; 21]);
     Ok(())
 }
 
 #[test]
 fn tokens_end_with_the_last_level(rt: HostRuntime) {
     let block = Block::of_levels(&[0, -3, 0, 2114, 0, 0, 0, 0, 0, 0, 0, 0, 0, 0, 0, 0]);
-    assert!(rt; block.tokens == 4);
+    equal!(rt; block.tokens, 4);
     let tokens = Tokens::of_levels(&[[-2114; 16]; 25]);
-    assert!(rt; are_ones(&tokens.blocks));
+    equal!(rt; first_other(&tokens.blocks), None);
 }

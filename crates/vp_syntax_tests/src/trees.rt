@@ -41,16 +41,12 @@ fn leaves_of_zeros() -> (Season, Season) {
 fn reads_leaves(rt: HostRuntime) {
     let even = [128; 3];
     // The bools 1, 0, 1: the number 5 in three bits.
-    equal(&rt, &leaf_of(&[0x9f, 0xc0], &even), &Season::Autumn);
-    equal(&rt, &leaves_of_zeros(), &(Season::Spring, Season::Summer));
-    equal(&rt, &leaf_of(&[255], &[255, 0, 1]), &Season::Winter);
+    equal!(rt; leaf_of(&[0x9f, 0xc0], &even), Season::Autumn);
+    equal!(rt; leaves_of_zeros(), (Season::Spring, Season::Summer));
+    equal!(rt; leaf_of(&[255], &[255, 0, 1]), Season::Winter);
     // A single bool of 1.
     let mut one = BoolDecoder::new(&[0x80, 0]);
-    equal(
-        &rt,
-        &read_tree_from(&SEASONS, &even, 4, &mut one),
-        &Season::Autumn,
-    );
+    equal!(rt; read_tree_from(&SEASONS, &even, 4, &mut one), Season::Autumn);
 }
 
 #[test]
@@ -63,16 +59,8 @@ fn finds_paths(rt: HostRuntime) {
         },
         Step { pair: 4, bit: true },
     ];
-    equal(
-        &rt,
-        &path(&SEASONS, Season::Autumn).as_slice(),
-        &to_autumn.as_slice(),
-    );
-    equal(
-        &rt,
-        &path_from(&SEASONS, 2, Season::Autumn).as_slice(),
-        &&to_autumn[1..],
-    );
+    equal!(rt; path(&SEASONS, Season::Autumn).as_slice(), to_autumn.as_slice());
+    equal!(rt; path_from(&SEASONS, 2, Season::Autumn).as_slice(), &to_autumn[1..]);
 }
 
 /// Writes the bools 1, 0, 1: the number 5 in three bits.
@@ -91,7 +79,7 @@ fn autumn_from_its_pair(alloc: Global) -> Result<Vec<u8>, AllocError> {
 
 #[test]
 fn writes_leaves(rt: HostRuntime) -> Result<(), Fail> {
-    equal_bytes(&rt, autumn(rt.alloc())?, &[0x9f, 0xc0]);
-    equal_bytes(&rt, autumn_from_its_pair(rt.alloc())?, &[0x80, 0]);
+    equal_bytes!(rt; autumn(rt.alloc())?, &[0x9f, 0xc0]);
+    equal_bytes!(rt; autumn_from_its_pair(rt.alloc())?, &[0x80, 0]);
     Ok(())
 }

@@ -1,14 +1,14 @@
 use Rattle.vp_transform.proofs.Bounds.{idct_fits_tested}
 use Rattle.vp_pixel_tests.proofs.transforms.cut_blocks.Goals as goal
 
-pub cut_is_as_plain-requires : goal.cut_is_as_plain-requires
-cut_is_as_plain-requires g c = idct_fits_tested _ tt
+pub check_idct_cut-requires : goal.check_idct_cut-requires
+check_idct_cut-requires g c = idct_fits_tested _ tt
 
-pub cut_is_as_plain-requires-2 : goal.cut_is_as_plain-requires-2
-cut_is_as_plain-requires-2 g c = idct_fits_tested _ tt
+pub check_idct_cut-requires-2 : goal.check_idct_cut-requires-2
+check_idct_cut-requires-2 g c = idct_fits_tested _ tt
 
-pub cut_is_as_plain-requires-3 : goal.cut_is_as_plain-requires-3
-cut_is_as_plain-requires-3 g c = idct_fits_tested _ tt
+pub check_idct_cut-requires-3 : goal.check_idct_cut-requires-3
+check_idct_cut-requires-3 g c = idct_fits_tested _ tt
 
-pub cut_is_as_plain-requires-4 : goal.cut_is_as_plain-requires-4
-cut_is_as_plain-requires-4 g c = idct_fits_tested _ tt
+pub check_idct_cut-requires-4 : goal.check_idct_cut-requires-4
+check_idct_cut-requires-4 g c = idct_fits_tested _ tt

@@ -1,5 +1,5 @@
 use Rattle.vp_transform.proofs.Bounds.{idct_fits_tested}
-use Rattle.vp_pixel_tests.proofs.transforms.kernel_examples.Goals as goal
+use Rattle.vp_pixel_tests.proofs.transforms.inverse_examples.Goals as goal
 
 pub idct-requires : goal.idct-requires
 idct-requires g c = idct_fits_tested _ tt
