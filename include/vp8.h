@@ -35,7 +35,7 @@
 extern "C" {
 #endif
 
-/* The result of a call. vp8_status_name gives the names. */
+/* The result of a call: every number above VP8_HIDDEN is a fault or a refusal. vp8_status_name gives the names. */
 typedef uint32_t vp8_status;
 
 enum {

@@ -15,11 +15,11 @@ static inline uint32_t little_endian(const uint8_t *at)
 /* All bytes of a file, or NULL. They never are a null pointer, also where the file is empty. */
 static inline uint8_t *read_file(const char *path, size_t *len)
 {
+  *len = 0;
   FILE *file = fopen(path, "rb");
   if (!file) return NULL;
   size_t room = 1 << 16;
   uint8_t *bytes = malloc(room);
-  *len = 0;
   while (bytes) {
     size_t got = fread(bytes + *len, 1, room - *len, file);
     *len += got;
