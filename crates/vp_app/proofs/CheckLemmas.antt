@@ -4,7 +4,7 @@ use Rattle.std.specs.Prelude.{Result, Err, ◌&&◌, if◌then◌else◌}
 use Rattle.std.specs.List.{list_all}
 use Rattle.std.specs.Borrow.{Bor}
 use Rattle.std.specs.Io.KnownBytes.{Appends}
-use Rattle.std.proofs.lemmas.List.{append-nil, length-append, length-map, length-take, map-append, take_more, take-append-drop}
+use Rattle.std.proofs.lemmas.List.{append-nil, length-append, length-map, map-append, take_more, take-append-drop}
 use Rattle.std.proofs.lemmas.List.Folds.{list_all-append}
 use Rattle.clap.specs.Walk.{texts}
 use Rattle.vp_base.proofs.Writes.{appends_none, appends_both}
@@ -12,10 +12,9 @@ use Rattle.vp_stream.specs.declared.fault.DecodeFault.{DecodeFault}
 use Rattle.vp_stream.specs.declared.fault.DecodeFault.TheVariants.{Device, Memory}
 use Rattle.vp_args.specs.declared.file_limits.FileLimits.{FileLimits}
 use Rattle.vp_check.specs.declared.checked.Checked.{Checked}
-use Rattle.vp_check.specs.declared.checked.CheckedPacket.{CheckedPacket}
 use Rattle.vp_lines.specs.declared.styles.LineStyle.{LineStyle}
 use Rattle.vp_lines.specs.declared.counts.Counts.{Counts}
-use Rattle.vp_lines.specs.CheckLines.{both_counts, checks_text, counts_of, file_text, files_text, is_well, json_byte, json_text, packet_text, packet_texts, total_text, PacketForm, no_counts, total_from}
+use Rattle.vp_lines.specs.CheckLines.{both_counts, checks_text, counts_of, file_text, files_text, is_well, total_text, no_counts, total_from}
 use Rattle.vp_app.specs.Commands.{AreFilesChecked, ChecksFile, ChecksInput, PrintsChecks, Side, is_stream}
 use Rattle.vp_app.proofs.CommandLemmas.{over_file, over_stream, over_work, unopened}
 

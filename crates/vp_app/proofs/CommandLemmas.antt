@@ -14,11 +14,10 @@ use Rattle.vp_lines.specs.declared.styles.LineStyle.{LineStyle}
 use Rattle.vp_check.specs.declared.checked.Checked.{Checked}
 use Rattle.vp_app.specs.Serving.{IsServed}
 use Rattle.std.proofs.Common.{◌≡◌, ◌⊎◌, inl, inr, List, [], ◌∷◌, ℕ, Bool, true, false, refl, sym, subst}
-use Rattle.std.specs.Prelude.{Result, Err, IsOk, MatchBool, codes, length, is_err, is_ok, ◌^◌, ◌-◌}
-use Rattle.std.specs.Borrow.{Bor}
+use Rattle.std.specs.Prelude.{Result, Err, IsOk, MatchBool, length, is_err, is_ok, ◌^◌, ◌-◌}
 use Rattle.clap.specs.Kinds.{HasKind, IsAmong, Kinds}
 use Rattle.clap.specs.Values.{kind_of}
-use Rattle.clap.specs.Walk.{Text, one_of, texts}
+use Rattle.clap.specs.Walk.{Text}
 use Rattle.clap.specs.declared.error.Error.{Error}
 use Rattle.clap.specs.declared.error.kind.ErrorKind.TheVariants.{OutOfMemory}
 use Rattle.vp_stream.specs.declared.form.Form.{Form}
@@ -27,7 +26,6 @@ use Rattle.vp_frames.specs.declared.report.RangeReport.{RangeReport}
 use Rattle.vp_stream.specs.declared.outcomes.Survey.{Survey}
 use Rattle.vp_stream.specs.declared.fault.DecodeFault.{DecodeFault}
 use Rattle.vp_stream.specs.declared.fault.DecodeFault.TheVariants.{Device, Memory}
-use Rattle.vp_encode.specs.declared.settings.Settings.{Settings}
 use Rattle.vp_encode.specs.declared.report.EncodeReport.{EncodeReport}
 use Rattle.vp_encode.specs.declared.report.EncodeAllFault.{EncodeAllFault}
 use Rattle.vp_encode.specs.declared.report.EncodeAllFault.TheVariants as encode_fault
@@ -50,8 +48,8 @@ use Rattle.vp_app.specs.declared.picture.MadePicture.{MadePicture}
 use Rattle.vp_app.specs.declared.picture_fault.PictureFault.{PictureFault}
 use Rattle.vp_args.specs.declared.picture_args.PictureArgs.{PictureArgs}
 use Rattle.vp_app.specs.Many.{ServesMany, status_by_many}
-use Rattle.vp_args.specs.Args.{ParsedArgs, checks, decodes, decodes_range, encodes, tells, pictures, serves, serves_many, nothing, parsed_args, faults_of, IsForMemory, IsInvalidValue, IsTaskFor, IsMistake, IsRefusalFor, HasInvalidValue, AreMistaken, IsFlag}
-use Rattle.vp_app.specs.Commands.{DecodesFile, DecodesInto, DecodesRange, DecodesRangeInto, Does, EncodesFile, EncodesInto, IsFileDecoded, IsFileEncoded, IsFileRangeDecoded, IsUnbegun, IsUnopened, IsUsageFault, SurveysFile, SurveysInput, Over, ServesConnections, Side, PrintsSurvey, Encoding, encoding_of, is_stream, is_y4m, status_by_picture, status_by_range, status_by_report, status_by_service, IsMadeInput, DoesCheck, DoesDecode, DoesDecodeRange, DoesInfo}
+use Rattle.vp_args.specs.Args.{ParsedArgs, checks, decodes, decodes_range, encodes, tells, pictures, serves, serves_many, nothing, parsed_args, faults_of, IsForMemory, IsInvalidValue, IsTaskFor, IsMistake, IsRefusalFor, HasInvalidValue, AreMistaken}
+use Rattle.vp_app.specs.Commands.{DecodesFile, DecodesInto, DecodesRange, DecodesRangeInto, Does, EncodesFile, EncodesInto, IsFileDecoded, IsFileEncoded, IsFileRangeDecoded, IsUnbegun, IsUnopened, IsUsageFault, SurveysFile, SurveysInput, Over, ServesConnections, Side, PrintsSurvey, Encoding, encoding_of, is_stream, status_by_picture, status_by_range, status_by_report, status_by_service, IsMadeInput, DoesCheck, DoesDecode, DoesDecodeRange, DoesInfo}
 
 pub over_stream : (name : List ℕ) (Work : Side → Side → Type 0) (old new : Side) → is_stream name ≡ true → Work old new → Over name Work old new
 over_stream name Work old new e h =

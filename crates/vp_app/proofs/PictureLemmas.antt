@@ -1,5 +1,5 @@
 -- What `vp8 picture` makes of its input.
-use Rattle.std.proofs.Common.{◌≡◌, ◌⊎◌, inl, inr, List, ℕ, Bool, true, false, Option, refl, sym, subst, ◌++◌}
+use Rattle.std.proofs.Common.{◌≡◌, ◌⊎◌, inl, inr, List, ℕ, Bool, true, false}
 use Rattle.std.specs.Prelude.{Result, Ok, Err, IfOk, IfErr, MatchBool}
 use Rattle.vp_base.specs.declared.limits.Limits.{Limits}
 use Rattle.vp_scale.specs.Scale.{factor_of, scaled_side}
@@ -14,7 +14,7 @@ use Rattle.vp_app.specs.declared.picture_fault.PictureFault.{PictureFault}
 use Rattle.vp_app.specs.declared.picture_fault.PictureFault.TheVariants.{Find, TooLong, Device, ReadTurns, Memory}
 use Rattle.vp_app.specs.Usual.{AreLimitsOf}
 use Rattle.vp_app.specs.Commands.{IsFileRead, IsMadeInput, Over, Side, is_stream}
-use Rattle.vp_app.specs.Picturing.{is_told, is_foreign, IsPictureFile, IsUnmade}
+use Rattle.vp_app.specs.Picturing.{is_told, IsPictureFile, IsUnmade}
 use Rattle.vp_app.proofs.CommandLemmas.{over_file}
 
 -- of faults that tell nothing of the input's bytes nothing is said

@@ -1,5 +1,5 @@
 -- Pictures are written or summed up, and files are listed, as the flags say.
-use Rattle.std.proofs.Common.{◌≡◌, ◌⊎◌, ℕ, Bool, true, false, List, [], ◌∷◌, Option, inl, inr, refl, sym, subst, not-suc-le-zero}
+use Rattle.std.proofs.Common.{◌≡◌, ◌⊎◌, ℕ, Bool, true, false, List, [], ◌∷◌, inl, inr, refl, sym, subst, not-suc-le-zero}
 use Rattle.std.specs.Prelude.{Result, Err, MatchBool, length, slice_index_or, ◌<◌}
 use Rattle.std.specs.Borrow.{Bor}
 use Rattle.clap.specs.Walk.{texts}

@@ -1,8 +1,7 @@
-use Rattle.std.proofs.Common.{◌++◌, ◌≡◌, ◌∙◌, sym, subst, true, false, rules}
+use Rattle.std.proofs.Common.{sym, subst, rules}
 use Rattle.std.specs.Io.KnownBytes.{Consumes}
 use Rattle.std.proofs.KnownBytes.{Consumes-trans}
 use Rattle.vp_base.specs.Counted.{counted_remaining}
-use Rattle.vp_app.specs.Picturing.{is_foreign}
 use Rattle.vp_app.proofs.picture.read_file.Goals as goal
 use Rattle.vp_app.proofs.picture.read_file.Goals.{then-not-more-via-then-not-more, then-not-more-via-else-not-more+then-is_foreign}
 
