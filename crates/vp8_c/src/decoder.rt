@@ -8,7 +8,7 @@ ghost use Rattle.vp8_c.specs.Decoding.{Decodes, DecodesKeeping, IsFresh, IsNoLim
 ghost use Rattle.vp8_c.specs.Decoding.{TellsCorrupt, TellsFrame, corrupt_in, last_frame_in};
 ghost use Rattle.vp8_c.specs.Decoding.{reference_in, reference_size_in, shown_size_in};
 ghost use Rattle.vp8_c.specs.Packets.{corrupt_number_in};
-ghost use Rattle.vp8_c.specs.Lent.{Lends};
+ghost use Rattle.vp8_c.specs.Lent.{IsLayoutOf, Lends};
 
 use crate::decoder_handle::DecoderHandle;
 use crate::handle::Handle;
@@ -19,7 +19,7 @@ use crate::planes::{CallerPlanesMut, Strides};
 use crate::rows::{put_picture, put_size};
 use crate::status::{CLOSED, LIMITS, MEMORY, OK, OPEN};
 use std::alloc::Global;
-use vp_base::Limits;
+use vp_base::{Limits, Picture};
 use vp_decode::{Decoder, OnFault};
 
 /// Opens a decoder that refuses pictures of more than `max_pixels` pixels, from 1 to 268,402,689.
@@ -153,6 +153,14 @@ pub extern "C" fn vp8_decoder_copy(
     status
 }
 
+// Lends a picture where it lies in memory. It has no allocator, so it copies nothing.
+fn lend_picture(picture: &Picture) -> LentPicture
+    ensures { IsLayoutOf picture.now result }
+{
+    let (y, u, v) = (picture.plane(0), picture.plane(1), picture.plane(2));
+    LentPicture::at(picture, y.pixels(), u.pixels(), v.pixels())
+}
+
 /// Lends the picture that the last packet showed, without a copy. It is valid until the next call for this decoder.
 ///
 /// Status: `NO_PICTURE`, `CLOSED`.
@@ -170,7 +178,7 @@ pub extern "C" fn vp8_decoder_lend(
     };
     let status = match held.shown() {
         Ok(picture) => {
-            *lent = LentPicture::of(picture);
+            *lent = lend_picture(picture);
             OK
         }
         Err(why) => why,

@@ -53,16 +53,8 @@ impl LentPlane {
 }
 
 impl LentPicture {
-    /// Lends a picture where it lies in memory. Without an allocator it copies nothing.
-    pub fn of(picture: &Picture) -> LentPicture
-        ensures { IsLayoutOf picture.now result }
-    {
-        let (y, u, v) = (picture.plane(0), picture.plane(1), picture.plane(2));
-        LentPicture::at(picture, y.pixels(), u.pixels(), v.pixels())
-    }
-
-    /// Lends a picture, given the pixels of its planes where they lie in memory.
-    fn at(picture: &Picture, y: &[u8], u: &[u8], v: &[u8]) -> LentPicture
+    /// Lends a picture, given the pixels of its planes where they lie in memory. No other function makes addresses.
+    pub fn at(picture: &Picture, y: &[u8], u: &[u8], v: &[u8]) -> LentPicture
         requires pixels_of_y { y.now ≡ picture.now.luma.pixels }
         requires pixels_of_u { u.now ≡ picture.now.u.pixels }
         requires pixels_of_v { v.now ≡ picture.now.v.pixels }
