@@ -2,7 +2,7 @@
  *
  * Each function is a proved one of the Rattle libraries: it does what its comment says whatever the bytes are, reads
  * and writes only the memory that it is handed, always returns, and never ends the process. The contracts are in
- * crates/vp8_c/src.
+ * crates/vp8_c/src. Two things are tested and not proved: that free frees, and how long a lent picture stays.
  *
  * The caller must ensure:
  *   - No pointer is null, even if the length beside it is 0, and each points to as many bytes as its length says.
@@ -50,7 +50,7 @@ enum {
   VP8_START_CODE = 18,      /* a key packet without the start code 9d 01 2a */
   VP8_SIZE = 19,            /* a side of 0 */
   VP8_TOO_LARGE = 20,       /* more pixels than the decoder allows */
-  VP8_NO_REFERENCE = 21,    /* an inter packet where no key packet was decoded before, or a fault came since */
+  VP8_NO_REFERENCE = 21,    /* an inter packet without a key packet before it; decode: or a fault since */
   VP8_FIRST_PARTITION = 22, /* the first partition passes the end of the packet */
   VP8_PARTITION_TABLE = 23, /* the table of the token partitions' sizes passes the end */
   VP8_PARTITION = 256,      /* VP8_PARTITION + n: token partition n, from 0, is the first that passes the end */
