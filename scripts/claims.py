@@ -1,11 +1,12 @@
 #!/usr/bin/env python3
 """What the public contracts rest on, a door at a time: how many lines of definitions, in how many files of specs/.
 
-    claims.py [--door NAME [-v]] [--write]
+    claims.py [--door NAME [-v | --text]] [--write]
 
 Prints a table of the doors. `--door NAME` prints the functions of one door with their lines, and the files of its
-definitions in reading order, each with its number of reached lines and its first comment. `-v` adds the definitions.
-`--write` renews the table in CLAIMS.md.
+definitions in reading order, each with its number of reached lines and its first comment. `-v` adds their names.
+`--text` prints the definitions themselves in that order, with their comments, without what the door doesn't reach, and
+with the declarations of the types of Rust that they use. `--write` renews the table in CLAIMS.md.
 
 It fails if CLAIMS.md doesn't have the table, if a public contract reaches a file whose first comment begins with
 `Private to the crate`, if no public contract reaches a file without those words, if a law isn't exported, and if a
@@ -21,6 +22,7 @@ import pathlib
 import re
 import signal
 import sys
+import textwrap
 
 sys.dont_write_bytecode = True
 import sources
@@ -116,6 +118,18 @@ class Library:
                 print("      ", ", ".join(found[spec.path]))
         print("{} lines of definitions in {} files".format(*size(found)))
 
+    def print_text(self, found):
+        """Prints the definitions themselves, and before the first use of each type of Rust its declaration."""
+        declared = set()
+        for spec in (spec for crate in self.crates for spec in sources.specs(crate) if spec.path in found):
+            text = "\n\n".join(spec.text(found[spec.path]))
+            print(f"==== {spec.path}\n\n" + "\n".join(f"-- {line}" for line in textwrap.wrap(spec.comment, 117)))
+            for path, name, body in spec.declared(text):
+                if body and (path, name) not in declared:
+                    print(f"\n-- {name} of {path}", *(f"--   {line}" for line in body), sep="\n")
+                declared.add((path, name))
+            print(f"\n{text}\n")
+
 
 def size(found):
     """The number of lines, and of files."""
@@ -178,6 +192,7 @@ def main():
     parser = argparse.ArgumentParser(description=__doc__.split("\n")[0])
     parser.add_argument("--door", choices=DOORS)
     parser.add_argument("-v", action="store_true", help="name the definitions too")
+    parser.add_argument("--text", action="store_true", help="print the definitions themselves")
     parser.add_argument("--write", action="store_true", help=f"renew the table in {PAGE}")
     words = parser.parse_args()
     library, doors, wrong = Library(), {}, []
@@ -186,6 +201,9 @@ def main():
         wrong += [f"the door {name}: {entry} isn't exported" for entry in missing]
         if items:
             doors[name] = library.definitions(items)
+    if words.door and words.text:
+        library.print_text(doors.get(words.door, {}))
+        return 0
     if words.door:
         library.show(words.door, doors.get(words.door, {}), words.v)
         return 0

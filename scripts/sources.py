@@ -11,6 +11,8 @@ from dataclasses import dataclass, field
 WORD = re.compile(r"(?:([^\W\d]\w*)\.)?([^\W\d][\w'-]*)")
 USE = re.compile(r"use Rattle\.([\w.]+?)(?:\.\{([^}]*)\})?(?: as (\w+))?;?$")
 HEAD = re.compile(r"(?:(?:abbrev|unfoldable) )?(?:pub )?(?:record |data )?(◌[^\s]*◌|[^\W\d][\w'-]*)[ :(]")
+INFIX = re.compile(r".* >>= \w+ = ")  # an equation of an operator begins with its left argument
+DECLARED = re.compile(r"use Rattle\.(\w+)\.specs\.declared\.([\w.]+)\.(\w+)\.\{\3")
 FUNCTION = re.compile(r'( *)(pub(?:\(\w+\))? )?(?:const |unsafe )*(extern "C" )?fn (\w+)')
 CLAUSE = re.compile(r"(requires|ensures)\*?(?: (\w+))? \{(.*)", re.S)
 
@@ -95,7 +97,7 @@ class Spec:
                 continue
             else:
                 head = None if line.startswith(" ") else HEAD.match(line)
-                if head and (" : " in line or head[1] not in self.blocks):
+                if head and (" : " in line or head[1] not in self.blocks and not INFIX.match(line)):
                     name, block = head[1], self.blocks.setdefault(head[1], [])
                 if block is not None:
                     block.append(line)
@@ -114,6 +116,23 @@ class Spec:
     def is_inside(self):
         return self.comment.startswith("Private to the crate")
 
+    def text(self, names):
+        """The definitions of these names, with the comments and the heading above each, in the file's order."""
+        heading = []
+        for part in "\n".join(self.lines).strip().split("\n\n")[1:]:
+            heads = {head[1] for head in map(HEAD.match, part.split("\n")) if head}
+            heading = [part] if part.startswith("-- ----") and not heads else heading
+            if heads & set(names):
+                yield "\n\n".join([*heading, part])
+                heading = []
+
+    def declared(self, text):
+        """The types of Rust that a text of this file names, each with its file and its declaration there."""
+        for crate, module, name in DECLARED.findall("\n".join(self.lines)):
+            path = pathlib.Path(f"crates/{crate}/src/{module.replace('.', '/')}.rt")
+            if path.is_file() and re.search(rf"\b{name}\b", text):
+                yield path, name, declaration(path.read_text().split("\n"), name)
+
     def uses(self, name):
         """The definitions that one definition names, in this file and in others."""
         text = "\n".join(self.blocks[name])
@@ -122,6 +141,16 @@ class Spec:
             words.add("◌>>=◌")
         own = {self.owners.get(word, word) for word in words} & set(self.blocks)
         return {(self.path, word) for word in own - {name}} | set(self.imports.resolve(text))
+
+
+def declaration(lines, name):
+    """The lines that declare a type of Rust, with the comments above it."""
+    at = next((k for k, line in enumerate(lines) if re.match(rf"pub(\(crate\))? (struct|enum) {name}\b", line)), None)
+    if at is None:
+        return []
+    first = next(k for k in range(at, -1, -1) if k == 0 or not lines[k - 1].startswith(("///", "#[")))
+    last = next(k for k in range(at, len(lines)) if lines[k] == "}" or lines[k].endswith((";", "{}")))
+    return [line for line in lines[first : last + 1] if not line.startswith("#[")]
 
 
 def specs(crate):

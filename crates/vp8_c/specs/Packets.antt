@@ -1,5 +1,5 @@
--- What the first bytes of a packet say (RFC 6386, chapter 9.1), and facts about the last frame, as numbers. Pinned by the
--- tests `packets_are_peeked` and `facts_of_frames_are_written`.
+-- What the first bytes of a packet say (RFC 6386, chapter 9.1), and facts about the last frame, as numbers. Pinned by
+-- the tests `packets_are_peeked` and `facts_of_frames_are_written`.
 use Rattle.std.specs.Prelude.{ℕ, Bool, true, false, List, Option, Some, None, Result, Ok, Err, is_some, ok_or, option_map}
 use Rattle.vp_base.specs.declared.limits.Limits.{Limits}
 use Rattle.vp_head.specs.declared.fields.KeyTag.{KeyTag}

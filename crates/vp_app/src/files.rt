@@ -41,8 +41,8 @@ pub fn limits_of(most: FileLimits) -> Limits
     }
 }
 
-/// Finishes the file of decoded pictures, if the exit status will be 0: an old file to which no byte was written is then
-/// emptied. Else it stays as it is.
+/// Finishes the file of decoded pictures, if the exit status will be 0: an old file to which no byte was written is
+/// then emptied. Else it stays as it is.
 pub(crate) fn finish_pictures<F: OpenFile>(
     done: &Result<Report, DecodeFault>,
     file: &mut Witness<Overwrite<F>>,

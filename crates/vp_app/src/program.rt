@@ -76,8 +76,9 @@ use vp_stream::{DecodeFault, Form, Report, Survey, SurveyFault, decode_all, surv
 /// packets, and its fault. With `--verbose` a line comes before these for each packet that has a fault or is read past
 /// its end. The status is 1 if anything is wrong. A file that can't be opened does not stop the others.
 ///
-/// `vp8 picture IN OUT` writes the first shown picture of an IVF or WebP file, or with `--packet N` that of packet N, as
-/// WebP, YUV4MPEG2, I420 or PPM by OUT's name, with `--scale K` made smaller. OUT is created once the picture is made.
+/// `vp8 picture IN OUT` writes the first shown picture of an IVF or WebP file, or with `--packet N` that of packet N,
+/// as WebP, YUV4MPEG2, I420 or PPM by OUT's name, with `--scale K` made smaller. OUT is created once the picture is
+/// made.
 ///
 /// `vp8 serve --listen ADDR --connections N NAME=FILE...` serves the pictures of files over HTTP, and ends after N
 /// connections. The fault of a connection is printed, and the next one is served.

@@ -17,7 +17,7 @@ pub record Has {A : Type 0} (g : Grid A) (p : Place) : Type 0 where
   pub column : p.column < g.columns
   pub row : p.row < g.rows
 
--- the entry at a place; None outside the grid
+-- the entry at a place; None outside the grid: past the last row the list has no entry
 unfoldable pub entry : {A : Type 0} → Grid A → Place → Option A
 entry g p = if nat_lt p.column g.columns then slice_get g.entries (p.row * g.columns + p.column) else None
 

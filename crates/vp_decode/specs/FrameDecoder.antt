@@ -1,5 +1,5 @@
--- Private to the crate: a macroblock that is looked up; a frame whose rows are being rebuilt; how one macroblock and one
--- row change it; the state after a number of rows.
+-- Private to the crate: a macroblock that is looked up; a frame whose rows are being rebuilt; how one macroblock and
+-- one row change it; the state after a number of rows.
 use Rattle.std.specs.Prelude.{◌≡◌, ◌≢◌, ◌<◌, ℕ, List, Some, length}
 use Rattle.vp_bool.specs.Bools.{State}
 use Rattle.vp_base.specs.declared.place.Place.{Place}

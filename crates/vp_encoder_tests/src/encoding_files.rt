@@ -224,8 +224,8 @@ fn packet_size(file: &[u8], place: usize) -> Option<usize> {
     }
 }
 
-/// Returns whether this is how much is encoded with the first packet of a file, with the first two, .. with all of them,
-/// each without an error.
+/// Returns whether this is how much is encoded with the first packet of a file, with the first two, .. with all of
+/// them, each without an error.
 pub(crate) fn are_steps_of(steps: &[EncodedSoFar], file: &[u8]) -> bool {
     let (mut frames, mut bytes, mut place) = (0u32, 0u64, 32usize);
     for step in steps {

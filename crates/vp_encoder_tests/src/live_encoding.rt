@@ -1,5 +1,5 @@
-//! Tests of live encoding: the output, and what a source or a writer that fails leaves. Heads, sizes and times are worked
-//! by hand from the format; flat pictures are encoded without loss at the best quality, so that they decode to
+//! Tests of live encoding: the output, and what a source or a writer that fails leaves. Heads, sizes and times are
+//! worked by hand from the format; flat pictures are encoded without loss at the best quality, so that they decode to
 //! themselves.
 
 use crate::check::equal;

@@ -24,6 +24,7 @@ use Rattle.vp_head.specs.declared.rows.Refreshes.{Refreshes}
 -- ---- segmentation (chapter 9.3); without an update the saved values stay in force; in an update, a value whose flag
 -- isn't set is 0
 
+-- `segment_feature_mode` (1 is absolute), four times `quantizer_update_value`, four times `lf_update_value`
 unfoldable pub segment_values : Reader SegmentValues
 segment_values = do
   absolute ← flag
@@ -31,9 +32,11 @@ segment_values = do
   levels ← four (optional_signed 6 (pos 0))
   give (record { absolute = absolute; quantisers = quantisers; levels = levels })
 
+-- three times `segment_prob`
 unfoldable pub tree_probabilities : Reader (List ℕ)
 tree_probabilities = three (renewed 128 255)
 
+-- `segmentation_enabled`, `update_mb_segmentation_map`, `update_segment_feature_data`
 unfoldable pub segmentation : SegmentValues → Reader Segmentation
 segmentation kept = do
   enabled ← flag
@@ -45,6 +48,7 @@ segmentation kept = do
 
 -- ---- loop filter (chapter 9.4)
 
+-- `filter_type` (1 is simple), `loop_filter_level`, `sharpness_level`
 unfoldable pub filter : Reader Filter
 filter = do
   simple ← flag
@@ -52,14 +56,15 @@ filter = do
   sharpness ← literal 3
   give (record { simple = simple; level = level; sharpness = sharpness })
 
--- the updates of the filter level deltas
+-- the updates of the filter level deltas, by reference frame (`ref_frame_delta_update_flag`) and by mode
+-- (`mb_mode_delta_update_flag`)
 abbrev pub all_deltas : LevelDeltas → Reader LevelDeltas
 all_deltas kept = do
   reference ← four_signed 6 kept.reference
   mode ← four_signed 6 kept.mode
   give (record { reference = reference; mode = mode })
 
--- whether the filter level deltas apply, and their values
+-- whether the filter level deltas apply (`loop_filter_adj_enable`), and their values (`mode_ref_lf_delta_update`)
 unfoldable pub level_deltas : LevelDeltas → Reader (Bool × LevelDeltas)
 level_deltas kept = do
   enabled ← flag
@@ -69,6 +74,7 @@ level_deltas kept = do
 
 -- ---- quantiser indices (chapter 9.6)
 
+-- `y_ac_qi`, and the differences from it (`y_dc_delta`, `y2_dc_delta`, `y2_ac_delta`, `uv_dc_delta`, `uv_ac_delta`)
 unfoldable pub quantiser_indices : Reader QuantiserIndices
 quantiser_indices = do
   y_ac ← literal 7
@@ -81,20 +87,21 @@ quantiser_indices = do
 
 -- ---- reference updates (chapters 9.7, 9.8, 19.2); a key frame refreshes all references and sets no sign bias
 
--- the reference that a code of two bits copies
+-- the reference that a code of two bits copies: 1 is last, and 2 is the other one of golden and altref
 abbrev pub copy_of : ℕ → ReferenceCopy
 copy_of zero = Nothing
 copy_of (suc zero) = Last
 copy_of (suc (suc zero)) = Other
 copy_of (suc (suc (suc n))) = Unused
 
--- the reference that is copied
+-- `copy_buffer_to_golden`, `copy_buffer_to_alternate`
 unfoldable pub copy : Reader ReferenceCopy
 copy = do
   number ← literal 2
   give (copy_of number)
 
--- the updates of reference frames, sign biases and probabilities
+-- the updates of reference frames, sign biases and probabilities: `refresh_golden_frame`, `refresh_alternate_frame`,
+-- the copies, `sign_bias_golden`, `sign_bias_alternate`, `refresh_entropy_probs`, `refresh_last`
 unfoldable pub refreshes : Bool → SignBiases → Reader Refreshes
 refreshes key kept = do
   refresh_golden ← when (not key) flag true
@@ -121,7 +128,8 @@ refreshes key kept = do
 
 -- ---- skipping (chapters 9.10, 9.11)
 
--- the probability that a macroblock is not skipped; None if skipping is not coded
+-- the probability that a macroblock is not skipped (`prob_skip_false`); None if skipping is not coded
+-- (`mb_no_coeff_skip`)
 unfoldable pub skip : Reader (Option ℕ)
 skip = do
   coded ← flag
@@ -129,7 +137,7 @@ skip = do
 
 -- ---- probabilities of inter frames (chapters 9.10, 16.1, 17.2)
 
--- the probabilities of a macroblock's reference frame
+-- the probabilities of a macroblock's reference frame: `prob_intra`, `prob_last`, `prob_gf`
 unfoldable pub reference_probabilities : Reader ReferenceProbabilities
 reference_probabilities = do
   intra ← literal 8
@@ -142,7 +150,8 @@ no_references = record { intra = 0; last = 0; golden = 0 }
 
 -- ---- the whole header; fields that its kind of frame doesn't code are 0
 
--- the header of a key frame or inter frame, against the saved state
+-- The header of a key frame or inter frame, against the saved state. Decoding does not depend on the color space and
+-- the clamping type: sums are always clamped.
 unfoldable pub frame : Bool → Saved → Reader Header
 frame key kept = do
   color_space ← when key flag false

@@ -7,8 +7,8 @@ use Rattle.vp_head.specs.Rows.{flag, renewed, three, four}
 use Rattle.vp_tables.specs.Tables.{coefficient_updates}
 use Rattle.vp_tables.specs.declared.mode_probabilities.TheConstants.{VECTOR_UPDATES}
 
--- ---- coefficients: each has a flag, whose probability is in the table at the same block type, band, context and
--- entry
+-- ---- coefficients (`coeff_prob_update_flag`, `coeff_prob`): each has a flag, whose probability is in the table at the
+-- same block type, band, context and entry
 
 -- the update of probability i of a context
 abbrev pub entry_at : List ℕ → ℕ → ℕ → Reader ℕ
@@ -44,18 +44,20 @@ token_probability_updates = each [] 4 (type_at coefficient_updates)
 
 -- ---- modes: one flag, and if it is set all probabilities of the mode
 
+-- `intra_16x16_prob_update_flag`, `intra_16x16_prob`
 unfoldable pub luma_mode_probabilities : List ℕ → Reader (List ℕ)
 luma_mode_probabilities old = do
   set ← flag
   when set (four (literal 8)) old
 
+-- `intra_chroma_prob_update_flag`, `intra_chroma_prob`
 unfoldable pub chroma : List ℕ → Reader (List ℕ)
 chroma old = do
   set ← flag
   when set (three (literal 8)) old
 
--- ---- motion vectors: each has a flag, whose probability is in the table; the value is twice the seven coded bits, or
--- 1 for 0
+-- ---- motion vectors (`mv_prob_update_flag`, `prob`): each has a flag, whose probability is in the table; the value is
+-- twice the seven coded bits, or 1 for 0
 
 -- a new motion vector probability
 abbrev pub seven_bits : Reader ℕ

@@ -4,11 +4,11 @@ use Rattle.std.specs.Prelude.{ℕ, ℤ, pos, neg_ℤ, Bool, List, [], ◌∷◌,
 use Rattle.vp_bool.specs.Bools.{read, literal}
 use Rattle.vp_bool.specs.Reader.{Reader, ◌>>=◌, give, when}
 
--- one bool of probability 128
+-- one bool of probability 128 (`L(1)`)
 abbrev pub flag : Reader Bool
 flag = read 128
 
--- a number of n bits and its sign, 1 for minus
+-- a signed number: its magnitude of n bits, then its sign, 1 for minus
 unfoldable pub magnitude : ℕ → Reader ℤ
 magnitude n = do
   value ← literal n

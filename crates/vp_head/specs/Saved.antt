@@ -7,6 +7,7 @@ use Rattle.vp_tables.specs.Tables.{coefficient_probabilities}
 use Rattle.vp_tables.specs.declared.mode_probabilities.TheConstants.{LUMA_PROBABILITIES, CHROMA_PROBABILITIES}
 use Rattle.vp_tables.specs.declared.mode_probabilities.TheConstants.{VECTOR_PROBABILITIES}
 
+-- four values or deltas of 0
 abbrev pub four_zeros : List ℤ
 four_zeros = pos 0 ∷ pos 0 ∷ pos 0 ∷ pos 0 ∷ []
 

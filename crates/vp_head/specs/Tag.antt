@@ -22,10 +22,11 @@ word_at i packet = slice_index packet i + 256 * slice_index packet (i + 1)
 abbrev pub tag_word : List ℕ → ℕ
 tag_word packet = word_at 0 packet + 65536 * slice_index packet 2
 
+-- `start_code`
 abbrev pub has_start_code : List ℕ → Bool
 has_start_code packet = slice_index packet 3 == 0x9d && slice_index packet 4 == 0x01 && slice_index packet 5 == 0x2a
 
--- the size of two sides of at most 14 bits; None if one is 0
+-- the size of two sides of at most 14 bits; None if one is 0 (p and q are proofs of the range, which `Dim` has too)
 abbrev pub dim_of : (w h : ℕ) → w ≤ 16383 → h ≤ 16383 → Option Dim
 dim_of zero h p q = None
 dim_of (suc w) zero p q = None
@@ -41,7 +42,7 @@ abbrev pub tag_dim : ℕ → ℕ → Option Dim
 tag_dim width height = dim_of (bit_field 0 14 width) (bit_field 0 14 height) (is_below_16384 width)
     (is_below_16384 height)
 
--- the size, and the upscaling codes in the top two bits of both words
+-- the size, and the upscaling codes in the top two bits of both words (`horizontal_size_code`, `vertical_size_code`)
 abbrev pub key_with : ℕ → ℕ → Result Dim PacketFault → Result KeyTag PacketFault
 key_with width height (Err fault) = Err fault
 key_with width height (Ok dim) = Ok (record {
@@ -58,7 +59,7 @@ key_of limits packet =
     (dim_within_limits limits (tag_dim (word_at 6 packet) (word_at 8 packet)))
     else Err StartCode
 
--- the tag of the first three bytes' number, with these key fields
+-- the tag of the first three bytes' number, with these key fields: `version`, `show_frame`, `first_part_size`
 abbrev pub tag_with : ℕ → Option KeyTag → Tag
 tag_with word key = record {
   version = bit_field 1 3 word;
@@ -72,7 +73,8 @@ abbrev pub tag_with_key : ℕ → Result KeyTag PacketFault → Result Tag Packe
 tag_with_key word (Err fault) = Err fault
 tag_with_key word (Ok key) = Ok (tag_with word (Some key))
 
--- the tag of the first three bytes' number; its bit 0 is 0 in a key packet
+-- the tag of the first three bytes' number; its bit 0 (`key_frame`) is 0 in a key packet, that is, of a keyframe;
+-- versions above 3 are reserved
 unfoldable pub tag_of_word : Limits → ℕ → List ℕ → Result Tag PacketFault
 tag_of_word limits word packet =
     if nat_lt 3 (bit_field 1 3 word) then Err Version

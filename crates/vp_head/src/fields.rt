@@ -202,8 +202,8 @@ pub struct Header {
     pub refresh_entropy: bool,
     /// The probabilities in force for this frame.
     pub probabilities: Probabilities,
-    /// The probability that a macroblock is not skipped (`prob_skip_false`). None if skipping is not coded: then none is
-    /// skipped.
+    /// The probability that a macroblock is not skipped (`prob_skip_false`). None if skipping is not coded: then none
+    /// is skipped.
     pub skip: Option<u8>,
     /// The probabilities of reference frames; all 0 for a key frame.
     pub references: ReferenceProbabilities,

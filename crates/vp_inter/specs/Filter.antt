@@ -1,5 +1,5 @@
--- The six-tap and bilinear interpolation filters, by version and eighths of a pixel (RFC 6386, chapter 18.3). Pinned by
--- the test `kernel_examples`, and the table of vp_tables.
+-- The six-tap and bilinear interpolation filters, by version and eighths of a pixel (subpixel, subpel; RFC 6386,
+-- chapter 18.3). Pinned by the test `kernel_examples`, and the table of vp_tables.
 use Rattle.std.specs.Prelude.{ℕ, ℤ, pos, ◌-◌, ◌*◌, ◌+ℤ◌, ◌*ℤ◌, ◌==◌, List, [], ◌∷◌, slice_index_or, unsigned_abs}
 use Rattle.std.specs.Prelude.{if◌then◌else◌}
 use Rattle.std.specs.Int.{int_min, int_max}

@@ -26,7 +26,8 @@ horizontal_pass weights p left top i c = filter_six weights (λ k. reference_pix
     (top +ℤ pos i))
 
 -- The predicted pixel at row r and column c of the block at column x of row y, displaced by vector v. It is the
--- vertical pass over six rows of the horizontal pass.
+-- vertical pass over six rows of the horizontal pass. At a fraction of 0 the weights are 0 0 128 0 0 0, and a pass
+-- changes nothing.
 unfoldable pub inter_pixel : ℕ → Raster → ℕ → ℕ → PlaneVector → ℕ → ℕ → ℕ
 inter_pixel version p x y v r c =
     filter_six (taps version (fraction v.row))

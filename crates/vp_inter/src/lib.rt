@@ -1,5 +1,5 @@
-//! Inter prediction: blocks of a reference frame, displaced by a motion vector (RFC 6386, chapter 18). Its fraction of a
-//! pixel (subpixel, subpel) is interpolated.
+//! Inter prediction: blocks of a reference frame, displaced by a motion vector (RFC 6386, chapter 18). Its fraction of
+//! a pixel (subpixel, subpel) is interpolated.
 #![tactic(auto)]
 
 mod block;

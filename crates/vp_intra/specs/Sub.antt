@@ -13,7 +13,8 @@ use Rattle.vp_intra.specs.Edges.{above_pixel, left_pixel, corner_pixel, clamped_
 unfoldable pub above_right_row : ℕ → ℕ → ℕ
 above_right_row x y = if x % 16 == 12 then y - y % 16 else y
 
--- pixel i of those above and to the right; above the frame it is 127; past the last column the last pixel is repeated
+-- pixel i of those above and to the right; above the frame it is 127; past the last column the last pixel is repeated,
+-- which the standard leaves open
 unfoldable pub above_right_pixel : Raster → ℕ → ℕ → ℕ → ℕ
 above_right_pixel p x y i = if above_right_row x y == 0 then 127 else pixel p (min (x + 4 + i) (p.width - 1))
     (above_right_row x y - 1)

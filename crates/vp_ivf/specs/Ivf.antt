@@ -19,7 +19,7 @@ pub record Contents : Type 0 where
   pub fault : Option FileFault
   pub rest : List ℕ
 
--- the fields of the 32 bytes of the file header
+-- the fields of the 32 bytes of the file header; its version, its length and its number of packets are not used
 abbrev pub parsed_ivf_head : List ℕ → IvfHead
 parsed_ivf_head b = record {
   w = little_number 2 (drop 12 b);

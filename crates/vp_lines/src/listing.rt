@@ -81,8 +81,8 @@ fn put_packets<W: Write>(
     Ok(())
 }
 
-// Writes the lines of `count` packets, from packet `first` on. They are gathered in `text`. If memory for that is refused,
-// they are written one by one.
+// Writes the lines of `count` packets, from packet `first` on. They are gathered in `text`. If memory for that is
+// refused, they are written one by one.
 fn put_lines<W: Write>(
     packets: &[(usize, Outcome)],
     first: usize,
@@ -178,8 +178,8 @@ pub fn print_faults<E: Write>(
     well
 }
 
-// Writes the lines of faulty packets, as `print_faults` does. They are gathered in `text`. If memory for that is refused,
-// they are written one by one.
+// Writes the lines of faulty packets, as `print_faults` does. They are gathered in `text`. If memory for that is
+// refused, they are written one by one.
 fn put_faults<E: Write>(
     faults: &[(u32, PacketFault)],
     text: &mut Vec<u8>,

@@ -1,5 +1,5 @@
--- The statements of the laws of live files: how they relate to what `encode_all` writes and returns, and what they show.
--- Pinned by the test `live_file_of_two_frames`.
+-- The statements of the laws of live files: how they relate to what `encode_all` writes and returns, and what they
+-- show. Pinned by the test `live_file_of_two_frames`.
 use Rattle.std.specs.Prelude.{◌≡◌, ◌≢◌, ℕ, List, [], Option, None, Some, Ok, take, drop, map}
 use Rattle.vp_base.specs.declared.limits.Limits.{Limits}
 use Rattle.vp_ivf.specs.Ivf.{Contents, read_file}

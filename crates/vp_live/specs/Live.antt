@@ -1,5 +1,5 @@
--- Live encoding: what is written while a source is read, and the results. Pinned by the tests `live_file_of_two_frames`,
--- `torn_source_leaves_its_frames` and `live_write_fails`.
+-- Live encoding: what is written while a source is read, and the results. Pinned by the tests
+-- `live_file_of_two_frames`, `torn_source_leaves_its_frames` and `live_write_fails`.
 use Rattle.std.specs.Prelude.{◌≡◌, ◌≢◌, ◌≤◌, ◌<◌, ◌⊎◌, ℕ, List, [], Option, Result, Ok, Err, IfOk, OnOk, length}
 use Rattle.std.specs.Prelude.{map}
 use Rattle.std.specs.List.{enumerate_from}
@@ -70,7 +70,8 @@ pub record IsNextFrame (limits : Limits) (w : Work) (f : EncodedFrame) : Type 0 
   pub small : length f.packet ≤ limits.packet_bytes
   pub encoded : IsEncoded w.encoder f next
 
--- a write failed in the file's head, or in the packet after these pictures: all before it is written, and a prefix of it
+-- a write failed in the file's head, or in the packet after these pictures: all before it is written, and a prefix of
+-- it
 abbrev pub IsCutShort : ℕ → Limits → Settings → List ℕ → Option (List ℕ) → Option (List ℕ) → Type 0
 IsCutShort pictures limits settings file before after =
     ((w : Work) × HasDone pictures limits settings file w × (pictures ≡ 0) × AppendsPrefix before after (live_file w))
@@ -109,9 +110,9 @@ IsLiveAnswer pictures limits settings (Err f) file before after = IsLiveEnded pi
 
 -- ---- the whole work, from a reader to a writer
 
--- The result of live encoding, if the reader's and the writer's bytes are known. The progress callback receives how much
--- is encoded with the first picture, with the first two, .. up to all pictures whose packets are written; their report
--- is returned.
+-- The result of live encoding, if the reader's and the writer's bytes are known. The progress callback receives how
+-- much is encoded with the first picture, with the first two, .. up to all pictures whose packets are written; their
+-- report is returned.
 pub record IsLiveOver {R W : Type 0} (remaining : R → Option (List ℕ)) (contents : W → Option (List ℕ))
     (limits : Limits) (settings : Settings) (result : Result EncodeReport EncodeAllFault) (reader reader' : Counted R)
     (writer writer' : Counted W) (told told' : List EncodedSoFar → Type 0) : Type 0 where

@@ -73,7 +73,9 @@ unfoldable pub edge_lines : Orientation → LineStep → ℕ → ℕ → ℕ →
 edge_lines vertical step n x y p = over n (λ j. line_step vertical step x (y + j)) p
 edge_lines horizontal step n x y p = over n (λ j. line_step horizontal step (x + j) y) p
 
--- the limits of a macroblock's edges, unless it isn't filtered; a 0 in a level means more than a number only here
+-- The limits of a macroblock's edges. Here alone a 0 among the numbers of a level has a meaning of its own: as an edge
+-- limit, that the macroblock isn't filtered; as an interior limit, the simple filter; as an inner limit, that the edges
+-- inside aren't filtered.
 abbrev pub edge_limits : Level → Option EdgeLimits
 edge_limits level =
     if level.edge == 0 then None

@@ -29,29 +29,30 @@ use Rattle.vp_modes.specs.Map.{context_above, context_left}
 unfoldable pub segment_id : List ℕ → Reader ℕ
 segment_id probabilities = walk_from 0 SEGMENT_TREE probabilities 0
 
--- The segment is read if the map is updated. Otherwise it is 0 in a key frame, and unchanged in an inter frame.
+-- The segment (`segment_id`) is read if the map is updated. Otherwise it is 0 in a key frame, and unchanged in an inter
+-- frame.
 unfoldable pub segment_of : Header → ℕ → Reader ℕ
 segment_of h kept = when h.segmentation.update_map (segment_id h.segmentation.tree_probabilities)
     (if h.key then 0 else kept)
 
--- whether the macroblock has no tokens (chapter 11.1)
+-- whether the macroblock has no tokens (`mb_skip_coeff`, chapter 11.1)
 abbrev pub skip_by : Option ℕ → Reader Bool
 skip_by (Some p) = read p
 skip_by None = give false
 
--- golden or altref
+-- golden or altref (`mb_ref_frame_sel2`)
 abbrev pub far_reference : ReferenceProbabilities → Reader Reference
 far_reference p = do
   alt ← read p.golden
   give (if alt then reference_is.Alt else reference_is.Golden)
 
--- the reference frame of an inter macroblock: last, golden or altref (chapter 16.2)
+-- the reference frame of an inter macroblock: last, golden or altref (`mb_ref_frame_sel1`, chapter 16.2)
 unfoldable pub inter_reference : ReferenceProbabilities → Reader Reference
 inter_reference p = do
   far ← read p.last
   when far (far_reference p) reference_is.Last
 
--- the reference frame; in a key frame it is intra
+-- the reference frame (`is_inter_mb`); in a key frame it is intra
 unfoldable pub reference_of : Header → Reader Reference
 reference_of h = do
   inter ← when (not h.key) (read h.references.intra) false
@@ -111,7 +112,7 @@ unread segment skip reference = record {
 }
 
 -- the header of the macroblock at p; g contains the modes of this frame's earlier macroblocks, and at p those of the
--- previous frame
+-- previous frame, of which the segment alone is used
 unfoldable pub modes_at : Header → Grid Modes → Place → Reader Modes
 modes_at h g p = do
   segment ← segment_of h (at plain g p).segment

@@ -163,7 +163,7 @@ example_grid = record {
       ∷ inter example_vector ∷ intra ∷ intra ∷ intra ∷ intra ∷ intra ∷ [];
 }
 
--- ---- The tally that the code keeps of the neighbours
+-- ---- The tally that the code keeps of the neighbours: for its contracts, not for the candidates
 
 -- the entries es with w added: if it equals the last one, their weights are added
 unfoldable pub joined : List Weighted → Weighted → List Weighted

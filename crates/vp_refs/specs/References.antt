@@ -38,7 +38,8 @@ copied_by Last last other own = last
 copied_by Other last other own = other
 copied_by Unused last other own = own
 
--- Copies precede refreshes. The copy to altref precedes the copy to golden, which uses the new altref.
+-- Copies precede refreshes. The copy to altref precedes the copy to golden, which uses the new altref; the standard
+-- leaves their order open.
 abbrev pub with_copies : ReferenceUpdates → References → References
 with_copies updates refs =
     let alt : Image = copied_by updates.copy_to_alt refs.last refs.golden refs.alt in

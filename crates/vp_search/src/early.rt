@@ -7,8 +7,8 @@ ghost use Rattle.vp_search.specs.Window.{first_rows, all_rows};
 use crate::difference::{first_rows, sad_within};
 use crate::window::WINDOW_WIDTH;
 
-/// Two blocks of a row of a window, of which the second begins a pixel behind the first: how many pairs stand before
-/// them, and the sums of absolute differences of their first four rows.
+/// Two blocks of a row of a window, of which the second begins a pixel after the first: how many pairs are before them,
+/// and the sums of absolute differences of their first four rows.
 #[derive(Clone, Copy)]
 pub(crate) struct Pair {
     pub(crate) number: usize,
@@ -18,8 +18,8 @@ pub(crate) struct Pair {
 
 /// The first of the pairs from number `from` to `end`, without `end`, of a row that begins at index `begin`, of which a
 /// block differs by at most `limit` in its first four rows. Both are compared before a jump, as most differ by more: a
-/// jump for each costs up to a third more time. Where the next pair stands does not come out of a comparison, so that
-/// the processor can begin with it before.
+/// jump for each costs up to a third more time. The place of the next pair does not depend on a comparison, so that the
+/// processor can begin with it before.
 pub(crate) fn next_pair(
     block: &[u8],
     window: &[u8],

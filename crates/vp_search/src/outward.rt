@@ -372,7 +372,7 @@ fn consider_next(
     }
 }
 
-/// The zero vector, whose block stands at the centre of the window, with its cost.
+/// The zero vector, whose block is at the centre of the window, with its cost.
 pub(crate) fn centre_of(block: &[u8], window: &[u8], range: u8) -> Found
     requires search { IsSearchable block.now window.now range }
     ensures near { IsNear range result.vector }

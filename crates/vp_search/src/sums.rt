@@ -163,7 +163,7 @@ fn put_squares(sums: &mut [u16], coarse: &mut [u8], at: usize, columns: &[u16], 
 }
 
 /// Writes the sums of the squares of a window that a search compares, and their coarse sums if there are any, from
-/// column `first` on. Those before stand already.
+/// column `first` on. Those before it are already there.
 pub(crate) fn fill_sums(sums: &mut [u16], coarse: &mut [u8], window: &[u8], range: u8, first: usize)
     requires range { range ≤ 64 }
     requires room { (2 * range + 16) * WINDOW_WIDTH ≤ length sums.old }

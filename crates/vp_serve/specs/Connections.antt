@@ -28,7 +28,7 @@ after_outcome (Ok r) rest now t = after_reply r.bytes r.close now (record t { un
 after_outcome (Err f) rest now t = record t { unsubmitted = rest; unsent = []; closing = true; fault = Some f }
 
 -- A reply is written before anything else. Then the connection is closed, if that reply closes it. Then the bytes that
--- were read are handed to the hub. Only after all of them more is read
+-- were read are handed to the hub. Only after all of them more is read (back-pressure)
 abbrev pub next_action : Connection → NextAction
 next_action t =
     if is_nil t.unsent then (if t.closing then Close else (if is_nil t.unsubmitted then Receive else Submit)) else Send

@@ -200,8 +200,8 @@ fn encoded(
     Ok((still.coding, shown.pixels.as_slice() == pixels))
 }
 
-// The pixels are those that dwebp shows of the file, and the distance is theirs from the means of the picture that dwebp
-// shows of SMALL_FILE.
+// The pixels are those that dwebp shows of the file, and the distance is theirs from the means of the picture that
+// dwebp shows of SMALL_FILE.
 #[test]
 fn smaller_picture_is_encoded(rt: HostRuntime) -> Result<(), Fail> {
     let pixels = [75, 145, 184, 135, 129, 178, 116, 158, 131, 30];

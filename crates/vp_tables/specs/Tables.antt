@@ -1,5 +1,6 @@
--- The entries of the constant tables, by index (RFC 6386, chapters 11.5, 13.2 to 13.5, 14.1 and 18.3). Pinned by
--- `scripts/compare_tables.py`, which compares every number with a transcription of the standard's.
+-- The entries of the constant tables, by index (RFC 6386, chapters 11.5, 13.2 to 13.5, 14.1 and 18.3). Names in
+-- capitals are constants of the code, whose numbers and trees docs/TABLES.md lists. Pinned by
+-- `scripts/compare_tables.py`, which compares every number with that transcription of the standard's.
 use Rattle.std.specs.Prelude.{ℕ, ℤ, pos, ◌+ℤ◌, ◌==◌, List, [], ◌∷◌, slice_index, slice_index_or, count_by}
 use Rattle.vp_tables.specs.declared.modes.SubMode.{SubMode}
 use Rattle.vp_tables.specs.declared.modes.SubMode.TheVariants as sub_is

@@ -1,8 +1,9 @@
--- The coefficient levels of one block, and its end-of-block position (RFC 6386, chapter 13).
+-- The coefficient levels of one block, and its end-of-block position (eob; RFC 6386, chapter 13).
 use Rattle.std.specs.Prelude.{◌≡◌, ◌≢◌, ◌<◌, ◌≤◌, ℕ, ◌-◌, ℤ, pos, Bool, nat_lt, List, length, replicate, slice_index_or}
 use Rattle.std.specs.Prelude.{unsigned_abs}
 
--- the levels in zigzag order, as they are coded, and the position after the last token before the end of block
+-- the levels in zigzag order, as they are coded, and the position after the last token before the end of block (eob);
+-- that is 0 if there is no such token, even if the first position is 1
 pub record Block : Type 0 where
   pub levels : List ℤ
   pub tokens : ℕ

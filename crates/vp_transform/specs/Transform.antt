@@ -18,6 +18,7 @@ block_from f = map (λ place. f (place / 4) (place % 4)) (range_with_len 0 16)
 abbrev pub one : ℤ
 one = pos 1
 
+-- -1
 abbrev pub minus : ℤ
 minus = negsuc 0
 
@@ -57,7 +58,7 @@ iwht block = times_hadamard_rounded (hadamard_times block)
 abbrev pub scaled : ℤ → ℕ → ℤ
 scaled z k = floor_div (z *ℤ pos k) 65536
 
--- the one-dimensional transform of four numbers
+-- the one-dimensional transform of four numbers (a 1-D IDCT)
 abbrev pub turned : ℤ → ℤ → ℤ → ℤ → List ℤ
 turned i0 i1 i2 i3 =
     let a = i0 +ℤ i2 in
