@@ -69,9 +69,12 @@ impl MacroblockInfo {
         ensures columns { self.new.modes.columns ≡ self.old.modes.columns }
         ensures rows { self.new.modes.rows ≡ self.old.modes.rows }
     {
+        // The compiler keeps a local decoder in registers.
+        let mut own = d.copy();
         for column in 0..self.modes.columns() {
-            self.read_macroblock(header, Place { column, row }, d);
+            self.read_macroblock(header, Place { column, row }, &mut own);
         }
+        *d = own;
     }
 
     /// Reads all macroblocks of a frame, in raster order.

@@ -103,7 +103,7 @@ impl ModeMap {
         entries.truncate(0);
         entries.reserve(kept.len())?;
         for segment in kept {
-            entries.push(plain_of(*segment))?;
+            entries.push_reserved(plain_of(*segment));
         }
         let grid = Grid::of(segments.columns(), segments.rows(), entries);
         Ok(ModeMap { grid })
@@ -125,9 +125,9 @@ impl ModeMap {
         segments.truncate(0);
         segments.reserve(entries.len())?;
         for modes in entries {
-            segments.push(Segment {
+            segments.push_reserved(Segment {
                 number: modes.segment,
-            })?;
+            });
         }
         Ok(Grid::of(self.columns(), self.rows(), segments))
     }

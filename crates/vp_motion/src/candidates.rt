@@ -114,6 +114,14 @@ fn has_split(neighbour: &MacroblockMotion) -> bool
     }
 }
 
+/// The weight of a neighbour, if it has split vectors.
+fn split_weight(neighbour: &MacroblockMotion, weight: u8) -> u8
+    ensures value { result ≡ weight * from_bool (splits neighbour.now) }
+    ensures light { result ≤ weight }
+{
+    if has_split(neighbour) { weight } else { 0 }
+}
+
 /// A neighbour's vector, negated if the sign biases of the two reference frames differ.
 #[tactic(auto, unfolding(crate::specs::Near::bias_corrected, crate::specs::Map::own))]
 fn seen_vector(reference: Reference, biases: SignBiases, neighbour: &MacroblockMotion) -> Vector
@@ -173,6 +181,8 @@ fn join(entries: &mut ArrayVec<Weighted, 3>, weighted: Weighted)
 #[derive(Drop)]
 struct NearbyMotion {
     zeros: u8,
+    /// The weights of the neighbours with split vectors.
+    splits: u8,
     entries: ArrayVec<Weighted, 3>,
 }
 
@@ -186,6 +196,7 @@ fn consider(
 )
     requires room { length found.old.entries.items < 3 }
     requires light { total found.old.entries.items + found.old.zeros + weight ≤ 255 }
+    requires few { found.old.splits + weight ≤ 255 }
     requires heavy { 0 < weight }
     ensures tally { (ws : List Weighted) → CountsNeighbours ws found.old.zeros found.old.entries.items
         → CountsNeighbours (ws ++ weighted_neighbour reference biases weight neighbour.now) found.new.zeros
@@ -194,7 +205,10 @@ fn consider(
     ensures weight { total found.new.entries.items + found.new.zeros
         ≤ total found.old.entries.items + found.old.zeros + weight }
     ensures heavy { HavePositiveWeights found.old.entries.items → HavePositiveWeights found.new.entries.items }
+    ensures splits { found.new.splits ≡ found.old.splits + weight * from_bool (splits neighbour.now) }
+    ensures few { found.new.splits ≤ found.old.splits + weight }
 {
+    found.splits += split_weight(neighbour, weight);
     if !neighbour.reference.is_intra() {
         let vector = seen_vector(reference, biases, neighbour);
         if is_same(vector, STILL) {
@@ -283,14 +297,6 @@ fn choose(zeros: u8, splits: u8, entries: &ArrayVec<Weighted, 3>) -> Nearby
     }
 }
 
-/// The weight of the neighbours with split vectors: 2 above, 2 to the left, 1 above left.
-fn splits_of(above: bool, left: bool, corner: bool) -> u8
-    ensures value { result ≡ 2 * from_bool above + 2 * from_bool left + from_bool corner }
-    ensures light { result ≤ 5 }
-{
-    2 * above as u8 + 2 * left as u8 + corner as u8
-}
-
 /// The candidates of the macroblock at `place`, before clamping.
 pub(crate) fn nearby(
     map: &VectorMap,
@@ -302,18 +308,17 @@ pub(crate) fn nearby(
     ensures value { clamped_by (clamped_vector map.now place) result ≡ candidates map.now place reference biases }
     ensures light { (k : ℕ) → slice_index result.counts k < 6 }
 {
-    let above = look(map, place.above());
+    let (above, corner) = map.row_above(place);
     let left = look(map, place.left());
-    let corner = look(map, place.corner());
     let mut found = NearbyMotion {
         zeros: 0,
+        splits: 0,
         entries: ArrayVec::new(),
     };
     consider(&mut found, above, 2, reference, biases);
     consider(&mut found, left, 2, reference, biases);
     consider(&mut found, corner, 1, reference, biases);
-    let splits = splits_of(has_split(above), has_split(left), has_split(corner));
-    choose(found.zeros, splits, &found.entries)
+    choose(found.zeros, found.splits, &found.entries)
 }
 
 /// The candidate vectors of the macroblock at `place`, from the macroblocks above, to the left, and above left (RFC

@@ -1,6 +1,6 @@
 //! The motion of macroblocks in raster order, in memory that is never cleared.
 
-ghost use Rattle.std.specs.Prelude.{◌≡◌, ◌<◌, ◌≤◌, ℕ, IfOk, Some, [], length, replicate, slice_get, slice_set};
+ghost use Rattle.std.specs.Prelude.{◌≡◌, ◌-◌, ◌<◌, ◌≤◌, ℕ, IfOk, Some, [], length, replicate, slice_get, slice_set};
 ghost use Rattle.std.specs.Prelude.{slice_index_or};
 ghost use Rattle.vp_motion.specs.Map.{intra};
 
@@ -95,6 +95,19 @@ impl MotionList {
         } else {
             &self.unset
         }
+    }
+
+    /// The motion of a macroblock, and of the one before it.
+    pub(crate) fn with_left(&self, i: usize) -> (&MacroblockMotion, &MacroblockMotion)
+        requires some { 0 < i }
+        requires inside { i < length self.now }
+        ensures here { slice_get self.now i ≡ Some result.0.now }
+        ensures before { slice_get self.now (i - 1) ≡ Some result.1.now }
+    {
+        if i < self.written {
+            return (&self.entries[i], &self.entries[i - 1]);
+        }
+        (&self.unset, self.at(i - 1))
     }
 
     /// The motion of an intra macroblock.

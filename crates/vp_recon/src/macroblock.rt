@@ -48,7 +48,9 @@ pub fn predict_macroblock(picture: &mut Picture, place: Place, source: &Predicto
     predict_chroma(picture, place, source);
 }
 
-/// Predicts the luma of a macroblock whose subblocks have no intra modes of their own.
+/// Predicts the luma of a macroblock whose subblocks have no intra modes of their own. Inlined into both callers, so
+/// that most macroblocks take one call less.
+#[inline(always)]
 fn predict_luma(picture: &mut Picture, place: Place, source: &Predictor)
     requires columns { 16 * place.column + 16 ≤ picture.old.luma.width }
     requires rows { 16 * place.row + 16 ≤ picture.old.luma.height }
@@ -68,6 +70,7 @@ fn predict_luma(picture: &mut Picture, place: Place, source: &Predictor)
 }
 
 /// Predicts both chroma planes of a macroblock.
+#[inline(always)]
 fn predict_chroma(picture: &mut Picture, place: Place, source: &Predictor)
     requires column { place.column < macroblocks picture.old.width }
     requires row { place.row < macroblocks picture.old.height }

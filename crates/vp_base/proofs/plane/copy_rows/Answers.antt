@@ -25,22 +25,31 @@ one_more p x y n r f before after row at wide high done here put size value =
 pub loop-r-init : goal.loop-r-init
 loop-r-init g c = record {
   size = refl;
+  target = λ some. omega arith;
+  source = λ some. omega arith;
   copied = λ p x y whole same wide here columns rows.
       none_yet p x y g.row.N (λ r k. get_or c.args.from.now (c.args.start + r * c.args.step + k) 0) c.args.to.now whole same;
   bytes = λ r k below. absurd (omega arith);
 }
 
 pub loop-r-preserved : goal.loop-r-preserved
-loop-r-preserved g c = record {
-  size = c.put_part.ensures.len ∙ c.loop-r.invariant.size;
-  copied = λ p x y whole same wide here columns rows.
-      one_more p x y g.row.N c.loop-r.r (λ r k. get_or c.args.from.now (c.args.start + r * c.args.step + k) 0) c.loop-r.to c.put_part.new.to c.part.result
-      (c.args.at + c.loop-r.r * c.args.width) columns (omega arith) (c.loop-r.invariant.copied p x y whole same wide here columns rows)
-      (place_is p x y c.loop-r.r c.args.at c.args.width wide here) c.put_part.ensures.value c.part.ensures.len c.part.ensures.value;
-  bytes = λ r k below within. elim (cases_lt r c.loop-r.r) [
-    | inl less ↦ c.loop-r.invariant.bytes r k less within
-    | inr last ↦
-        let e : c.loop-r.r ≡ r = omega arith in
-        subst (λ (v : ℕ). v ≤ 255) (c.part.ensures.value k within ∙ ap (λ (i : ℕ). get_or c.args.from.now (c.args.start + i * c.args.step + k) 0) e) (c.part.ensures.bytes k)
-  ];
-}
+loop-r-preserved g c =
+    let target : c.loop-r.target ≡ c.args.at + c.loop-r.r * c.args.width = c.loop-r.invariant.target (omega arith) in
+    let source : c.loop-r.source ≡ c.args.start + c.loop-r.r * c.args.step = c.loop-r.invariant.source (omega arith) in
+    record {
+      size = c.put_part.ensures.len ∙ c.loop-r.invariant.size;
+      target = λ some. omega (arith, c.next_row-target.ensures some, target);
+      source = λ some. omega (arith, c.next_row-source.ensures some, source);
+      copied = λ p x y whole same wide here columns rows.
+          one_more p x y g.row.N c.loop-r.r (λ r k. get_or c.args.from.now (c.args.start + r * c.args.step + k) 0) c.loop-r.to c.put_part.new.to c.part.result
+          c.loop-r.target columns (omega arith) (c.loop-r.invariant.copied p x y whole same wide here columns rows)
+          (target ∙ place_is p x y c.loop-r.r c.args.at c.args.width wide here) c.put_part.ensures.value c.part.ensures.len
+          (λ k within. c.part.ensures.value k within ∙ ap (λ (i : ℕ). get_or c.args.from.now (i + k) 0) source);
+      bytes = λ r k below within. elim (cases_lt r c.loop-r.r) [
+        | inl less ↦ c.loop-r.invariant.bytes r k less within
+        | inr last ↦
+            let e : c.loop-r.r ≡ r = omega arith in
+            let place : c.loop-r.source ≡ c.args.start + r * c.args.step = source ∙ ap (λ (i : ℕ). c.args.start + i * c.args.step) e in
+            subst (λ (v : ℕ). v ≤ 255) (c.part.ensures.value k within ∙ ap (λ (i : ℕ). get_or c.args.from.now (i + k) 0) place) (c.part.ensures.bytes k)
+      ];
+    }

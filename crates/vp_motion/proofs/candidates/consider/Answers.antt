@@ -1,4 +1,4 @@
-use Rattle.std.proofs.Common.{◌∙◌, arith, sym, ap}
+use Rattle.std.proofs.Common.{◌∙◌, ℕ, ◌+◌, arith, sym, ap}
 use Rattle.vp_motion.specs.Vector.{Vector, MacroblockMotion, zero_vector}
 use Rattle.vp_head.specs.Reference.{is_intra}
 use Rattle.vp_motion.specs.Near.{same, joined}
@@ -11,6 +11,8 @@ returns-else-not-is_intra c = record {
   len = omega arith;
   weight = omega arith;
   heavy = λ h. h;
+  splits = ap (λ (n : ℕ). c.args.found.now.splits + n) c.split_weight.ensures.value;
+  few = omega arith;
 }
 
 pub returns-then-is_same : goal.returns-then-is_same
@@ -20,6 +22,8 @@ returns-then-is_same c = record {
   len = omega arith;
   weight = omega arith;
   heavy = λ h. h;
+  splits = ap (λ (n : ℕ). c.args.found.now.splits + n) c.split_weight.ensures.value;
+  few = omega arith;
 }
 
 pub returns-else-is_same : goal.returns-else-is_same
@@ -30,4 +34,6 @@ returns-else-is_same c = record {
   len = c.join.ensures.len;
   weight = omega arith;
   heavy = c.join.ensures.heavy;
+  splits = ap (λ (n : ℕ). c.args.found.now.splits + n) c.split_weight.ensures.value;
+  few = omega arith;
 }

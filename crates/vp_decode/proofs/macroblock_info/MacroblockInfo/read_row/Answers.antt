@@ -6,11 +6,11 @@ use Rattle.vp_decode.specs.MacroblockInfo.{MacroblockInfo, macroblock_read, row_
 use Rattle.vp_decode.proofs.macroblock_info.MacroblockInfo.read_row.Goals as goal
 
 pub loop-column-init : goal.loop-column-init
-loop-column-init c = record { so_far = rows-none _ _ _; columns = refl; rows = refl }
+loop-column-init c = record { so_far = rw (c.copy-own.ensures) (rows-none _ _ _); columns = refl; rows = refl }
 
 pub loop-column-preserved : goal.loop-column-preserved
 loop-column-preserved c =
-    let one : ◌≡◌ {A = MacroblockInfo × State} (macroblock_read c.args.header.now (place c.args.row c.loop-column.column) c.loop-column.self c.loop-column.d) (c.read_macroblock.new.self, c.read_macroblock.new.d) =
+    let one : ◌≡◌ {A = MacroblockInfo × State} (macroblock_read c.args.header.now (place c.args.row c.loop-column.column) c.loop-column.self c.loop-column.own) (c.read_macroblock.new.self, c.read_macroblock.new.d) =
     λ i. (sym c.read_macroblock.ensures.maps i, sym c.read_macroblock.ensures.rest i) in
     record {
       so_far = rows-more c.loop-column.column (λ column. macroblock_read c.args.header.now (place c.args.row column)) _ _ _ _ _ _ c.loop-column.invariant.so_far one;

@@ -5,7 +5,7 @@ use Rattle.vp_decode.proofs.macroblock_info.MacroblockInfo.read_row.Given as goa
 
 abbrev pub invariant-loop-column : goal.invariant-loop-column
 invariant-loop-column l = record {
-  so_far : rows l.column (λ column. macroblock_read l.header (place l.row column)) l.initial.self l.initial.d ≡ (l.self, l.d);
+  so_far : rows l.column (λ column. macroblock_read l.header (place l.row column)) l.initial.self l.fn.d ≡ (l.self, l.own);
   columns : l.self.modes.columns ≡ l.initial.self.modes.columns;
   rows : l.self.modes.rows ≡ l.initial.self.modes.rows;
 }

@@ -1,0 +1,9 @@
+use Rattle.std.proofs.Common.{ap, ◌∙◌}
+use Rattle.vp_motion.proofs.ModeWalkLemmas.{mode_walked}
+use Rattle.vp_motion.proofs.mode.read_mode.Goals as goal
+
+pub returns-clause-value : goal.returns-clause-value
+returns-clause-value c = c.any_mode.ensures.value ∙ ap (λ z. z.0) (mode_walked c.args.counts.now c.args.d.now)
+
+pub returns-clause-rest : goal.returns-clause-rest
+returns-clause-rest c = c.any_mode.ensures.rest ∙ ap (λ z. z.1) (mode_walked c.args.counts.now c.args.d.now)

@@ -1,0 +1,31 @@
+-- Private to the crate: the walk of the tree of vector modes, unrolled pair by pair.
+use Rattle.std.specs.Prelude.{ℕ, List, if◌then◌else◌}
+use Rattle.vp_bool.specs.Bools.{read}
+use Rattle.vp_bool.specs.Reader.{Reader, ◌>>=◌, give}
+use Rattle.vp_tables.specs.declared.modes.VectorMode.{VectorMode}
+use Rattle.vp_tables.specs.declared.modes.VectorMode.TheVariants as vector_is
+use Rattle.vp_motion.specs.Motion.{mode_probability}
+
+-- the walk from the pair at index 6
+unfoldable pub above_near : List ℕ → Reader VectorMode
+above_near counts = do
+  b ← read (mode_probability counts 3)
+  give (if b then vector_is.Split else vector_is.New)
+
+-- the walk from the pair at index 4
+unfoldable pub above_nearest : List ℕ → Reader VectorMode
+above_nearest counts = do
+  b ← read (mode_probability counts 2)
+  if b then above_near counts else give vector_is.Near
+
+-- the walk from the pair at index 2
+unfoldable pub above_zero : List ℕ → Reader VectorMode
+above_zero counts = do
+  b ← read (mode_probability counts 1)
+  if b then above_nearest counts else give vector_is.Nearest
+
+-- the walk from the root
+unfoldable pub any_mode : List ℕ → Reader VectorMode
+any_mode counts = do
+  b ← read (mode_probability counts 0)
+  if b then above_zero counts else give vector_is.Zero
