@@ -31,4 +31,4 @@ mod webp;
 #[cfg(test)]
 mod webp_tests;
 
-pub use laws::the_last_packet_is_told;
+pub use laws::{given_pictures_are_read, the_last_packet_is_told, webp_files_are_read};

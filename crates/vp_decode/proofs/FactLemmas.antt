@@ -10,7 +10,9 @@ use Rattle.vp_head.specs.declared.fields.KeyTag.{KeyTag}
 use Rattle.vp_head.specs.declared.fields.ReferenceUpdates.{ReferenceUpdates}
 use Rattle.vp_head.specs.declared.fields.ReferenceCopy.{ReferenceCopy}
 use Rattle.vp_head.specs.declared.fields.ReferenceCopy.TheVariants.{Nothing, Last, Other, Unused}
-use Rattle.vp_refs.specs.References.{References, copied_by}
+use Rattle.vp_head.specs.declared.fields.Reference.{Reference}
+use Rattle.vp_head.specs.declared.fields.Reference.TheVariants as reference_is
+use Rattle.vp_refs.specs.References.{References, copied_by, reference_picture}
 use Rattle.vp_decode.specs.declared.frame_facts.FrameFacts.{FrameFacts}
 use Rattle.vp_decode.specs.declared.decoder.Outcome.TheVariants as code
 use Rattle.vp_decode.specs.Frame.{picture_of}
@@ -150,3 +152,25 @@ pub facts_of_outcome : (limits : Limits) (state : Option DecoderState) (packet :
 unfolding step frame_facts
 facts_of_outcome limits state [] f e = absurd cc
 facts_of_outcome limits state (b ∷ bs) f e = outcome_by (parsed limits state (b ∷ bs)) f e
+
+-- ---- what the facts say of the reference frames
+
+is_new_or_older : (refreshes : Bool) (before : Option DecoderState) (newest p : Image) → (refreshes ≡ true → p ≡ newest) → (refreshes ≡ false → IsOlder before p) → (p ≡ newest) ⊎ IsOlder before p
+is_new_or_older true before newest p new older = inl (new refl)
+is_new_or_older false before newest p new older = inr (older refl)
+
+last_is_older : (before : Option DecoderState) (p : Image) → IsSomeAnd before (λ k. p ≡ k.references.last) → IsOlder before p
+last_is_older None p h = absurd h
+last_is_older (Some k) p h = inl h
+
+last_by : (f : FrameFacts) (before : Option DecoderState) (after : DecoderState) → AreFactsOfStep f before after
+    → (after.references.last ≡ after.references.newest) ⊎ IsOlder before after.references.last
+last_by f before after h =
+    is_new_or_older f.refreshes_last before after.references.newest after.references.last h.last (λ e. last_is_older before after.references.last (h.last_stays e))
+
+pub new_or_older : (f : FrameFacts) (before : Option DecoderState) (after : DecoderState) (r : Reference) → AreFactsOfStep f before after
+    → (reference_picture after.references r ≡ after.references.newest) ⊎ IsOlder before (reference_picture after.references r)
+new_or_older f before after reference_is.Intra h = last_by f before after h
+new_or_older f before after reference_is.Last h = last_by f before after h
+new_or_older f before after reference_is.Golden h = is_new_or_older f.refreshes_golden before after.references.newest after.references.golden h.golden h.older_golden
+new_or_older f before after reference_is.Alt h = is_new_or_older f.refreshes_alt before after.references.newest after.references.alt h.alt h.older_alt

@@ -16,7 +16,7 @@ use Rattle.vp_tokens.specs.Partitions.{cut_of}
 use Rattle.vp_decode.specs.Frame.{FrameInfo, Readings, row_partition, token_row, nothing_read, readings}
 use Rattle.vp_decode.specs.Step.{DecoderState, FrameContext, ParsedPacket, tag_length, first_part, count_of, ◌>>=◌, context_of, parsed_in_context, parsed, maps_before, frame_info_of}
 use Rattle.vp_decode.specs.Corrupt.{first_after, tokens_after, any_past, is_corrupt, corrupt_in, corrupt}
-use Rattle.vp_decode.specs.PastEnd.{IsPastEnd, IsWithin, HasPartPast, AreAllPartsWithin}
+use Rattle.vp_decode.specs.PastEnd.{IsPastEnd, IsWithin, HasPartPast, AreAllPartsWithin, token_part, token_reader}
 use Rattle.vp_decode.proofs.CutLemmas.{opened-is}
 use Rattle.vp_decode.proofs.RunLemmas.{IsRun, run-none, run-join}
 use Rattle.vp_decode.proofs.HeaderRuns.{by_header}
@@ -51,6 +51,13 @@ within_end law bytes s r e = record { probabilities = r.probabilities; read = r.
 
 is_past : PastIsBits → (bytes : List ℕ) (s : State) → IsPastEnd bytes s → s.past ≡ true
 is_past law bytes s p = ap (λ (t : State). t.past) p.read ∙ law bytes p.probabilities ∙ lt-ltb _ _ (p.past p.probabilities p.read)
+
+-- a partition is not both
+not_both : (bytes : List ℕ) (s : State) → IsPastEnd bytes s → IsWithin bytes s → ⊥
+not_both bytes s p w =
+    let more : bits_after_first bytes < bits_shifted p.probabilities (initial_state bytes) = p.past p.probabilities p.read in
+    let fewer : bits_shifted p.probabilities (initial_state bytes) ≤ bits_after_first bytes = w.enough p.probabilities p.read in
+    omega arith
 
 -- ---- the first partition
 
@@ -196,6 +203,16 @@ unfolding is_corrupt
 is_told law packet o (inl first) = or_left _ _ (is_past law (first_part o.tag packet) (first_after o) first)
 is_told law packet o (inr part) = or_right (first_after o).past _ (is_any_past law o.partitions _ (runs_of o) part.0 part.1.is_part part.1.past)
 
+none_past : (packet : List ℕ) (o : ParsedPacket) → AreAllPartsWithin packet o → HasPartPast packet o → ⊥
+none_past packet o w (inl first) = not_both (first_part o.tag packet) (first_after o) first w.first
+none_past packet o w (inr part) = not_both (token_part o part.0) (token_reader o part.0) part.1.past (w.tokens part.0 part.1.is_part)
+
+is_not_told : PastIsBits → (packet : List ℕ) (o : ParsedPacket) → IsRun (initial_state (first_part o.tag packet)) (first_after o) → AreAllPartsWithin packet o → is_corrupt o ≡ false
+is_not_told law packet o r w = elim (cases_Bool (is_corrupt o)) [
+  | inl is ↦ absurd (none_past packet o w (has_past law packet o r is))
+  | inr off ↦ off
+]
+
 pub corrupt-past : PastIsBits → (limits : Limits) (state : Option DecoderState) (packet : List ℕ) (o : ParsedPacket) → parsed limits state packet ≡ Ok o → corrupt limits state packet ≡ true
     → HasPartPast packet o
 corrupt-past law limits state packet o e is = has_past law packet o (first_run limits state packet o e) (sym (corrupt_at limits state packet o e) ∙ is)
@@ -207,3 +224,7 @@ corrupt-within law limits state packet o e is = are_within law packet o (first_r
 pub corrupt-told : PastIsBits → (limits : Limits) (state : Option DecoderState) (packet : List ℕ) (o : ParsedPacket) → parsed limits state packet ≡ Ok o → HasPartPast packet o
     → corrupt limits state packet ≡ true
 corrupt-told law limits state packet o e past = corrupt_at limits state packet o e ∙ is_told law packet o past
+
+pub corrupt-not_told : PastIsBits → (limits : Limits) (state : Option DecoderState) (packet : List ℕ) (o : ParsedPacket) → parsed limits state packet ≡ Ok o → AreAllPartsWithin packet o
+    → corrupt limits state packet ≡ false
+corrupt-not_told law limits state packet o e within = corrupt_at limits state packet o e ∙ is_not_told law packet o (first_run limits state packet o e) within

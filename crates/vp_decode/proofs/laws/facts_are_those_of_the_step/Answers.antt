@@ -1,5 +1,5 @@
 use Rattle.vp_decode.proofs.CorruptLemmas.{is_frame_corrupt-frame_facts}
-use Rattle.vp_decode.proofs.FactLemmas.{facts_of_state, facts_of_outcome}
+use Rattle.vp_decode.proofs.FactLemmas.{facts_of_state, facts_of_outcome, new_or_older}
 use Rattle.vp_decode.proofs.laws.facts_are_those_of_the_step.Goals as goal
 
 pub returns-clause-state : goal.returns-clause-state
@@ -12,3 +12,6 @@ returns-clause-outcome c = facts_of_outcome
 
 pub returns-clause-corrupt : goal.returns-clause-corrupt
 returns-clause-corrupt c = is_frame_corrupt-frame_facts
+
+pub returns-clause-references : goal.returns-clause-references
+returns-clause-references c = new_or_older
