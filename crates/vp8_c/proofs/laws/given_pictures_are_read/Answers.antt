@@ -29,11 +29,13 @@ returns-clause-copied c p status before after copies well same =
     let held : HoldPicture p before after = copies.copied well in
     let AreLuma : Strides → Type 0 = λ s. AreStridedRows (luma_layout p.width p.height s.y) after.y (pixel p.luma) in
     let AreU : Strides → Type 0 = λ s. AreStridedRows (colour_layout p.width p.height s.u) after.u (pixel p.u) in
-    let AreV : Strides → Type 0 = λ s. AreStridedRows (colour_layout p.width p.height s.v) after.v (pixel p.v) in
-    (copies.fits.0 well, record {
-      width_is = refl;
-      height_is = refl;
-      y = subst AreLuma (sym same) (held_rows (luma_layout p.width p.height before.strides.y) (pixel p.luma) before.y after.y held.y);
-      u = subst AreU (sym same) (held_rows (colour_layout p.width p.height before.strides.u) (pixel p.u) before.u after.u held.u);
-      v = subst AreV (sym same) (held_rows (colour_layout p.width p.height before.strides.v) (pixel p.v) before.v after.v held.v);
-    })
+    let AreV : Strides → Type 0 = λ s. AreStridedRows (colour_layout p.width p.height s.v) after.v (pixel p.v) in (
+      copies.fits.0 well,
+      record {
+        width_is = refl;
+        height_is = refl;
+        y = subst AreLuma (sym same) (held_rows (luma_layout p.width p.height before.strides.y) (pixel p.luma) before.y after.y held.y);
+        u = subst AreU (sym same) (held_rows (colour_layout p.width p.height before.strides.u) (pixel p.u) before.u after.u held.u);
+        v = subst AreV (sym same) (held_rows (colour_layout p.width p.height before.strides.v) (pixel p.v) before.v after.v held.v);
+      },
+    )
