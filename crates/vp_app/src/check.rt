@@ -12,7 +12,7 @@ ghost use Rattle.vp_app.specs.Commands.{read_side, written_side, AreFilesChecked
 ghost use Rattle.vp_app.specs.Commands.{ChecksInput, IsFileChecked};
 
 use crate::files::{file_fault, limits_of};
-use crate::hints::hint_decode;
+use crate::hints::{hint_decode, hint_empty};
 use crate::outside::Outside;
 use crate::unwritten::failed_write;
 use std::alloc::Global;
@@ -22,6 +22,7 @@ use std::time::Clock;
 use vp_args::FileLimits;
 use vp_base::{Counted, Device};
 use vp_check::{Checked, check};
+use vp_hints::hint_length;
 use vp_lines::{Counts, LineStyle, has_total, is_well, put_done, put_total, report_fault};
 use vp_stream::{DecodeFault, SurveyFault};
 
@@ -116,7 +117,7 @@ fn check_one<H: Files + AllocGlobal + Clock + Eprint, R: Read, W: Write, E: Writ
     Ok((Counts::of(&done), is_well(work.style, &done)))
 }
 
-// Prints why a file can't be read, or is not whole, and what to do.
+// Prints what a person needs to know of a file beside its lines.
 fn hint_done<H, E: Write>(
     outside: &Outside<'_, H>,
     name: &str,
@@ -124,13 +125,48 @@ fn hint_done<H, E: Write>(
     style: LineStyle,
     errors: &mut Counted<E>,
 ) {
-    let fault = match done {
-        Ok(checked) => match checked.fault {
-            Some(fault) => DecodeFault::File(fault),
-            None => return,
-        },
-        Err(fault) => *fault,
-    };
+    match done {
+        Ok(checked) => hint_checked(outside, name, checked, style, errors),
+        Err(fault) => hint_unread(outside, name, *fault, style, errors),
+    }
+}
+
+// Prints what a person needs to know of a file that was read, beside its lines.
+fn hint_checked<H, E: Write>(
+    outside: &Outside<'_, H>,
+    name: &str,
+    checked: &Checked,
+    style: LineStyle,
+    errors: &mut Counted<E>,
+) {
+    match checked.fault {
+        Some(fault) => hint_unread(outside, name, DecodeFault::File(fault), style, errors),
+        None => {
+            let _ = hint_length(name, &outside.input, errors);
+        }
+    }
+    if tells_packets(style) {
+        let _ = hint_empty(name, checked.packets.as_slice(), errors);
+    }
+}
+
+// Whether each packet with damage is told.
+fn tells_packets(style: LineStyle) -> bool {
+    match style {
+        LineStyle::Counted { verbose } => verbose,
+        LineStyle::Packets { long, .. } => long,
+        LineStyle::Json => false,
+    }
+}
+
+// Prints why a file can't be read, or is not whole, and what to do.
+fn hint_unread<H, E: Write>(
+    outside: &Outside<'_, H>,
+    name: &str,
+    fault: DecodeFault,
+    style: LineStyle,
+    errors: &mut Counted<E>,
+) {
     if !has_total(style) {
         report_fault(fault, errors);
     }

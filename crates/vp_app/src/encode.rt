@@ -115,7 +115,7 @@ fn encode_into<H: Files + AllocGlobal, R: Read, W: Write, T: Watcher>(
             let writer = &mut Counted::new(&mut tally);
             let done = encode_over(outside.alloc(), encoding, input, writer, watcher);
             outside.has_encoded(tally);
-            outside.has_written(&file);
+            outside.has_written(encoding.output, file);
             done
         }
         Err(error) => Err(file_fault(&error, EncodeAllFault::Device, EncodeAllFault::Memory)),

@@ -6,11 +6,12 @@ use crate::service::ServiceFault;
 use std::io;
 use std::io::Write;
 use vp_args::{DecodeRangeArgs, EncodeArgs, EncodeOptions, NamedFile, PictureArgs, ServeArgs};
+use vp_check::CheckedPacket;
 use vp_encode::EncodeAllFault;
 use vp_head::PacketFault;
 use vp_hints::{
     Cause, FileKind, Printable, hint_file, hint_not_ivf, hint_not_y4m, hint_stream_file,
-    hint_y4m_colour, meaning_of,
+    hint_y4m_colour, hint_y4m_size, meaning_of,
 };
 use vp_hub::{HubFault, ServeFault};
 use vp_ivf::FileFault;
@@ -53,6 +54,28 @@ pub(crate) fn hint_range<H, W: Write>(
 ) -> io::Result<()> {
     let files = (wanted.decoding.input, wanted.decoding.output);
     hint_work(outside, fault, files, "read", output)
+}
+
+/// Prints that packets have no byte: how many, and which is the first.
+pub(crate) fn hint_empty<W: Write>(
+    from: &str,
+    packets: &[CheckedPacket],
+    output: &mut W,
+) -> io::Result<()> {
+    let file = input_name(from);
+    let Some(first) = packets.iter().position(|packet| packet.bytes == 0) else {
+        return Ok(());
+    };
+    match packets.iter().filter(|packet| packet.bytes == 0).count() {
+        1 => writeln!(
+            output,
+            "  {file}: packet {first} is empty: a frame that was dropped, or is lost"
+        ),
+        count => writeln!(
+            output,
+            "  {file}: {count} packets are empty, the first is packet {first}: frames that were dropped, or are lost"
+        ),
+    }
 }
 
 /// Prints how packets are counted, under a packet that is missing.
@@ -162,6 +185,7 @@ fn hint_encode_fault<H, W: Write>(
         EncodeAllFault::Magic => hint_not_y4m(file, &outside.input, to, output),
         EncodeAllFault::Torn => hint_torn(outside, file, to, output),
         EncodeAllFault::Colour => hint_y4m_colour(file, &outside.input, output),
+        EncodeAllFault::Size => hint_y4m_size(file, &outside.input, encoding.limits.pixels, output),
         // To standard output a program encodes, which reads the fault alone.
         EncodeAllFault::Settings if to == "-" => Ok(()),
         EncodeAllFault::Settings => hint_settings(&encoding.options, output),
@@ -276,9 +300,6 @@ fn hint_torn<H, W: Write>(
 // Returns what is wrong with a file of pictures.
 fn words_of(fault: EncodeAllFault) -> &'static str {
     match fault {
-        EncodeAllFault::Size => {
-            ": no width and height, a side over 16,383, or more pixels than the limit, which --max-pixels sets"
-        }
         EncodeAllFault::Interlaced => ": interlaced; only progressive pictures are read",
         EncodeAllFault::TooMany => {
             ": more pictures than the limit. Try: a greater --max-packets, up to 16777216"
@@ -412,14 +433,22 @@ pub(crate) fn hint_odd_files<H, W: Write>(
     }
 }
 
-/// Prints that a stream's file is not an IVF file of VP8, if that was odd about it.
+/// Prints that a stream's file is not a whole IVF file of VP8, if that was odd about it. Of standard input nothing is
+/// known.
 pub(crate) fn hint_odd_file<W: Write>(
     oddity: Option<FileFault>,
     stream: &NamedFile<'_>,
     output: &mut W,
 ) -> io::Result<()> {
-    let (name, file) = (Printable(stream.name), input_name(stream.file));
+    if stream.file == "-" {
+        return Ok(());
+    }
+    let (name, file) = (Printable(stream.name), Printable(stream.file));
     match oddity {
+        Some(FileFault::Torn) => writeln!(
+            output,
+            "  {name}: {file} is empty, or ends inside its head"
+        ),
         Some(FileFault::Codec) => writeln!(output, "  {name}: {file}: not VP8"),
         Some(_) => writeln!(output, "  {name}: {file}: not an IVF file"),
         None => Ok(()),

@@ -9,7 +9,7 @@ ghost use Rattle.vp_app.specs.Many.{IsFedBefore, ServesMany, WorksLoop, followed
 ghost use Rattle.vp_app.specs.Serving.{AreFilesFed, IsFileFed};
 
 use crate::hints::{hint_address, hint_names, hint_odd_file, hint_stream};
-use crate::outside::Outside;
+use crate::outside::{Outside, is_regular, oddity_at, oddity_of};
 use crate::service::{ServiceFault, feed_stream, hub_with_cursors, print_address, stream_names};
 use std::alloc::{AllocError, Global};
 use std::io::{Read, Write};
@@ -19,7 +19,7 @@ use std::time::Clock;
 use std::{fs, io};
 use vp_args::{NamedFile, ServeArgs, ServeManyArgs};
 use vp_base::{ByteList, Counted};
-use vp_hints::{Cause, Meter, Printable, head_fault};
+use vp_hints::{Cause, Meter, Printable};
 use vp_hub::Hub;
 use vp_mio::{FollowedFile, MioTransport};
 use vp_serve::{ServeOptions, ServerLoop, catch_up, serve};
@@ -103,20 +103,21 @@ fn feed_or_follow<'a, H: Files + AllocGlobal, R: Read, E: Write>(
         (counted_remaining R.remaining input.old) (counted_remaining R.remaining input.new)) }
 {
     if many.follow {
-        return follow_all(rt, &many.service.streams);
+        return follow_all(rt, &many.service.streams, errors);
     }
     feed_each(rt, hub, &many.service.streams, input, errors)?;
     Ok(Vec::new(rt.alloc()))
 }
 
 // Opens the file of each stream.
-fn follow_all<'a, H: Files + AllocGlobal>(
+fn follow_all<'a, H: Files + AllocGlobal, E: Write>(
     rt: &H,
     streams: &'a [NamedFile<'_>],
+    errors: &mut Counted<E>,
 ) -> Result<Vec<FollowedFile<'a, H::File>>, ManyFault> {
     let mut files = Vec::new(rt.alloc());
     for (place, stream) in streams.iter().enumerate() {
-        let file = follow(rt, stream, place)?;
+        let file = follow(rt, stream, place, errors)?;
         if files.push(file).is_err() {
             return Err(ManyFault::Memory);
         }
@@ -125,14 +126,31 @@ fn follow_all<'a, H: Files + AllocGlobal>(
 }
 
 // Opens the file of the stream at an index.
-fn follow<'a, H: Files>(
+fn follow<'a, H: Files, E: Write>(
     rt: &H,
     stream: &'a NamedFile<'_>,
     place: usize,
+    errors: &mut Counted<E>,
 ) -> Result<FollowedFile<'a, H::File>, ManyFault> {
     match fs::open(rt, stream.file) {
-        Ok(file) => Ok(FollowedFile::new(stream.name, stream.file, file)),
+        Ok(file) => {
+            hint_start(rt, stream, &file, errors);
+            Ok(FollowedFile::new(stream.name, stream.file, file))
+        }
         Err(error) => Err(ManyFault::Open(place, error)),
+    }
+}
+
+// Prints that the file of a stream, which is followed from its start on, is not an IVF file of VP8. Of a pipe's bytes
+// none can be read before.
+fn hint_start<H: Files, E: Write>(
+    rt: &H,
+    stream: &NamedFile<'_>,
+    file: &H::File,
+    errors: &mut Counted<E>,
+) {
+    if is_regular(file) {
+        let _ = hint_odd_file(oddity_at(rt, stream.file), stream, errors);
     }
 }
 
@@ -171,7 +189,7 @@ fn feed_next<H: Files + AllocGlobal, R: Read, E: Write>(
     let mut outside = Outside::new(rt, &meter);
     match feed_stream(&mut outside, hub, stream, input) {
         Ok(()) => {
-            let _ = hint_odd_file(head_fault(outside.input.head()), stream, errors);
+            let _ = hint_odd_file(oddity_of(&outside.input), stream, errors);
             Ok(())
         }
         Err(fault) => Err(unfed(outside.refused, place, fault)),

@@ -4,13 +4,16 @@ ghost use Rattle.std.specs.Prelude.{◌≡◌};
 
 use std::alloc::Global;
 use std::fs::{Metadata, OpenFile};
-use std::io::Write;
+use std::io::{Read, Write};
 use std::net::{Net, TcpListener, TcpStream};
 use std::os::unix::fs::MetadataExt;
 use std::rt::Files;
 use std::{fmt, fs, io};
 use vp_base::Counted;
-use vp_hints::{Meter, Metered, Overwrite, Seen, Tally, Witness, head_fault, open_to_overwrite};
+use vp_hints::{
+    Meter, Metered, Overwrite, Place, Seen, Tally, Witness, create_to_overwrite, head_fault,
+    open_to_overwrite,
+};
 use vp_ivf::FileFault;
 use vp_lines::report_fault;
 
@@ -33,6 +36,8 @@ pub(crate) struct Outside<'a, H> {
     /// Whether the input and the output are one file.
     pub(crate) is_one_file: bool,
     identity: Option<(u64, u64)>,
+    // Whether the output file was created for the work.
+    is_new: bool,
     fed: usize,
     oddities: [Option<FileFault>; MOST_STREAMS],
 }
@@ -49,6 +54,7 @@ impl<'a, H> Outside<'a, H> {
             encoded: None,
             is_one_file: false,
             identity: None,
+            is_new: false,
             fed: 0,
             oddities: [None; MOST_STREAMS],
         }
@@ -84,11 +90,6 @@ impl<'a, H> Outside<'a, H> {
         self.input = seen;
     }
 
-    /// Remembers why a file was not written.
-    pub(crate) fn has_written<F>(&mut self, file: &Witness<F>) {
-        self.unwritten = file.error();
-    }
-
     /// Whether the output is a pipe that its reader has closed, which is no mistake.
     pub(crate) fn is_cut_off(&self) -> bool {
         match self.unwritten {
@@ -116,7 +117,7 @@ impl<H> Outside<'_, H> {
     /// Remembers what was odd about the file of the next stream.
     pub(crate) fn has_fed(&mut self) {
         if self.fed < MOST_STREAMS {
-            self.oddities[self.fed] = head_fault(self.input.head());
+            self.oddities[self.fed] = oddity_of(&self.input);
             self.fed += 1;
         }
         self.input = Seen::new();
@@ -188,12 +189,33 @@ impl<'a, H: Files> Outside<'a, H> {
     /// Makes an output file. What an old file holds stays until the first write, or until the file is finished. The
     /// input file is refused.
     pub(crate) fn make(&mut self, name: &str) -> io::Result<Witness<Overwrite<H::File>>> {
-        match open_to_overwrite(self.system, name) {
+        match self.create_or_open(name) {
             Ok(file) => self.overwrite(file),
             Err(error) => {
                 self.unwritten = Some(error);
                 Err(error)
             }
+        }
+    }
+
+    // Creates an output file, or opens an old one.
+    fn create_or_open(&mut self, name: &str) -> io::Result<H::File> {
+        match create_to_overwrite(self.system, name) {
+            Ok(file) => {
+                self.is_new = true;
+                Ok(file)
+            }
+            Err(_) => open_to_overwrite(self.system, name),
+        }
+    }
+
+    /// Remembers why an output file was not written, and closes it. If it was created for the work, and nothing was
+    /// written, it is removed.
+    pub(crate) fn has_written(&mut self, name: &str, file: Witness<Overwrite<H::File>>) {
+        self.unwritten = file.error();
+        let (file, _) = file.into_parts();
+        if self.is_new && !file.is_begun() {
+            let _ = fs::remove_file(self.system, name);
         }
     }
 
@@ -206,6 +228,33 @@ impl<'a, H: Files> Outside<'a, H> {
         }
         Ok(Witness::new(Overwrite::new(file)))
     }
+}
+
+/// What is odd about a file of which this was seen, if it is read on no more: it is no IVF file of VP8, or ends inside
+/// its head.
+pub(crate) fn oddity_of(seen: &Seen) -> Option<FileFault> {
+    match seen.packets().place {
+        Place::FileHead(_) => Some(FileFault::Torn),
+        _ => head_fault(seen.head()),
+    }
+}
+
+/// What is odd about the first bytes of a regular file, if they are there. It is opened anew, as its reader needs
+/// them too.
+pub(crate) fn oddity_at<H: Files>(system: &H, name: &str) -> Option<FileFault> {
+    let Ok(mut file) = fs::open(system, name) else {
+        return None;
+    };
+    let mut head = [0; 32];
+    match file.read_exact(&mut head) {
+        Ok(()) => head_fault(&head),
+        Err(_) => None,
+    }
+}
+
+/// Whether a file is a regular one.
+pub(crate) fn is_regular<F: OpenFile>(file: &F) -> bool {
+    identity_of(file.metadata()).is_some()
 }
 
 // The device and the number of a regular file, which no other file has.

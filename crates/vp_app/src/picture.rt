@@ -170,7 +170,7 @@ fn written<H: Files + AllocGlobal>(
 {
     let mut file = outside.make(name)?;
     let put = put_all(&mut Counted::new(&mut file), made.bytes.as_slice());
-    outside.has_written(&file);
+    outside.has_written(name, file);
     match put {
         Ok(()) => Ok(made),
         Err(_) => Err(PictureFault::Device),

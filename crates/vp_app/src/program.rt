@@ -46,7 +46,7 @@ use vp_args::{
 };
 use vp_base::Counted;
 use vp_encode::{EncodeAllFault, EncodeReport};
-use vp_hints::{Meter, Overwrite, Unit, Witness, hint_packets};
+use vp_hints::{Meter, Overwrite, Unit, Witness, hint_length, hint_packets};
 use vp_lines::{LineStyle, print_faults, print_survey, report_fault};
 use vp_stream::{DecodeFault, Form, Report, Survey, SurveyFault, decode_all, survey};
 
@@ -467,7 +467,7 @@ fn decode_into<H: Files + AllocGlobal, R: Read, W: Write>(
     match outside.make(decoding.output) {
         Ok(mut file) => {
             let done = decode_into_file(outside.alloc(), form, decoding.limits, input, &mut file);
-            outside.has_written(&file);
+            outside.has_written(decoding.output, file);
             done
         }
         Err(error) => Err(file_fault(&error, DecodeFault::Device, DecodeFault::Memory)),
@@ -625,7 +625,10 @@ fn report_survey<H: AllocGlobal, W: Write, E: Write>(
     }
     match survey.fault {
         Some(fault) => report_unread(outside, DecodeFault::File(fault), from, errors),
-        None => 0,
+        None => {
+            let _ = hint_length(from, &outside.input, errors);
+            0
+        }
     }
 }
 

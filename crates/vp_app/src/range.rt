@@ -74,7 +74,7 @@ fn decode_into<H: Files + AllocGlobal, R: Read, W: Write>(
     match outside.make(wanted.decoding.output) {
         Ok(mut file) => {
             let done = decode_into_file(outside.alloc(), form, wanted, input, &mut file);
-            outside.has_written(&file);
+            outside.has_written(wanted.decoding.output, file);
             done
         }
         Err(error) => Err(file_fault(&error, DecodeFault::Device, DecodeFault::Memory)),

@@ -85,7 +85,7 @@ const MAX_PIXELS: Word = Word {
     form: Form::Setting("N"),
     need: Need::Never,
     group: LIMITS,
-    help: "The most pixels of a picture, 1 to 268402689 [default: 16777216]",
+    help: "The most pixels of a picture, 1 to 268402689 [default: 16777216]; what reads such pictures needs it again",
 };
 
 const FILES: Word = Word {
@@ -110,13 +110,16 @@ const PARTS: [Part; 6] = [
     Part {
         name: "encode",
         about: "Encodes a YUV4MPEG2 file (4:2:0) as VP8 in an IVF file and reports frames and squared error",
-        examples: "Example:\n  ffmpeg -i film.mp4 -pix_fmt yuv420p -f yuv4mpegpipe - | vp8 encode --qi 24 --subpel - film.ivf",
+        examples: "A number out of its range is the fault Settings (status 1); its option is named unless OUT is -.\n\n\
+        Example:\n  ffmpeg -i film.mp4 -pix_fmt yuv420p -f yuv4mpegpipe - | vp8 encode --qi 24 --subpel - film.ivf",
         words: &ENCODE_WORDS,
     },
     Part {
         name: "info",
         about: "Lists IVF files: size, rate, and for each packet its bytes and Shown, Hidden or its fault",
-        examples: "Examples:\n\
+        examples: "A packet of 0 bytes is a frame that was dropped: the picture before it is shown again. Fewer\n\
+        packets than the file's head says are told on standard error, and the status stays.\n\n\
+        Examples:\n\
         \x20 vp8 info film.ivf\n\
         \x20 vp8 info --json *.ivf | jq '.packets | length'",
         words: &INFO_WORDS,
@@ -124,7 +127,9 @@ const PARTS: [Part; 6] = [
     Part {
         name: "check",
         about: "Decodes IVF files, and counts faults and packets that are read past their end (status 1)",
-        examples: "Example: vp8 check --verbose *.ivf",
+        examples: "Packets without a byte (dropped frames; --verbose names the first) are no damage, nor are fewer\n\
+        packets than the file's head says: writers put other numbers there. Both are told on standard error.\n\n\
+        Example: vp8 check --verbose *.ivf",
         words: &CHECK_WORDS,
     },
     Part {
@@ -136,7 +141,13 @@ const PARTS: [Part; 6] = [
     Part {
         name: "serve",
         about: "Serves frames of IVF files over HTTP, one connection after another, then ends",
-        examples: "Examples:\n\
+        examples: "Paths:\n\
+        \x20 /streams                 the names\n\
+        \x20 /s/NAME/info             state, number of packets, size, rate\n\
+        \x20 /s/NAME/frame/N          the picture of packet N, counted from 0, as I420\n\
+        \x20 /s/NAME/y4m/N            the same as a Y4M file of one frame\n\
+        \x20 /s/NAME/webp/N           with --webp: as a WebP file; smaller: /s/NAME/webp/N/2, 4 and 8\n\n\
+        Examples:\n\
         \x20 vp8 serve --listen 127.0.0.1:8080 --connections 100 a=film.ivf\n\
         \x20 vp8 serve --listen 127.0.0.1:8080 --max-connections 64 --follow live=recording.ivf",
         words: &SERVE_WORDS,
@@ -375,7 +386,7 @@ const SERVE_WORDS: [Word; 12] = [
         form: Form::Setting("ADDR"),
         need: Need::Always,
         group: None,
-        help: "The address and port to listen on, as 127.0.0.1:8080",
+        help: "The address and port to listen on, as 127.0.0.1:8080; another text is a fault (status 1)",
     },
     Word {
         name: "connections",

@@ -50,8 +50,17 @@ fn packets_in(bytes: &[u8]) -> u64 {
     count.whole
 }
 
+// The time of the last packet in some bytes.
+fn last_time_in(bytes: &[u8]) -> u64 {
+    let mut count = PacketCount::new();
+    count.pass(bytes);
+    count.time
+}
+
 #[test]
 fn packets_are_counted(rt: HostRuntime) {
+    equal!(rt; last_time_in(&TWO), 256);
+    equal!(rt; last_time_in(&TWO[..47]), 0x8000_0102_0000_0304);
     equal!(rt; packets_in(&TWO), 2);
     equal!(rt; packets_in(&TWO[..58]), 1);
     equal!(rt; packets_in(&TWO[..47]), 1);

@@ -138,7 +138,7 @@ pub fn hint_not_ivf<W: Write>(name: &str, seen: &Seen, output: &mut W) -> io::Re
         FileKind::Unknown => writeln!(output, "; it begins with {start}"),
         FileKind::WebM | FileKind::Avi => writeln!(
             output,
-            " but {kind} ({start}). Try: ffmpeg -i {word} -c copy -r 30 {made}"
+            " but {kind} ({start}). Try: ffmpeg -i {word} -c copy -r 30 {made}, with the film's rate for 30"
         ),
         FileKind::Y4m => writeln!(
             output,

@@ -94,8 +94,8 @@ impl fmt::Display for Ratio {
     }
 }
 
-// A number of some bytes at a place, little endian; bytes that are missing count as 0.
-fn number_at(head: &[u8], place: usize, bytes: usize) -> u64 {
+/// A number of some bytes at a place, little endian; bytes that are missing count as 0.
+pub(crate) fn number_at(head: &[u8], place: usize, bytes: usize) -> u64 {
     let mut number: u64 = 0;
     for back in 0..bytes {
         let index = place.saturating_add(bytes - 1 - back);

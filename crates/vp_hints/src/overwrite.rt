@@ -25,6 +25,14 @@ pub fn open_to_overwrite<H: Files>(system: &H, name: &str) -> io::Result<H::File
         .open(system, name)
 }
 
+/// Creates a file to be overwritten; fails if there is one of this name.
+pub fn create_to_overwrite<H: Files>(system: &H, name: &str) -> io::Result<H::File> {
+    OpenOptions::new()
+        .write(true)
+        .create_new(true)
+        .open(system, name)
+}
+
 impl<F: OpenFile> Overwrite<F> {
     /// Wraps a file that was opened for writing and not emptied. A pipe or a device holds nothing that could be lost.
     pub fn new(file: F) -> Overwrite<F>

@@ -2,7 +2,7 @@
 
 ghost use Rattle.std.specs.Prelude.{◌≡◌, ◌<◌, ◌≤◌, ◌+◌, ◌*◌, ◌/◌, ◌^◌, ◌++◌, ℕ, List, length};
 ghost use Rattle.vp_hints.specs.Packets.{count_after, counted_after, ends_packet, first_count};
-ghost use Rattle.vp_hints.specs.Packets.{place_after, place_behind_head};
+ghost use Rattle.vp_hints.specs.Packets.{place_after, place_behind_head, time_at, time_behind, time_with};
 ghost use Rattle.vp_hints.specs.declared.packets.Place.{Place};
 
 /// Where the next byte of an IVF file belongs.
@@ -16,13 +16,16 @@ pub enum Place {
     Packet(u32),
 }
 
-/// The place in an IVF file, and the number of packets that have passed whole; the number saturates at `u64::MAX`.
+/// The place in an IVF file, the number of packets that have passed whole, and the time of the last one. The number
+/// saturates at `u64::MAX`.
 #[derive(Clone, Copy, Debug, PartialEq, Eq)]
 pub struct PacketCount {
     /// Where the next byte belongs.
     pub place: Place,
     /// The number of whole packets.
     pub whole: u64,
+    /// The time that the last packet's head states; 0 before the first. It is whole once that head has passed.
+    pub time: u64,
 }
 
 impl PacketCount {
@@ -33,6 +36,7 @@ impl PacketCount {
         PacketCount {
             place: Place::FileHead(32),
             whole: 0,
+            time: 0,
         }
     }
 
@@ -82,9 +86,11 @@ impl PacketCount {
         let size = shifted(size, head[1]);
         let size = shifted(size, head[2]);
         let size = shifted(size, head[3]);
+        let time = time_behind(self.time, head.split_at(4).1);
         if size == 0 {
             self.whole = self.whole.saturating_add(1);
         }
+        self.time = time;
         self.place = place_behind_head(size);
     }
 
@@ -108,6 +114,7 @@ impl PacketCount {
         if ends_packet(self.place) {
             self.whole = self.whole.saturating_add(1);
         }
+        self.time = time_at(self.place, self.time, byte);
         self.place = place_after(self.place, byte);
     }
 }
@@ -156,4 +163,34 @@ fn place_behind_head(size: u32) -> Place
     } else {
         Place::Packet(size)
     }
+}
+
+// The time of the last packet's head so far, after the next byte.
+fn time_at(place: Place, time: u64, byte: u8) -> u64
+    ensures { result ≡ time_at place time byte }
+{
+    match place {
+        Place::PacketHead(passed, _) if 4 <= passed => time_with(time, byte),
+        _ => time,
+    }
+}
+
+// A time with its next byte, which is shifted in from above.
+fn time_with(time: u64, byte: u8) -> u64
+    ensures { result ≡ time / 256 + byte * 2 ^ 56 }
+{
+    (time >> 8) + (u64::from(byte) << 56)
+}
+
+// A time with some bytes more.
+fn time_behind(start: u64, bytes: &[u8]) -> u64
+    ensures { result ≡ time_behind start bytes.now }
+{
+    let mut time = start;
+    let mut rest = bytes;
+    while !rest.is_empty() {
+        time = time_with(time, rest[0]);
+        rest = rest.split_at(1).1;
+    }
+    time
 }

@@ -3,9 +3,13 @@
 use crate::file_hints::Hexadecimal;
 use crate::kinds::FileKind;
 use crate::names::{Printable, ShellWord};
+use crate::numbers::Grouped;
 use crate::seen::Seen;
 use std::io;
 use std::io::Write;
+
+// The most pixels of a side of a VP8 picture.
+const LONGEST_SIDE: u64 = 16_383;
 
 /// Prints what a file is that isn't YUV4MPEG2, and how to encode it into the file `to`.
 pub fn hint_not_y4m<W: Write>(
@@ -81,4 +85,67 @@ fn colour_words(token: &[u8]) -> Option<&'static str> {
         [b'C', b'4', _, _, b'p', ..] => Some("not 4:2:0, with more than 8 bits"),
         _ => None,
     }
+}
+
+/// Prints why the size of the pictures of a YUV4MPEG2 file is refused where they may have this number of pixels, if its
+/// first bytes say it.
+pub fn hint_y4m_size<W: Write>(
+    file: Printable<'_>,
+    seen: &Seen,
+    limit: u32,
+    output: &mut W,
+) -> io::Result<()> {
+    let most = Grouped(u64::from(limit));
+    let Some((width, height)) = sides_of(seen.head()) else {
+        return writeln!(
+            output,
+            "  {file}: no width and height, a side over 16,383, or more than {most} pixels. Try: --max-pixels"
+        );
+    };
+    let pixels = width.saturating_mul(height);
+    if pixels == 0 {
+        writeln!(output, "  {file}: its first line has no width or no height")
+    } else if width.max(height) > LONGEST_SIDE {
+        writeln!(
+            output,
+            "  {file}: {width}x{height}; a side has at most 16,383 pixels"
+        )
+    } else {
+        let grouped = Grouped(pixels);
+        writeln!(
+            output,
+            "  {file}: {width}x{height} is {grouped} pixels, the limit {most}. Try: --max-pixels {pixels}"
+        )
+    }
+}
+
+// Returns the width and the height in the first line, if it is whole; 0 for one that it does not state.
+fn sides_of(head: &[u8]) -> Option<(u64, u64)> {
+    if !head.contains(&b'\n') {
+        return None;
+    }
+    let line = head.split(|byte| *byte == b'\n').next()?;
+    let mut width: u64 = 0;
+    let mut height: u64 = 0;
+    for token in line.split(|byte| *byte == b' ') {
+        match token {
+            [b'W', digits @ ..] => width = decimal(digits),
+            [b'H', digits @ ..] => height = decimal(digits),
+            _ => {}
+        }
+    }
+    Some((width, height))
+}
+
+// A decimal number, which saturates; 0 for other text.
+fn decimal(digits: &[u8]) -> u64 {
+    let mut number: u64 = 0;
+    for digit in digits {
+        if !digit.is_ascii_digit() {
+            return 0;
+        }
+        let value = u64::from(digit.saturating_sub(b'0'));
+        number = number.saturating_mul(10).saturating_add(value);
+    }
+    number
 }
