@@ -66,22 +66,31 @@ pub(crate) fn hint_empty<W: Write>(
     let Some(first) = packets.iter().position(|packet| packet.bytes == 0) else {
         return Ok(());
     };
-    match packets.iter().filter(|packet| packet.bytes == 0).count() {
-        1 => writeln!(
-            output,
-            "  {file}: packet {first} is empty: a frame that was dropped, or is lost"
-        ),
-        count => writeln!(
-            output,
-            "  {file}: {count} packets are empty, the first is packet {first}: frames that were dropped, or are lost"
-        ),
-    }
+    let count = packets.iter().filter(|packet| packet.bytes == 0).count();
+    writeln!(
+        output,
+        "  {file}: empty packets: {count}, the first is packet {first}: frames that were dropped, or are lost"
+    )
 }
 
 /// Prints how packets are counted, under a packet that is missing.
 pub(crate) fn hint_missing<W: Write>(from: &str, output: &mut W) -> io::Result<()> {
-    let file = input_name(from);
-    writeln!(output, "  {file}: packets are counted from 0")
+    say(input_name(from), "packets are counted from 0", "", output)
+}
+
+// Prints what is wrong with a file, and what to do.
+fn say<W: Write>(file: Printable<'_>, words: &str, advice: &str, output: &mut W) -> io::Result<()> {
+    writeln!(output, "  {file}: {words}{advice}")
+}
+
+// Prints that a file is not read to its end.
+fn hint_endless<W: Write>(file: Printable<'_>, output: &mut W) -> io::Result<()> {
+    writeln!(output, "  {file} did not end within 4,294,967,295 reads")
+}
+
+/// Prints that memory is refused.
+pub(crate) fn hint_memory<W: Write>(output: &mut W) -> io::Result<()> {
+    writeln!(output, "  out of memory")
 }
 
 // Prints why a file was not decoded. `done` says what happened to its whole packets.
@@ -96,16 +105,15 @@ fn hint_work<H, W: Write>(
     match fault {
         DecodeFault::File(fault) if from == "-" => hint_stream_file(fault, file, output),
         DecodeFault::File(fault) => hint_file(fault, from, &outside.input, done, output),
-        DecodeFault::SizeChange => writeln!(
+        DecodeFault::SizeChange => say(
+            file,
+            "its pictures change in size, which YUV4MPEG2 can't hold",
+            ". Try: without --y4m",
             output,
-            "  {file}: its pictures change in size, which YUV4MPEG2 can't hold. Try: without --y4m"
         ),
         DecodeFault::Device => hint_device(outside, from, to, output),
-        DecodeFault::ReadTurns => writeln!(
-            output,
-            "  {file} did not end within 4,294,967,295 reads"
-        ),
-        DecodeFault::Memory => writeln!(output, "  out of memory"),
+        DecodeFault::ReadTurns => hint_endless(file, output),
+        DecodeFault::Memory => hint_memory(output),
     }
 }
 
@@ -164,12 +172,16 @@ pub(crate) fn hint_encode<H, W: Write>(
 
 // Prints the number of frames that are in a file.
 fn hint_kept<W: Write>(frames: u64, to: &str, output: &mut W) -> io::Result<()> {
-    let file = Printable(to);
-    match frames {
-        0 => Ok(()),
-        1 => writeln!(output, "  1 frame is in {file}"),
-        _ => writeln!(output, "  {frames} frames are in {file}"),
+    if frames == 0 {
+        return Ok(());
     }
+    let file = Printable(to);
+    let are = if frames == 1 {
+        "frame is"
+    } else {
+        "frames are"
+    };
+    writeln!(output, "  {frames} {are} in {file}")
 }
 
 // Prints why a file was not encoded, and what to do.
@@ -190,11 +202,8 @@ fn hint_encode_fault<H, W: Write>(
         EncodeAllFault::Settings if to == "-" => Ok(()),
         EncodeAllFault::Settings => hint_settings(&encoding.options, output),
         EncodeAllFault::Device => hint_device(outside, from, to, output),
-        EncodeAllFault::Memory => writeln!(output, "  out of memory"),
-        _ => {
-            let words = words_of(fault);
-            writeln!(output, "  {file}{words}")
-        }
+        EncodeAllFault::Memory => hint_memory(output),
+        _ => say(file, words_of(fault), "", output),
     }
 }
 
@@ -208,16 +217,15 @@ pub(crate) fn hint_picture<H, W: Write>(
     let file = input_name(wanted.input);
     match fault {
         PictureFault::Find(fault) => hint_find(outside, fault, wanted.input, output),
-        PictureFault::TooLong => writeln!(
+        PictureFault::TooLong => say(
+            file,
+            "a part of the picture's key frame is too long",
+            ". Try: a greater --qi",
             output,
-            "  {file}: a part of the picture's key frame is too long. Try: a greater --qi"
         ),
         PictureFault::Device => hint_device(outside, wanted.input, wanted.output, output),
-        PictureFault::ReadTurns => writeln!(
-            output,
-            "  {file} did not end within 4,294,967,295 reads"
-        ),
-        PictureFault::Memory => writeln!(output, "  out of memory"),
+        PictureFault::ReadTurns => hint_endless(file, output),
+        PictureFault::Memory => hint_memory(output),
     }
 }
 
@@ -235,21 +243,19 @@ fn hint_find<H, W: Write>(
         FindFault::WebP(WebPFault::Signature) if from != "-" => {
             hint_not_ivf(from, &outside.input, output)
         }
-        FindFault::WebP(fault) => {
-            let words = webp_words(fault);
-            writeln!(output, "  {file}: {words}")
-        }
+        FindFault::WebP(fault) => say(file, webp_words(fault), "", output),
         FindFault::Packet(fault) => {
-            let (words, advice) = (meaning_of(fault), packet_advice(outside, fault));
-            writeln!(output, "  {file}: {words}{advice}")
+            say(
+                file,
+                meaning_of(fault),
+                packet_advice(outside, fault),
+                output,
+            )
         }
-        FindFault::Hidden => writeln!(
-            output,
-            "  {file}: the packet shows no picture. Try: another --packet, which vp8 info lists"
-        ),
+        FindFault::Hidden => say(file, "the packet shows no picture", ANOTHER, output),
         FindFault::NoPacket(_) => hint_missing(from, output),
-        FindFault::NoPicture(_) => writeln!(output, "  {file}: no packet shows a picture"),
-        FindFault::Memory => writeln!(output, "  out of memory"),
+        FindFault::NoPicture(_) => say(file, "no packet shows a picture", "", output),
+        FindFault::Memory => hint_memory(output),
     }
 }
 
@@ -284,15 +290,11 @@ fn hint_torn<H, W: Write>(
     output: &mut W,
 ) -> io::Result<()> {
     match outside.input.kind() {
-        FileKind::Y4m => writeln!(
+        FileKind::Empty if file.0 != STANDARD_INPUT => writeln!(output, "  {file} is empty"),
+        FileKind::Empty | FileKind::Y4m => writeln!(
             output,
             "  {file} ends inside its first line, a frame's line or a picture"
         ),
-        FileKind::Empty if file.0 == STANDARD_INPUT => writeln!(
-            output,
-            "  {file} ends inside its first line, a frame's line or a picture"
-        ),
-        FileKind::Empty => writeln!(output, "  {file} is empty"),
         _ => hint_not_y4m(file, &outside.input, to, output),
     }
 }
@@ -300,15 +302,15 @@ fn hint_torn<H, W: Write>(
 // Returns what is wrong with a file of pictures.
 fn words_of(fault: EncodeAllFault) -> &'static str {
     match fault {
-        EncodeAllFault::Interlaced => ": interlaced; only progressive pictures are read",
+        EncodeAllFault::Interlaced => "interlaced; only progressive pictures are read",
         EncodeAllFault::TooMany => {
-            ": more pictures than the limit. Try: a greater --max-packets, up to 16777216"
+            "more pictures than the limit. Try: a greater --max-packets, up to 16777216"
         }
         EncodeAllFault::TooLong => {
-            ": a picture's modes and vectors need over 524,287 bytes. Try: a greater --qi"
+            "a picture's modes and vectors need over 524,287 bytes. Try: a greater --qi"
         }
         EncodeAllFault::PacketTooLarge => {
-            ": a picture needs over 16,777,216 bytes. Try: a greater --qi"
+            "a picture needs over 16,777,216 bytes. Try: a greater --qi"
         }
         _ => "",
     }
@@ -316,20 +318,28 @@ fn words_of(fault: EncodeAllFault) -> &'static str {
 
 // Prints the first option that is out of its range.
 fn hint_settings<W: Write>(options: &EncodeOptions, output: &mut W) -> io::Result<()> {
-    let (qi, level, sharpness) = (options.qi, options.level, options.sharpness);
-    let (key_every, range, partitions) = (options.key_every, options.range, options.partitions);
-    if qi > 127 {
-        writeln!(output, "  --qi {qi}: 0 to 127")
-    } else if level > 63 {
-        writeln!(output, "  --filter {level}: 0 to 63")
-    } else if sharpness > 7 {
-        writeln!(output, "  --sharpness {sharpness}: 0 to 7")
-    } else if key_every == 0 {
-        writeln!(output, "  --key-every {key_every}: at least 1")
-    } else if range > 64 {
-        writeln!(output, "  --range {range}: 0 to 64")
+    let (option, value, range) = odd_setting(options);
+    writeln!(output, "  {option} {value}: {range}")
+}
+
+// The first option that is out of its range, its value, and the range.
+fn odd_setting(options: &EncodeOptions) -> (&'static str, u32, &'static str) {
+    if options.qi > 127 {
+        ("--qi", u32::from(options.qi), "0 to 127")
+    } else if options.level > 63 {
+        ("--filter", u32::from(options.level), "0 to 63")
+    } else if options.sharpness > 7 {
+        ("--sharpness", u32::from(options.sharpness), "0 to 7")
+    } else if options.key_every == 0 {
+        ("--key-every", 0, "at least 1")
+    } else if options.range > 64 {
+        ("--range", u32::from(options.range), "0 to 64")
     } else {
-        writeln!(output, "  --partitions {partitions}: 1, 2, 4 or 8")
+        (
+            "--partitions",
+            u32::from(options.partitions),
+            "1, 2, 4 or 8",
+        )
     }
 }
 
@@ -347,7 +357,7 @@ pub(crate) fn hint_serve<H, W: Write>(
             output,
             "  a file did not end within 4,294,967,295 reads"
         ),
-        ServiceFault::Memory => writeln!(output, "  out of memory"),
+        ServiceFault::Memory => hint_memory(output),
     }
 }
 
@@ -365,20 +375,13 @@ pub(crate) fn hint_connection<W: Write>(
     fault: ServeFault,
     output: &mut W,
 ) -> io::Result<()> {
-    match fault {
-        ServeFault::Hub(HubFault::Memory) => {
-            writeln!(output, "  connection {number}: out of memory")
-        }
-        ServeFault::Hub(_) => writeln!(output, "  connection {number}: its requests are refused"),
-        ServeFault::Device => writeln!(
-            output,
-            "  connection {number}: the client broke it off, or it failed"
-        ),
-        ServeFault::ReadTurns => writeln!(
-            output,
-            "  connection {number} did not end within 1,048,576 reads"
-        ),
-    }
+    let words = match fault {
+        ServeFault::Hub(HubFault::Memory) => ": out of memory",
+        ServeFault::Hub(_) => ": its requests are refused",
+        ServeFault::Device => ": the client broke it off, or it failed",
+        ServeFault::ReadTurns => " did not end within 1,048,576 reads",
+    };
+    writeln!(output, "  connection {number}{words}")
 }
 
 // Prints which file or address is refused, and why.
@@ -443,14 +446,12 @@ pub(crate) fn hint_odd_file<W: Write>(
     if stream.file == "-" {
         return Ok(());
     }
+    let words = match oddity {
+        Some(FileFault::Torn) => " is empty, or ends inside its head",
+        Some(FileFault::Codec) => ": not VP8",
+        Some(_) => ": not an IVF file",
+        None => return Ok(()),
+    };
     let (name, file) = (Printable(stream.name), Printable(stream.file));
-    match oddity {
-        Some(FileFault::Torn) => writeln!(
-            output,
-            "  {name}: {file} is empty, or ends inside its head"
-        ),
-        Some(FileFault::Codec) => writeln!(output, "  {name}: {file}: not VP8"),
-        Some(_) => writeln!(output, "  {name}: {file}: not an IVF file"),
-        None => Ok(()),
-    }
+    writeln!(output, "  {name}: {file}{words}")
 }

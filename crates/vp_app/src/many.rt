@@ -8,7 +8,7 @@ ghost use Rattle.vp_app.specs.declared.service.ServiceFault.{ServiceFault};
 ghost use Rattle.vp_app.specs.Many.{IsFedBefore, ServesMany, WorksLoop, followed_names, options_of};
 ghost use Rattle.vp_app.specs.Serving.{AreFilesFed, IsFileFed};
 
-use crate::hints::{hint_address, hint_names, hint_odd_file, hint_stream};
+use crate::hints::{hint_address, hint_memory, hint_names, hint_odd_file, hint_stream};
 use crate::outside::{Outside, is_regular, oddity_at, oddity_of};
 use crate::service::{ServiceFault, feed_stream, hub_with_cursors, print_address, stream_names};
 use std::alloc::{AllocError, Global};
@@ -379,7 +379,7 @@ fn hint_fault<E: Write>(
 ) -> io::Result<()> {
     match fault {
         ManyFault::Names => hint_names(errors),
-        ManyFault::Memory => writeln!(errors, "  out of memory"),
+        ManyFault::Memory => hint_memory(errors),
         ManyFault::Open(place, error) => hint_stream(&stream_at(many, *place), *error, errors),
         ManyFault::Feed(place, fault) => hint_unfed(&stream_at(many, *place), *fault, errors),
         ManyFault::Listen(error) => hint_address(many.service.listen, *error, errors),
@@ -397,15 +397,13 @@ fn hint_unfed<E: Write>(
     fault: ServiceFault,
     errors: &mut Counted<E>,
 ) -> io::Result<()> {
+    let words = match fault {
+        ServiceFault::Memory => ": out of memory",
+        ServiceFault::ReadTurns => " did not end within 4,294,967,295 reads",
+        _ => ": it can't be read to its end",
+    };
     let (name, file) = (Printable(stream.name), Printable(stream.file));
-    match fault {
-        ServiceFault::Memory => writeln!(errors, "  {name}: {file}: out of memory"),
-        ServiceFault::ReadTurns => writeln!(
-            errors,
-            "  {name}: {file} did not end within 4,294,967,295 reads"
-        ),
-        _ => writeln!(errors, "  {name}: {file}: it can't be read to its end"),
-    }
+    writeln!(errors, "  {name}: {file}{words}")
 }
 
 // The stream at an index.

@@ -203,19 +203,14 @@ pub(crate) fn report_picture<H, E: Write>(
 // Prints the line of a picture that was written, and what was left out.
 fn print_made<E: Write>(made: &MadePicture, errors: &mut Counted<E>) {
     let (number, w, h) = (made.number, made.dim.w, made.dim.h);
+    let _ = write!(errors, "packet {number}: {w}x{h}");
     let _ = match made.coding {
-        None => writeln!(errors, "packet {number}: {w}x{h}"),
-        Some(Coding::Kept) => writeln!(errors, "packet {number}: {w}x{h}, as it stands"),
-        Some(Coding::Encoded(0)) => writeln!(
-            errors,
-            "packet {number}: {w}x{h}, encoded without a difference"
-        ),
+        None => writeln!(errors),
+        Some(Coding::Kept) => writeln!(errors, ", as it stands"),
+        Some(Coding::Encoded(0)) => writeln!(errors, ", encoded without a difference"),
         Some(Coding::Encoded(error)) => {
             let ratio = decibels(samples(made.dim), error);
-            writeln!(
-                errors,
-                "packet {number}: {w}x{h}, encoded with PSNR {ratio:.2} dB"
-            )
+            writeln!(errors, ", encoded with PSNR {ratio:.2} dB")
         }
     };
     if made.has_alpha {

@@ -7,8 +7,8 @@ ghost use Rattle.vp_app.specs.declared.picture_fault.PictureFault.{PictureFault}
 
 use crate::files::file_fault;
 use std::alloc::AllocError;
-use std::io;
 use std::io::Write;
+use std::{fmt, io};
 use vp_args::PictureArgs;
 use vp_base::Counted;
 use vp_hints::Printable;
@@ -69,11 +69,19 @@ pub(crate) fn report_picture_fault<E: Write>(
 ) {
     let _ = match fault {
         PictureFault::Find(fault) => print_find_fault(fault, wanted, errors),
-        PictureFault::TooLong => writeln!(errors, "vp8: TooLong"),
-        PictureFault::Device => writeln!(errors, "vp8: Device"),
-        PictureFault::ReadTurns => writeln!(errors, "vp8: ReadTurns"),
-        PictureFault::Memory => writeln!(errors, "vp8: Memory"),
+        _ => print_fault(name_of(fault), errors),
     };
+}
+
+// The name of a fault that the input does not have.
+fn name_of(fault: PictureFault) -> &'static str {
+    match fault {
+        PictureFault::Find(..) => "",
+        PictureFault::TooLong => "TooLong",
+        PictureFault::Device => "Device",
+        PictureFault::ReadTurns => "ReadTurns",
+        PictureFault::Memory => "Memory",
+    }
 }
 
 // Prints why a file gives no picture.
@@ -82,23 +90,54 @@ fn print_find_fault<E: Write>(
     wanted: &PictureArgs<'_>,
     errors: &mut Counted<E>,
 ) -> io::Result<()> {
-    let (name, number) = (Printable(wanted.input), wanted.packet.unwrap_or(0));
+    let number = wanted.packet.unwrap_or(0);
     match fault {
-        FindFault::File(fault) => writeln!(errors, "vp8: {fault}"),
-        FindFault::WebP(fault) => writeln!(errors, "vp8: {fault}"),
-        FindFault::Packet(fault) => writeln!(errors, "vp8: packet {number}: {fault}"),
-        FindFault::Hidden => writeln!(errors, "vp8: packet {number}: Hidden"),
-        FindFault::NoPacket(1) => writeln!(errors, "vp8: no packet {number}: {name} has 1 packet"),
-        FindFault::NoPacket(count) => writeln!(
-            errors,
-            "vp8: no packet {number}: {name} has {count} packets"
-        ),
-        FindFault::NoPicture(count) => {
-            writeln!(
-                errors,
-                "vp8: no picture: none of the {count} packets of {name} shows one"
-            )
-        }
-        FindFault::Memory => writeln!(errors, "vp8: Memory"),
+        FindFault::File(fault) => print_fault(fault, errors),
+        FindFault::WebP(fault) => print_fault(fault, errors),
+        FindFault::Packet(fault) => print_packet_fault(number, fault, errors),
+        FindFault::Hidden => print_packet_fault(number, "Hidden", errors),
+        FindFault::NoPacket(count) => print_no_packet(number, count, wanted.input, errors),
+        FindFault::NoPicture(count) => print_no_picture(count, wanted.input, errors),
+        FindFault::Memory => print_fault("Memory", errors),
     }
+}
+
+// Prints the name of a fault.
+fn print_fault<F: fmt::Display + Copy, E: Write>(
+    fault: F,
+    errors: &mut Counted<E>,
+) -> io::Result<()> {
+    writeln!(errors, "vp8: {fault}")
+}
+
+// Prints the name of a packet's fault.
+fn print_packet_fault<F: fmt::Display + Copy, E: Write>(
+    number: u32,
+    fault: F,
+    errors: &mut Counted<E>,
+) -> io::Result<()> {
+    writeln!(errors, "vp8: packet {number}: {fault}")
+}
+
+// Prints that a file with this number of packets lacks one.
+fn print_no_packet<E: Write>(
+    number: u32,
+    count: u32,
+    from: &str,
+    errors: &mut Counted<E>,
+) -> io::Result<()> {
+    let (name, plural) = (Printable(from), if count == 1 { "" } else { "s" });
+    writeln!(
+        errors,
+        "vp8: no packet {number}: {name} has {count} packet{plural}"
+    )
+}
+
+// Prints that none of a file's packets shows a picture.
+fn print_no_picture<E: Write>(count: u32, from: &str, errors: &mut Counted<E>) -> io::Result<()> {
+    let name = Printable(from);
+    writeln!(
+        errors,
+        "vp8: no picture: none of the {count} packets of {name} shows one"
+    )
 }

@@ -1,7 +1,9 @@
 //! The command `vp8 decode --md5`: MD5 sums of pictures, in place of a file of them.
 
-ghost use Rattle.std.specs.Prelude.{◌≤◌};
-ghost use Rattle.vp_app.specs.Commands.{Side, read_side, written_side, IsFileDecoded, IsFileRangeDecoded};
+ghost use Rattle.std.specs.Prelude.{◌≡◌, ◌≤◌, ◌⊎◌};
+ghost use Rattle.vp_base.specs.Counted.{counted_contents};
+ghost use Rattle.vp_lines.specs.Sums.{PrintsSums};
+ghost use Rattle.vp_app.specs.Commands.{Side, read_side, written_side, IsFileDecoded, IsFileRangeDecoded, IsUnwritten};
 ghost use Rattle.vp_app.specs.Commands.{SumsFile, SumsPictures, SumsRange};
 
 use crate::files::file_fault;
@@ -35,12 +37,35 @@ pub(crate) fn sum_pictures<H: Files + AllocGlobal + Clock + Eprint, R: Read, W: 
     let (each, y4m) = (decoding.md5_each, decoding.y4m);
     let mut summer = Summer::new(outside.alloc(), each, y4m);
     let done = sum_file(outside, form_of(y4m), decoding, input, &mut summer);
-    let (is_told, failures) = (done.is_ok(), output.failures());
+    let is_told = done.is_ok();
     let status = report_decode(outside, done, decoding, errors);
-    if is_told && print_sums(summer, each, decoding.output, output).is_err() {
-        return report_unwritten(failures, output, errors);
+    if is_told {
+        tell_sums(summer, each, decoding.output, status, output, errors)
+    } else {
+        status
     }
-    status
+}
+
+// Prints the sums of pictures. Returns this exit status, or 1 if the output fails.
+fn tell_sums<W: Write, E: Write>(
+    summer: Summer,
+    each: bool,
+    name: &str,
+    status: u8,
+    output: &mut Counted<W>,
+    errors: &mut Counted<E>,
+) -> u8
+    requires { status ≤ 1 }
+    ensures status { result ≤ 1 }
+    ensures told { ((result ≡ status) × PrintsSums each name.now (counted_contents W.contents output.old)
+        (counted_contents W.contents output.new))
+        ⊎ IsUnwritten result (written_side W.contents output.old) (written_side W.contents output.new) }
+{
+    let failures = output.failures();
+    match print_sums(summer, each, name, output) {
+        Ok(()) => status,
+        Err(_) => report_unwritten(failures, output, errors),
+    }
 }
 
 // Opens the file, and sums up its pictures.
@@ -106,12 +131,13 @@ pub(crate) fn sum_packets<H: Files + AllocGlobal + Clock + Eprint, R: Read, W: W
     let mut summer = Summer::new(outside.alloc(), each, y4m);
     let form = form_of(y4m);
     let done = sum_range(outside, form, wanted, input, &mut summer);
-    let (is_told, failures) = (done.is_ok(), output.failures());
+    let is_told = done.is_ok();
     let status = report_packets(outside, done, wanted, errors);
-    if is_told && print_sums(summer, each, wanted.decoding.output, output).is_err() {
-        return report_unwritten(failures, output, errors);
+    if is_told {
+        tell_sums(summer, each, wanted.decoding.output, status, output, errors)
+    } else {
+        status
     }
-    status
 }
 
 // Opens the file, and sums up the pictures of the range.
