@@ -1,6 +1,6 @@
 -- Entries of neighbours.
-use Rattle.std.proofs.Common.{◌≡◌, ◌∙◌, ℕ, zero, suc, ◌+◌, ◌*◌, ◌<◌, ◌≤◌, Bool, true, false, cond, List, [], ◌∷◌, ◌++◌, length, get_or, take, refl, ap, sym, arith, inl, inr, ℤ, pos, negsuc, add_assoc, append_assoc}
-use Rattle.std.proofs.lemmas.List.{append-nil, get_or_default}
+use Rattle.std.proofs.Common.{◌≡◌, ◌∙◌, ℕ, zero, suc, ◌+◌, ◌*◌, ◌<◌, ◌≤◌, Bool, true, false, cond, List, [], ◌∷◌, ◌++◌, length, get_or, refl, ap, sym, arith, inl, inr, ℤ, pos, negsuc, add_assoc, append_assoc}
+use Rattle.std.proofs.lemmas.List.{append-nil}
 use Rattle.std.proofs.lemmas.Bool.{cases_Bool, and_parts, eqb-true, false≢true, lt-ltb, le-ltb}
 use Rattle.vp_motion.specs.declared.vector.Weighted.{Weighted}
 use Rattle.vp_head.specs.declared.fields.Reference.{Reference}
@@ -15,29 +15,7 @@ use Rattle.vp_head.specs.Reference.{is_intra}
 use Rattle.vp_motion.specs.Map.{intra}
 use Rattle.vp_motion.specs.Near.{from_entries, from_two, first_candidate, weighted_at, clamped_vector, candidates, split_count, splits, same, same_number, still_weight, moving, onto, runs, neighbours, joined, total, nobody, weighted_neighbour, bias_corrected, HavePositiveWeights, CountsNeighbours}
 
--- the last entry, and one more
-pub joined-last : (es : List Weighted) (n : ℕ) (w : Weighted) → length es ≡ n + 1 → same (get_or es n nobody).vector w.vector ≡ true
-    → take n es ++ record { vector = (get_or es n nobody).vector; weight = (get_or es n nobody).weight + w.weight } ∷ [] ≡ joined es w
-unfolding joined
-joined-last [] n w l h = absurd (omega arith)
-joined-last (e ∷ []) zero w l h = rw h refl
-joined-last (e ∷ []) (suc n) w l h = absurd (omega arith)
-joined-last (e ∷ (f ∷ fs)) zero w l h = absurd (omega arith)
-joined-last (e ∷ (f ∷ fs)) (suc n) w l h = ap (λ (r : List Weighted). e ∷ r) (joined-last (f ∷ fs) n w (omega arith) h)
-
-pub joined-new : (es : List Weighted) (n : ℕ) (w : Weighted) → length es ≡ n + 1 → same (get_or es n nobody).vector w.vector ≡ false → es ++ w ∷ [] ≡ joined es w
-unfolding joined
-joined-new [] n w l h = absurd (omega arith)
-joined-new (e ∷ []) zero w l h = rw h refl
-joined-new (e ∷ []) (suc n) w l h = absurd (omega arith)
-joined-new (e ∷ (f ∷ fs)) zero w l h = absurd (omega arith)
-joined-new (e ∷ (f ∷ fs)) (suc n) w l h = ap (λ (r : List Weighted). e ∷ r) (joined-new (f ∷ fs) n w (omega arith) h)
-
-pub joined-none : (es : List Weighted) (w : Weighted) → length es ≡ 0 → es ++ w ∷ [] ≡ joined es w
-unfolding joined
-joined-none [] w l = refl
-joined-none (e ∷ es) w l = absurd (omega arith)
-
+-- one more entry
 pub weight_below : (es : List Weighted) (n : ℕ) → (get_or es n nobody).weight ≤ total es
 weight_below [] n = omega arith
 weight_below (e ∷ es) zero = omega arith
@@ -151,10 +129,6 @@ near_is g place r b a l k count total_splits es p q s n t =
     let m : total_splits ≡ 2 * from_bool (splits (look intra g (above place))) + 2 * from_bool (splits (look intra g (left place))) + from_bool (splits (look intra g (corner place))) =
     n ∙ (λ i. 2 * from_bool (splits (p i)) + 2 * from_bool (splits (q i)) + from_bool (splits (s i))) in
     λ i. from_entries (clamped_vector g place) (z i) (m i) (w i)
-
--- an entry that is there is that, whatever counts as standing past the end
-pub there : (es : List Weighted) (k : ℕ) (r : Weighted) → k < length es → r ≡ get_or es k r → r ≡ get_or es k nobody
-there es k r within is = is ∙ get_or_default es k r nobody within
 
 -- where the second entry is heavier, it is the nearest
 pub second-first : (clamp : Vector → Vector) (count total_splits : ℕ) (es : List Weighted) (first second : Weighted) → first ≡ first_candidate es → second ≡ weighted_at es 1

@@ -7,12 +7,12 @@ ghost use Rattle.vp_base.specs.Grid.{Has, look};
 ghost use Rattle.vp_motion.specs.Map.{intra};
 ghost use Rattle.vp_motion.specs.Vector.{IsWithin, Vector};
 ghost use Rattle.vp_motion.specs.Near.{HavePositiveWeights, CountsNeighbours, bias_of, candidates, clamped, clamped_by, weighted_neighbour};
-ghost use Rattle.vp_motion.specs.Near.{weighted_at, first_candidate, from_entries, from_two, joined, same};
+ghost use Rattle.vp_motion.specs.Near.{first_candidate, from_entries, from_two, same};
 ghost use Rattle.vp_motion.specs.Near.{bias_corrected, splits, total, clamped_vector};
 
+use crate::entries::Entries;
 use crate::map::VectorMap;
 use crate::vector::{Candidates, MacroblockMotion, Nearby, STILL, Vector, Weighted};
-use arrayvec::ArrayVec;
 use vp_base::Place;
 use vp_head::{Reference, SignBiases};
 use vp_tables::VectorMode;
@@ -141,49 +141,13 @@ fn seen_vector(reference: Reference, biases: SignBiases, neighbour: &MacroblockM
     }
 }
 
-/// Appends an entry, or adds its weight to the last one if their vectors are equal.
-fn put(entries: &mut ArrayVec<Weighted, 3>, weighted: Weighted)
-    requires room { length entries.old.items < 3 }
-    requires light { total entries.old.items + weighted.weight ≤ 255 }
-    ensures { entries.new.items ≡ joined entries.old.items weighted }
-{
-    let count = entries.len();
-    if count == 0 {
-        entries.push(weighted);
-    } else {
-        let last = entries[count - 1];
-        if is_same(last.vector, weighted.vector) {
-            entries.truncate(count - 1);
-            entries.push(Weighted {
-                vector: last.vector,
-                weight: last.weight + weighted.weight,
-            });
-        } else {
-            entries.push(weighted);
-        }
-    }
-}
-
-/// Adds a vector. If it equals the last one, their weights are added.
-fn join(entries: &mut ArrayVec<Weighted, 3>, weighted: Weighted)
-    requires room { length entries.old.items < 3 }
-    requires light { total entries.old.items + weighted.weight ≤ 255 }
-    requires heavy { 0 < weighted.weight }
-    ensures value { entries.new.items ≡ joined entries.old.items weighted }
-    ensures len { length entries.new.items ≤ length entries.old.items + 1 }
-    ensures weight { total entries.new.items ≡ total entries.old.items + weighted.weight }
-    ensures heavy { HavePositiveWeights entries.old.items → HavePositiveWeights entries.new.items }
-{
-    put(entries, weighted);
-}
-
 /// The motion found among the neighbours so far.
 #[derive(Drop)]
 struct NearbyMotion {
     zeros: u8,
     /// The weights of the neighbours with split vectors.
     splits: u8,
-    entries: ArrayVec<Weighted, 3>,
+    entries: Entries,
 }
 
 /// Counts a neighbour.
@@ -194,17 +158,17 @@ fn consider(
     reference: Reference,
     biases: SignBiases,
 )
-    requires room { length found.old.entries.items < 3 }
-    requires light { total found.old.entries.items + found.old.zeros + weight ≤ 255 }
+    requires room { length found.old.entries < 3 }
+    requires light { total found.old.entries + found.old.zeros + weight ≤ 255 }
     requires few { found.old.splits + weight ≤ 255 }
     requires heavy { 0 < weight }
-    ensures tally { (ws : List Weighted) → CountsNeighbours ws found.old.zeros found.old.entries.items
+    ensures tally { (ws : List Weighted) → CountsNeighbours ws found.old.zeros found.old.entries
         → CountsNeighbours (ws ++ weighted_neighbour reference biases weight neighbour.now) found.new.zeros
-        found.new.entries.items }
-    ensures len { length found.new.entries.items ≤ length found.old.entries.items + 1 }
-    ensures weight { total found.new.entries.items + found.new.zeros
-        ≤ total found.old.entries.items + found.old.zeros + weight }
-    ensures heavy { HavePositiveWeights found.old.entries.items → HavePositiveWeights found.new.entries.items }
+        found.new.entries }
+    ensures len { length found.new.entries ≤ length found.old.entries + 1 }
+    ensures weight { total found.new.entries + found.new.zeros
+        ≤ total found.old.entries + found.old.zeros + weight }
+    ensures heavy { HavePositiveWeights found.old.entries → HavePositiveWeights found.new.entries }
     ensures splits { found.new.splits ≡ found.old.splits + weight * from_bool (splits neighbour.now) }
     ensures few { found.new.splits ≤ found.old.splits + weight }
 {
@@ -214,44 +178,26 @@ fn consider(
         if is_same(vector, STILL) {
             found.zeros += weight;
         } else {
-            join(&mut found.entries, Weighted { vector, weight });
+            found.entries.join(Weighted { vector, weight });
         }
-    }
-}
-
-const NOBODY: Weighted = Weighted {
-    vector: STILL,
-    weight: 0,
-};
-
-/// Entry `k`, or the zero vector with weight 0.
-fn entry_at(entries: &ArrayVec<Weighted, 3>, k: usize) -> Weighted
-    ensures value { result ≡ weighted_at entries.now.items k }
-    ensures light { result.weight ≤ total entries.now.items }
-{
-    if k < entries.len() {
-        entries[k]
-    } else {
-        NOBODY
     }
 }
 
 /// The first entry. Its weight grows by 1 if there are three entries and the third equals it.
 #[tactic(auto, unfolding(crate::specs::Near::first_candidate))]
-fn first_entry(entries: &ArrayVec<Weighted, 3>) -> Weighted
-    requires light { total entries.now.items ≤ 5 }
-    requires heavy { HavePositiveWeights entries.now.items }
-    ensures value { result ≡ first_candidate entries.now.items }
+fn first_entry(entries: &Entries) -> Weighted
+    requires light { total entries.now ≤ 5 }
+    requires heavy { HavePositiveWeights entries.now }
+    ensures value { result ≡ first_candidate entries.now }
     ensures light { result.weight ≤ 5 }
 {
-    let first = entry_at(entries, 0);
-    if entries.len() > 2 && is_same(entry_at(entries, 2).vector, first.vector) {
-        Weighted {
+    let first = entries.first();
+    match entries.third() {
+        Some(third) if is_same(third.vector, first.vector) => Weighted {
             vector: first.vector,
             weight: first.weight + 1,
-        }
-    } else {
-        first
+        },
+        _ => first,
     }
 }
 
@@ -279,17 +225,17 @@ fn nearby_of(zeros: u8, splits: u8, nearest: Weighted, near: Weighted) -> Nearby
 
 /// The candidates before clamping, from the entries found.
 #[tactic(auto, unfolding(crate::specs::Near::from_entries))]
-fn choose(zeros: u8, splits: u8, entries: &ArrayVec<Weighted, 3>) -> Nearby
+fn choose(zeros: u8, splits: u8, entries: &Entries) -> Nearby
     requires zeros { zeros ≤ 5 }
     requires splits { splits ≤ 5 }
-    requires light { total entries.now.items ≤ 5 }
-    requires heavy { HavePositiveWeights entries.now.items }
+    requires light { total entries.now ≤ 5 }
+    requires heavy { HavePositiveWeights entries.now }
     ensures value { (clamp : Vector → Vector) → clamped_by clamp result
-        ≡ from_entries clamp zeros splits entries.now.items }
+        ≡ from_entries clamp zeros splits entries.now }
     ensures light { (k : ℕ) → slice_index result.counts k < 6 }
 {
     let first = first_entry(entries);
-    let second = entry_at(entries, 1);
+    let second = entries.second();
     if first.weight < second.weight {
         nearby_of(zeros, splits, second, first)
     } else {
@@ -298,6 +244,7 @@ fn choose(zeros: u8, splits: u8, entries: &ArrayVec<Weighted, 3>) -> Nearby
 }
 
 /// The candidates of the macroblock at `place`, before clamping.
+#[inline(always)]
 pub(crate) fn nearby(
     map: &VectorMap,
     place: Place,
@@ -313,7 +260,7 @@ pub(crate) fn nearby(
     let mut found = NearbyMotion {
         zeros: 0,
         splits: 0,
-        entries: ArrayVec::new(),
+        entries: Entries::none(),
     };
     consider(&mut found, above, 2, reference, biases);
     consider(&mut found, left, 2, reference, biases);

@@ -3,8 +3,9 @@
 ghost use Rattle.std.specs.Prelude.{◌≡◌, ◌-◌, ◌<◌, ◌≤◌, ℕ, IfOk, Some, [], length, replicate, slice_get, slice_set};
 ghost use Rattle.std.specs.Prelude.{slice_index_or};
 ghost use Rattle.vp_motion.specs.Map.{intra};
+ghost use Rattle.vp_motion.specs.MotionList.{with_intra};
 
-use crate::vector::{MacroblockMotion, STILL};
+use crate::vector::{MacroblockMotion, STILL, Vector};
 use std::alloc::{AllocError, Global};
 use std::marker::Model;
 use vp_head::Reference;
@@ -56,6 +57,43 @@ fn clear(entries: &mut Vec<MacroblockMotion>, from: usize, to: usize)
     for i in from..to {
         entries[i] = intra_motion();
     }
+}
+
+/// Makes entry `i` one of those that are written: clears the others before it. Returns the number that are written once
+/// it is set.
+#[inline(always)]
+fn reach(entries: &mut Vec<MacroblockMotion>, written: usize, i: usize) -> usize
+    requires written { written ≤ length entries.old.items }
+    requires inside { i < length entries.old.items }
+    ensures size { length entries.new.items ≡ length entries.old.items }
+    ensures bound { result ≤ length entries.old.items }
+    ensures same { (e : MacroblockMotion) → with_intra result (slice_set entries.new.items i e)
+        ≡ slice_set (with_intra written entries.old.items) i e }
+{
+    if i < written {
+        return written;
+    }
+    clear(entries, written, i);
+    i + 1
+}
+
+/// Gives all blocks one vector. Not inlined: by itself it is vectorised.
+#[inline(never)]
+fn fill(vectors: &mut [Vector; 16], vector: Vector)
+    ensures { vectors.new ≡ replicate 16 vector }
+{
+    let all = [vector; 16];
+    *vectors = all;
+}
+
+/// Replaces the motion of a macroblock by that of one vector, in place.
+#[inline(always)]
+fn put_all(entry: &mut MacroblockMotion, reference: Reference, mode: VectorMode, vector: Vector)
+    ensures { entry.new ≡ record { reference = reference; mode = mode; vectors = replicate 16 vector } }
+{
+    entry.reference = reference;
+    entry.mode = mode;
+    fill(&mut entry.vectors, vector);
 }
 
 impl MotionList {
@@ -122,12 +160,27 @@ impl MotionList {
         requires { i < length self.old }
         ensures { self.new ≡ slice_set self.old i entry }
     {
-        if i < self.written {
-            self.entries[i] = entry;
-            return;
-        }
-        clear(&mut self.entries, self.written, i);
+        self.written = reach(&mut self.entries, self.written, i);
         self.entries[i] = entry;
-        self.written = i + 1;
+    }
+
+    /// Replaces the motion of a macroblock, whose blocks have one vector.
+    #[inline(always)]
+    pub(crate) fn set_all(
+        &mut self,
+        i: usize,
+        reference: Reference,
+        mode: VectorMode,
+        vector: Vector,
+    )
+        requires { i < length self.old }
+        ensures { self.new ≡ slice_set self.old i (record {
+          reference = reference;
+          mode = mode;
+          vectors = replicate 16 vector;
+        }) }
+    {
+        self.written = reach(&mut self.entries, self.written, i);
+        put_all(&mut self.entries[i], reference, mode, vector);
     }
 }

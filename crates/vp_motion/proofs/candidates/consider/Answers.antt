@@ -30,7 +30,7 @@ pub returns-else-is_same : goal.returns-else-is_same
 returns-else-is_same c = record {
   tally = λ ws t. tally-moving ws _ _ _ c.args.reference c.args.biases c.args.weight c.args.neighbour.now (sym (ap (λ (e : MacroblockMotion). is_intra e.reference) c.neighbour.view_is) ∙ sym c.is_intra.ensures ∙ c.if-not-is_intra.true)
       (ap (λ (v : Vector). same v zero_vector) (sym c.seen_vector-vector.ensures) ∙ sym c.is_same.ensures ∙ c.if-is_same.false)
-      (c.join.ensures.value ∙ ap (λ (v : Vector). joined c.args.found.now.entries.items (record { vector = v; weight = c.args.weight })) c.seen_vector-vector.ensures) t;
+      (c.join.ensures.value ∙ ap (λ (v : Vector). joined c.args.found.now.entries (record { vector = v; weight = c.args.weight })) c.seen_vector-vector.ensures) t;
   len = c.join.ensures.len;
   weight = omega arith;
   heavy = c.join.ensures.heavy;

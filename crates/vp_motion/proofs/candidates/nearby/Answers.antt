@@ -11,6 +11,6 @@ returns c = record {
       c.choose.ensures.value (clamped_vector c.args.map.now c.args.place) ∙ near_is c.args.map.now c.args.place c.args.reference c.args.biases _ _ _ _ _ _
       c.row_above.ensures.above (c.look-left.ensures ∙ ap (look intra c.args.map.now) c.left.ensures.value) c.row_above.ensures.corner
       (omega (arith, c.consider.ensures.splits, c.consider-2.ensures.splits, c.consider-3.ensures.splits))
-      (c.consider-3.ensures.tally _ (c.consider-2.ensures.tally _ (c.consider.ensures.tally [] (rw c.new.ensures tally-none))));
+      (c.consider-3.ensures.tally _ (c.consider-2.ensures.tally _ (c.consider.ensures.tally [] (rw c.none.ensures tally-none))));
   light = c.choose.ensures.light;
 }
