@@ -53,19 +53,6 @@ inter_level version p x y v r c none =
     ∙ sym (filter_six-whole_pixels version row (across_bound (taps version (fraction v.column)) p (first_tap x v.column) (first_tap y v.row) (r + 2) c))
     ∙ ap (λ (n : ℕ). filter_six (taps version n) row) (sym none)
 
-pub rows_bytes : (n i : ℕ) (value : ℕ → ℕ → ℕ) (row : List ℕ)
-    → ((k c : ℕ) → k < i → c < n → value k c ≤ 255)
-    → ((c : ℕ) → c < n → get_or row c 0 ≡ value i c)
-    → ((c : ℕ) → c < n → get_or row c 0 ≤ 255)
-    → (k c : ℕ) → k < i + 1 → c < n → value k c ≤ 255
-rows_bytes n i value row done last bytes k c kin cin =
-    elim (cases_lt k i) [
-      | inl less ↦ done k c less cin
-      | inr same ↦
-          let e : k ≡ i = omega arith in
-          subst (λ (v : ℕ). v ≤ 255) (last c cin ∙ ap (λ (j : ℕ). value j c) (sym e)) (bytes c cin)
-    ]
-
 -- at whole rows and columns neither pass does anything
 pub inter_whole : (version : ℕ) (p : Raster) (x y : ℕ) (v : PlaneVector) (r c : ℕ) → fraction v.row ≡ 0 → fraction v.column ≡ 0
     → reference_pixel p (first_tap x v.column +ℤ pos 2 +ℤ pos c) (first_tap y v.row +ℤ pos 2 +ℤ pos r) ≤ 255

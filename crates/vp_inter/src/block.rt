@@ -2,15 +2,15 @@
 
 ghost use Rattle.std.specs.Prelude.{◌≡◌, ℕ, ℤ, pos, ◌+◌, ◌*◌, ◌%◌, ◌<◌, ◌≤◌, ◌+ℤ◌, length, slice_index};
 ghost use Rattle.std.specs.Prelude.{IsTrue};
-ghost use Rattle.vp_inter.specs.Filter.{taps, filter_six};
-ghost use Rattle.vp_inter.specs.Vectors.{fraction};
+ghost use Rattle.vp_base.specs.Raster.{pixel};
+ghost use Rattle.vp_inter.specs.Filter.{filter_six};
 ghost use Rattle.vp_inter.specs.Narrow.{IsNear, OuterWeightsAreZero, SumsFitI16};
 ghost use Rattle.vp_inter.specs.Inter.{reference_pixel, horizontal_pass, inter_pixel, IsInside};
 
 use crate::filter::{ends_are_zero, pass, seconds_are_zero, taps};
-use crate::reference::{Flat, lies_inside, plain_row, reference_line};
+use crate::reference::{Flat, lies_inside, pixels_are_bytes, plain_row, reference_line};
 use crate::short_rows::short_rows;
-use crate::six_tap_1d::{has_six_taps, horizontal_six_tap_16, vertical_six_tap_16};
+use crate::six_tap_1d::{has_six_taps, horizontal_six_tap_16};
 use crate::six_tap_2d::six_tap_2d_block;
 use crate::vector::{PlaneVector, first_tap, fraction};
 use std::simd::prelude::*;
@@ -97,8 +97,7 @@ fn predict<const N: usize, const W: usize, const L: usize, const M: usize>(
     ensures { (r c : ℕ) → r < N → c < N → slice_index result (r * N + c)
         ≡ inter_pixel version plane.now x y vector r c }
 {
-    let _known = plane.width();
-    let _known = plane.height();
+    pixels_are_bytes(plane);
     let left = first_tap(x, vector.column);
     let top = first_tap(y, vector.row);
     let across = fraction(vector.column);
@@ -108,48 +107,26 @@ fn predict<const N: usize, const W: usize, const L: usize, const M: usize>(
     }
     let mut block = [0; M];
     if down == 0 {
-        predict_across::<N, W>(&mut block, plane, left, top + 2, across, version);
+        let weights = taps(version, across);
+        pass_rows::<N, W>(&mut block, plane, left, top + 2, weights, N);
     } else if across == 0 {
-        predict_down::<N, W, L, M>(&mut block, plane, left + 2, top, down, version);
+        let column_weights = taps(version, down);
+        pass_down::<N, W, L, M>(&mut block, plane, left + 2, top, column_weights);
     } else {
-        predict_both::<N, W, L, M>(&mut block, plane, left, top, vector, version);
+        let first = taps(version, across);
+        let second = taps(version, down);
+        pass_both::<N, W, L, M>(&mut block, plane, left, top, first, second);
     }
     block
 }
 
-/// Predicts a block by the horizontal pass alone.
-fn predict_across<const N: usize, const W: usize>(
+/// The vertical pass alone. A block of at least eight columns inside the plane is read directly from it.
+fn pass_down<const N: usize, const W: usize, const L: usize, const M: usize>(
     pixels: &mut [u8],
     plane: &Plane,
     left: i32,
     top: i32,
-    eighths: usize,
-    version: u8,
-)
-    requires size { (0 < N) × (N ≤ 16) }
-    requires line { W ≡ N + 5 }
-    requires whole { length pixels.old ≡ N * N }
-    requires some { 0 < eighths }
-    requires bound { eighths < 8 }
-    requires columns { 0 < plane.now.width }
-    requires height { 0 < plane.now.height }
-    requires near { IsNear left }
-    requires beside { IsNear top }
-    ensures { (r c : ℕ) → r < N → c < N → slice_index pixels.new (r * N + c)
-        ≡ horizontal_pass (taps version eighths) plane.now left top r c }
-{
-    let weights = taps(version, eighths);
-    pass_rows::<N, W>(pixels, plane, left, top, weights, N);
-}
-
-/// Predicts a block by the vertical pass alone. The second clause states that what it filters are bytes.
-fn predict_down<const N: usize, const W: usize, const L: usize, const M: usize>(
-    pixels: &mut [u8],
-    plane: &Plane,
-    left: i32,
-    top: i32,
-    eighths: usize,
-    version: u8,
+    weights: &[i16; 6],
 )
     requires size { (0 < N) × (N ≤ 16) }
     requires line { W ≡ N + 5 }
@@ -157,53 +134,78 @@ fn predict_down<const N: usize, const W: usize, const L: usize, const M: usize>(
     requires square { (M ≡ N * N) × (M ≤ 256) }
     requires pieces { M % 16 ≡ 0 }
     requires whole { length pixels.old ≡ M }
-    requires some { 0 < eighths }
-    requires bound { eighths < 8 }
+    requires gentle { SumsFitI16 weights.now }
     requires columns { 0 < plane.now.width }
     requires height { 0 < plane.now.height }
     requires near { IsNear left }
     requires beside { IsNear top }
-    ensures value { (r c : ℕ) → r < N → c < N → slice_index pixels.new (r * N + c) ≡ filter_six (taps version eighths)
+    ensures { (r c : ℕ) → r < N → c < N → slice_index pixels.new (r * N + c) ≡ filter_six weights.now
         (λ k. reference_pixel plane.now (left +ℤ pos c) (top +ℤ pos (r + k))) }
-    ensures bytes { (i c : ℕ) → i < W → c < N → reference_pixel plane.now (left +ℤ pos c) (top +ℤ pos i) ≤ 255 }
 {
+    if N >= 8 && lies_inside(plane, left, top, N, W) {
+        plane_columns::<N>(pixels, plane, left as usize, top as usize, weights);
+        return;
+    }
     let rows = copied_rows::<N, L>(plane, left, top, W);
-    pass_columns::<N, M>(pixels, &rows, taps(version, eighths));
+    pass_columns::<N, M>(pixels, &rows, weights);
 }
 
-/// Predicts a block by both passes.
-fn predict_both<const N: usize, const W: usize, const L: usize, const M: usize>(
+/// The vertical pass over the pixels of a plane, of which the first is at column `left` of row `top`.
+#[inline(never)]
+fn plane_columns<const N: usize>(
     pixels: &mut [u8],
     plane: &Plane,
-    left: i32,
-    top: i32,
-    vector: PlaneVector,
-    version: u8,
+    left: usize,
+    top: usize,
+    weights: &[i16; 6],
 )
-    requires size { (0 < N) × (N ≤ 16) }
-    requires line { W ≡ N + 5 }
-    requires between { (L ≡ W * N) × (L ≤ 336) }
-    requires square { (M ≡ N * N) × (M ≤ 256) }
-    requires pieces { M % 16 ≡ 0 }
-    requires whole { length pixels.old ≡ M }
-    requires across { 0 < fraction vector.column }
-    requires down { 0 < fraction vector.row }
-    requires columns { 0 < plane.now.width }
-    requires height { 0 < plane.now.height }
-    requires near { IsNear left }
-    requires beside { IsNear top }
+    requires size { N ≤ 16 }
+    requires whole { length pixels.old ≡ N * N }
+    requires columns { left + N ≤ plane.now.width }
+    requires rows { top + N + 5 ≤ plane.now.height }
+    requires gentle { SumsFitI16 weights.now }
     ensures { (r c : ℕ) → r < N → c < N → slice_index pixels.new (r * N + c)
-        ≡ filter_six (taps version (fraction vector.row))
-        (λ k. horizontal_pass (taps version (fraction vector.column)) plane.now left top (r + k) c) }
+        ≡ filter_six weights.now (λ k. pixel plane.now (left + c) (top + (r + k))) }
 {
-    let rows = taps(version, fraction(vector.column));
-    let columns = taps(version, fraction(vector.row));
-    pass_both::<N, W, L, M>(pixels, plane, left, top, rows, columns);
+    if !ends_are_zero(weights) {
+        plane_columns_by_taps::<N, 6>(pixels, plane, left, top, weights);
+    } else if !seconds_are_zero(weights) {
+        plane_columns_by_taps::<N, 4>(pixels, plane, left, top, weights);
+    } else {
+        plane_columns_by_taps::<N, 2>(pixels, plane, left, top, weights);
+    }
 }
 
-/// Both passes, with `W` rows of `N` pixels, `L` in all, between them. A 16x16 block with six nonzero weights in
-/// both uses
-/// `six_tap_2d`.
+/// That pass with `COUNT` nonzero weights, of which the loop reads a local copy, as `horizontal_rows` does.
+#[inline(always)]
+fn plane_columns_by_taps<const N: usize, const COUNT: usize>(
+    pixels: &mut [u8],
+    plane: &Plane,
+    left: usize,
+    top: usize,
+    weights: &[i16; 6],
+)
+    requires size { N ≤ 16 }
+    requires whole { length pixels.old ≡ N * N }
+    requires columns { left + N ≤ plane.now.width }
+    requires rows { top + N + 5 ≤ plane.now.height }
+    requires gentle { SumsFitI16 weights.now }
+    requires few { OuterWeightsAreZero weights.now COUNT }
+    ensures { (r c : ℕ) → r < N → c < N → slice_index pixels.new (r * N + c)
+        ≡ filter_six weights.now (λ k. pixel plane.now (left + c) (top + (r + k))) }
+{
+    let own = *weights;
+    let width = plane.width();
+    let _known = plane.height();
+    let from = plane.pixels();
+    for r in 0..N {
+        let row = pass::<N, COUNT>(from, (top + r) * width + left, width, &own);
+        put_lanes(pixels, r, row);
+    }
+}
+
+/// Both passes, with `W` rows of `N` pixels, `L` in all, between them. A 16x16 block with six nonzero weights in both
+/// uses `six_tap_2d`.
 fn pass_both<const N: usize, const W: usize, const L: usize, const M: usize>(
     pixels: &mut [u8],
     plane: &Plane,
@@ -254,7 +256,6 @@ fn copied_rows<const N: usize, const L: usize>(
     ensures len { length result ≡ L }
     ensures value { (r c : ℕ) → r < rows → c < N → slice_index result (r * N + c)
         ≡ reference_pixel plane.now (left +ℤ pos c) (top +ℤ pos r) }
-    ensures bytes { (r c : ℕ) → r < rows → c < N → reference_pixel plane.now (left +ℤ pos c) (top +ℤ pos r) ≤ 255 }
 {
     let inside = lies_inside(plane, left, top, N, rows);
     let flat = Flat::of(plane);
@@ -435,9 +436,7 @@ pub(crate) fn pass_columns<const N: usize, const M: usize>(
     ensures { (r c : ℕ) → r < N → c < N → slice_index pixels.new (r * N + c)
         ≡ filter_six weights.now (λ k. slice_index rows.now ((r + k) * N + c)) }
 {
-    if N == 16 && has_six_taps(weights) {
-        vertical_six_tap_16(pixels, rows, weights);
-    } else if !ends_are_zero(weights) {
+    if !ends_are_zero(weights) {
         vertical_by_taps::<N, M, 6>(pixels, rows, weights);
     } else if !seconds_are_zero(weights) {
         vertical_by_taps::<N, M, 4>(pixels, rows, weights);
@@ -479,7 +478,6 @@ pub(crate) fn put_lanes<const N: usize>(pixels: &mut [u8], r: usize, row: Simd<u
     requires room { r * N + N ≤ length pixels.old }
     ensures here { (c : ℕ) → c < N → slice_index pixels.new (r * N + c) ≡ slice_index row.entry c }
     ensures before { (i : ℕ) → i < r * N → slice_index pixels.new i ≡ slice_index pixels.old i }
-    ensures bytes { (c : ℕ) → c < N → slice_index row.entry c ≤ 255 }
 {
     row.copy_to_slice(&mut pixels[r * N..]);
 }

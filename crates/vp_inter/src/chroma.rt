@@ -42,11 +42,13 @@ pub fn predict_into_chroma(
     }
     let u = reference.plane(1);
     let v = reference.plane(2);
-    if fraction(vector.column) > 0 && fraction(vector.row) > 0 && u.width() >= 16 {
-        filter_into_chroma(picture, x, y, reference, vector, version);
-    } else {
+    if fraction(vector.column) == 0 || u.width() < 16 {
         predict_into8(picture, 1, x, y, u, vector, version);
         predict_into8(picture, 2, x, y, v, vector, version);
+    } else if fraction(vector.row) == 0 {
+        across_into_chroma(picture, x, y, reference, vector, version);
+    } else {
+        filter_into_chroma(picture, x, y, reference, vector, version);
     }
 }
 
@@ -80,6 +82,42 @@ fn copy_chroma(
     picture.copy_block::<8>(1, x, y, u, column, row);
     picture.copy_block::<8>(2, x, y, v, column, row);
     true
+}
+
+/// Predicts both chroma blocks by the horizontal pass alone.
+fn across_into_chroma(
+    picture: &mut Picture,
+    x: usize,
+    y: usize,
+    reference: &Picture,
+    vector: PlaneVector,
+    version: u8,
+)
+    requires u_columns { x + 8 ≤ picture.old.u.width }
+    requires u_rows { y + 8 ≤ picture.old.u.height }
+    requires v_columns { x + 8 ≤ picture.old.v.width }
+    requires v_rows { y + 8 ≤ picture.old.v.height }
+    requires across { 0 < fraction vector.column }
+    requires level { fraction vector.row ≡ 0 }
+    requires wide { 16 ≤ reference.now.u.width }
+    ensures { picture.new ≡ record picture.old {
+      u = with_block picture.old.u x y 8 8 (inter_pixel version reference.now.u x y vector);
+      v = with_block picture.old.v x y 8 8 (inter_pixel version reference.now.v x y vector);
+    } }
+{
+    let _known = [picture.plane(1).width(), picture.plane(1).height()];
+    let _known = reference.dim();
+    let u = reference.plane(1);
+    let v = reference.plane(2);
+    let left = first_tap(x, vector.column);
+    let top = first_tap(y, vector.row);
+    let weights = taps(version, fraction(vector.column));
+    let filter = row_filter(u.width(), left, weights);
+    let mut block = [0; 64];
+    rows_by_filter::<8>(&mut block, u, top + 2, &filter, weights, 8);
+    picture.write_block::<8>(1, x, y, &block);
+    rows_by_filter::<8>(&mut block, v, top + 2, &filter, weights, 8);
+    picture.write_block::<8>(2, x, y, &block);
 }
 
 /// Predicts both chroma blocks by both passes.

@@ -3,12 +3,12 @@
 ghost use Rattle.std.specs.Prelude.{◌≡◌, ℕ, ℤ, pos, negsuc, ◌+◌, ◌*◌, ◌<◌, ◌≤◌, ◌+ℤ◌, ◌≤ℤ◌, length, slice_index};
 ghost use Rattle.vp_inter.specs.Filter.{taps, filter_six};
 ghost use Rattle.vp_inter.specs.Inter.{reference_pixel, horizontal_pass};
-ghost use Rattle.vp_inter.specs.Narrow.{SumsFitI16};
+ghost use Rattle.vp_inter.specs.Narrow.{IsNear, SumsFitI16};
 ghost use Rattle.vp_inter.specs.Filtered.{AreRows, AreFiltered};
 
 use crate::block::put_lanes;
 use crate::filter::taps;
-use crate::reference::{Flat, lies_inside, plain_row};
+use crate::reference::{Flat, lies_inside, pixels_are_bytes, plain_row};
 use crate::six_tap_1d::{
     ColumnWeights, horizontal_six_tap_16, pair_rows, paired_column_weights, vertical_sixteen,
     wide_columns,
@@ -138,6 +138,7 @@ fn filter_rows(rows: &mut [u8], plane: &Plane, left: i32, top: i32, eighths: usi
     ensures { AreRows rows.new 22 (horizontal_pass (taps 0 eighths) plane.now left top) }
 {
     if eighths == 0 {
+        pixels_are_bytes(plane);
         copy_rows(rows, plane, left + 2, top);
     } else {
         let inside = lies_inside(plane, left, top, 21, 22);
@@ -145,16 +146,15 @@ fn filter_rows(rows: &mut [u8], plane: &Plane, left: i32, top: i32, eighths: usi
     }
 }
 
-/// Copies 22 rows of the reference. The second clause states that they are bytes.
+/// Copies 22 rows of the reference.
 #[inline(never)]
 fn copy_rows(rows: &mut [u8], plane: &Plane, left: i32, top: i32)
     requires all { length rows.old ≡ 352 }
     requires columns { 0 < plane.now.width }
     requires height { 0 < plane.now.height }
-    requires near { (negsuc 400000000 ≤ℤ left) × (left ≤ℤ pos 400000000) }
-    requires beside { (negsuc 400000000 ≤ℤ top) × (top ≤ℤ pos 400000000) }
-    ensures value { AreRows rows.new 22 (λ i c. reference_pixel plane.now (left +ℤ pos c) (top +ℤ pos i)) }
-    ensures bytes { (i c : ℕ) → i < 22 → c < 16 → reference_pixel plane.now (left +ℤ pos c) (top +ℤ pos i) ≤ 255 }
+    requires near { IsNear left }
+    requires beside { IsNear top }
+    ensures { AreRows rows.new 22 (λ i c. reference_pixel plane.now (left +ℤ pos c) (top +ℤ pos i)) }
 {
     let inside = lies_inside(plane, left, top, 16, 22);
     let flat = Flat::of(plane);

@@ -37,6 +37,18 @@ pub(crate) fn lies_inside(plane: &Plane, left: i32, top: i32, columns: usize, ro
         && top as usize + rows <= plane.height()
 }
 
+/// States that the pixels of a plane are bytes, for callers that compute with them.
+pub(crate) fn pixels_are_bytes(plane: &Plane)
+    ensures { (column row : ℤ) → reference_pixel plane.now column row ≤ 255 }
+{
+    are_bytes(plane.pixels());
+}
+
+/// States that pixels are bytes.
+fn are_bytes(pixels: &[u8])
+    ensures { (k : ℕ) → slice_index pixels.now k ≤ 255 }
+{}
+
 /// A borrowed plane for a loop that writes pixels: a local value, which no write can alias, so its size stays in
 /// registers, and the compiler hoists what depends on it.
 #[derive(Drop)]

@@ -329,16 +329,3 @@ pub(crate) fn wide_columns<const ROWS: usize>(
         put_lanes::<16>(pixels, i, row);
     }
 }
-
-/// The vertical pass with six weights over rows of sixteen pixels, five more than it produces.
-pub(crate) fn vertical_six_tap_16(pixels: &mut [u8], rows: &[u8], weights: &[i16; 6])
-    requires all { length rows.now ≡ 336 }
-    requires whole { length pixels.old ≡ 256 }
-    requires gentle { SumsFitI16 weights.now }
-    ensures { (r c : ℕ) → r < 16 → c < 16 → slice_index pixels.new (r * 16 + c)
-        ≡ filter_six weights.now (λ k. slice_index rows.now ((r + k) * 16 + c)) }
-{
-    let mut pairs = [0; 576];
-    pair_rows::<18>(&mut pairs, rows);
-    wide_columns::<16>(pixels, &pairs, weights, &paired_column_weights(weights));
-}

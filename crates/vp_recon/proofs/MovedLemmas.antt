@@ -1,13 +1,15 @@
 -- A block that is moved, as a whole or subblock after subblock.
-use Rattle.std.proofs.Common.{◌≡◌, ◌∙◌, ℕ, ◌+◌, ◌*◌, ◌/◌, ◌%◌, ◌<◌, ◌≤◌, ℤ, pos, ◌+ℤ◌, false, List, [], ◌∷◌, map, get_or, sym, ap, arith}
+use Rattle.std.proofs.Common.{◌≡◌, ◌∙◌, ℕ, ◌+◌, ◌*◌, ◌/◌, ◌%◌, ◌<◌, ◌≤◌, ℤ, pos, negsuc, ◌+ℤ◌, ◌-ℤ◌, ◌*ℤ◌, neg_ℤ, int_div, suc, Bool, false, cond, ltb, List, [], ◌∷◌, map, get_or, sym, ap, arith}
 use Rattle.std.proofs.lemmas.List.{get_or-replicate}
 use Rattle.std.proofs.lemmas.Int.{ints}
+use Rattle.std.proofs.lemmas.Bool.{ne_eqb}
+use Rattle.std.proofs.lemmas.Bool.Decides.{nat_tests}
 use Rattle.vp_base.specs.Raster.{Raster}
 use Rattle.vp_tables.specs.Modes.{is_split}
 use Rattle.vp_motion.specs.Vector.{Vector, MacroblockMotion, AreOne, last_of, zero_vector}
 use Rattle.vp_inter.specs.declared.vector.PlaneVector.{PlaneVector}
 use Rattle.vp_inter.specs.Inter.{reference_pixel, horizontal_pass, inter_pixel}
-use Rattle.vp_inter.specs.Vectors.{fraction, first_tap, luma_vector, chroma_vector}
+use Rattle.vp_inter.specs.Vectors.{fraction, first_tap, whole_pixels, mean_of_four, chroma_eighths, luma_vector, chroma_vector}
 use Rattle.vp_inter.specs.Filter.{taps, filter_six}
 use Rattle.vp_inter.proofs.FilterLemmas.{filtered_bound}
 use Rattle.vp_recon.specs.Prediction.{moved_pixel, four_from, luma_moved, chroma_moved}
@@ -118,3 +120,40 @@ chroma_one version e k one whole below =
     let d = at (j + 5) (omega arith) in
     cc in
     ap (λ (vs : List Vector). chroma_vector version (map (λ w. w.row) vs) (map (λ w. w.column) vs)) (four (8 * (k / 2) + 2 * (k % 2)) (omega arith) ∙ sym (four 0 (omega arith)))
+
+-- the mean of four equal numbers
+mean_of_equal : (r : ℤ) → mean_of_four ((r +ℤ r) +ℤ (r +ℤ r)) ≡ r
+unfolding mean_of_four
+mean_of_equal (pos n) =
+    let s : ℕ = (n + n) + (n + n) in
+    let none : ltb s 0 ≡ false = grind (arith, nat_tests) in
+    ap (λ (b : Bool). cond b (int_div (pos s -ℤ pos 2) (pos 4)) (int_div (pos s +ℤ pos 2) (pos 4))) none
+    ∙ ap pos (let e : (s + 2) / 4 ≡ n = omega arith in e)
+mean_of_equal (negsuc n) =
+    ap (λ (q : ℕ). neg_ℤ (pos q)) (let e : suc (suc (suc (suc (n + n) + suc (n + n)) + 1)) / 4 ≡ suc n = omega arith in e)
+
+eighths_of_equal : (version : ℕ) (r : ℤ) → (version ≡ 3 → ⊥) → chroma_eighths version (r ∷ r ∷ r ∷ r ∷ []) ≡ r
+unfolding chroma_eighths
+eighths_of_equal version r other =
+    let mean : ℤ = mean_of_four ((r +ℤ r) +ℤ (r +ℤ r)) in
+    ap (λ (b : Bool). cond b (whole_pixels mean *ℤ pos 8) mean) (ne_eqb version 3 other) ∙ mean_of_equal r
+
+-- the chroma vector is the luma vector, but in version 3
+pub chroma_whole : (version : ℕ) (e : MacroblockMotion) (v none : Vector) → AreOne e.mode e.vectors → is_split e.mode ≡ false → (version ≡ 3 → ⊥) → get_or e.vectors 0 none ≡ v
+    → let p : PlaneVector = record { row = v.row; column = v.column } in p ≡ chroma_moved version e 0
+unfolding chroma_moved chroma_vector
+chroma_whole version e v none one whole other first =
+    let last : Vector = last_of e.vectors in
+    let at : (j : ℕ) (d : Vector) → j < 16 → get_or e.vectors j d ≡ last = λ j d jin. ap (λ (vs : List Vector). get_or vs j d) (one whole) ∙ get_or-replicate 16 j last d jin in
+    let same : last ≡ v = sym (at 0 none (omega arith)) ∙ first in
+    let a = at 0 zero_vector (omega arith) ∙ same in
+    let b = at 1 zero_vector (omega arith) ∙ same in
+    let c = at 4 zero_vector (omega arith) ∙ same in
+    let d = at 5 zero_vector (omega arith) ∙ same in
+    let four : four_from e.vectors 0 ≡ v ∷ v ∷ v ∷ v ∷ [] = cc in
+    let row : v.row ≡ chroma_eighths version (v.row ∷ v.row ∷ v.row ∷ v.row ∷ []) = sym (eighths_of_equal version v.row other) in
+    let column : v.column ≡ chroma_eighths version (v.column ∷ v.column ∷ v.column ∷ v.column ∷ []) = sym (eighths_of_equal version v.column other) in
+    let made : ℤ → ℤ → PlaneVector = λ y x. record { row = y; column = x } in
+    ap (λ (y : ℤ). made y v.column) row
+    ∙ ap (λ (x : ℤ). made (chroma_eighths version (v.row ∷ v.row ∷ v.row ∷ v.row ∷ [])) x) column
+    ∙ ap (λ (vs : List Vector). chroma_vector version (map (λ w. w.row) vs) (map (λ w. w.column) vs)) (sym four)

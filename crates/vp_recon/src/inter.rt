@@ -1,8 +1,9 @@
 //! Inter prediction of macroblocks (RFC 6386, chapter 18).
 
-ghost use Rattle.std.specs.Prelude.{◌≡◌, ℕ, ◌+◌, ◌*◌, ◌<◌, ◌≤◌, length, map, true};
+ghost use Rattle.std.specs.Prelude.{◌≡◌, ℕ, ◌+◌, ◌*◌, ◌<◌, ◌≤◌, length, map, false, true};
 ghost use Rattle.vp_base.specs.Block.{with_block};
 ghost use Rattle.vp_base.specs.Image.{macroblocks, plane_of, with_plane};
+ghost use Rattle.vp_tables.specs.Modes.{is_split};
 ghost use Rattle.vp_inter.specs.declared.vector.PlaneVector.{PlaneVector};
 ghost use Rattle.vp_inter.specs.Vectors.{chroma_vector};
 ghost use Rattle.vp_recon.specs.Predictor.{Inter};
@@ -68,7 +69,7 @@ pub(crate) fn predict_inter_chroma(
         predict_four(picture, 1, x, y, u, &vectors, version);
         predict_four(picture, 2, x, y, v, &vectors, version);
     } else {
-        let vector = chroma_vector_of(version, motion, 0);
+        let vector = whole_chroma_vector(version, motion);
         predict_into_chroma(picture, x, y, reference, vector, version);
     }
 }
@@ -90,6 +91,22 @@ fn chroma_vector_of(version: u8, motion: &MacroblockMotion, k: usize) -> PlaneVe
     ensures { result ≡ chroma_moved version motion.now k }
 {
     vector_of_four(version, &motion.vectors, 8 * (k / 2) + 2 * (k % 2))
+}
+
+/// Returns the motion vector of both chroma planes of a macroblock that isn't split. Its luma vectors are equal, and so
+/// their mean is one of them; version 3 has whole pixels.
+fn whole_chroma_vector(version: u8, motion: &MacroblockMotion) -> PlaneVector
+    requires { is_split motion.now.mode ≡ false }
+    ensures { result ≡ chroma_moved version motion.now 0 }
+{
+    if version == 3 {
+        return chroma_vector_of(version, motion, 0);
+    }
+    let vector = motion.vectors[0];
+    PlaneVector {
+        row: vector.row,
+        column: vector.column,
+    }
 }
 
 /// Returns the chroma vector for a square of four luma subblocks. `first` is the number of the one at the top left.

@@ -1,8 +1,8 @@
-use Rattle.std.proofs.Common.{◌≡◌, ◌∙◌, ℕ, ◌<◌, ◌≤◌, ℤ, pos, ◌+ℤ◌, ap, subst, get_or, arith, rules, to_z, of_z, w32}
-use Rattle.std.proofs.lemmas.Int.{ints, to_z-of_z}
+use Rattle.std.proofs.Common.{◌≡◌, ◌∙◌, ℕ, ◌<◌, ℤ, pos, ◌+ℤ◌, ap, get_or, arith, rules, to_z, of_z, w32}
+use Rattle.std.proofs.lemmas.Int.{ints}
 use Rattle.vp_base.specs.Raster.{Raster}
 use Rattle.vp_inter.specs.Inter.{reference_pixel}
-use Rattle.vp_inter.proofs.PassLemmas.{rows_more, rows_bytes}
+use Rattle.vp_inter.proofs.PassLemmas.{rows_more}
 use Rattle.vp_inter.proofs.block.copied_rows.Goals as goal
 
 pub plain_row-row-requires : goal.plain_row-row-requires
@@ -32,15 +32,4 @@ loop-r-preserved g c =
       size = search rules;
       done = rows_more g.row.N c.loop-r.r c.loop-r.pixels c.put_lanes.new.pixels c.plain_row-row.result value
           c.loop-r.invariant.done c.put_lanes.ensures.here c.put_lanes.ensures.before last;
-      bytes = rows_bytes g.row.N c.loop-r.r value c.plain_row-row.result c.loop-r.invariant.bytes last c.put_lanes.ensures.bytes;
     }
-
-pub returns-clause-bytes : goal.returns-clause-bytes
-returns-clause-bytes g c r k rin kin =
-    let p : Raster = c.args.plane.now in
-    let top : ℤ = to_z w32 (of_z w32 c.args.top) in
-    let passed : r < c.loop-r.r = omega arith in
-    subst (λ (v : ℕ). v ≤ 255)
-    (ap (λ (z : ℤ). reference_pixel p (z +ℤ pos k) (top +ℤ pos r)) (to_z-of_z w32 c.args.left c.ranges.left)
-    ∙ ap (λ (z : ℤ). reference_pixel p (c.args.left +ℤ pos k) (z +ℤ pos r)) (to_z-of_z w32 c.args.top c.ranges.top))
-    (c.loop-r.invariant.bytes r k passed kin)

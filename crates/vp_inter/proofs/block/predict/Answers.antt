@@ -1,4 +1,4 @@
-use Rattle.std.proofs.Common.{◌≡◌, ◌∙◌, ℕ, ℤ, pos, ◌+◌, ◌<◌, ◌≤◌, ◌+ℤ◌, ap, sym, subst, arith, List, w32, rules}
+use Rattle.std.proofs.Common.{◌≡◌, ◌∙◌, ℕ, ℤ, pos, ◌+◌, ◌+ℤ◌, ap, sym, arith, List, w32, rules}
 use Rattle.std.proofs.lemmas.Int.{ints, to_z-of_z}
 use mir.Val.{SFits}
 use Rattle.vp_base.specs.Raster.{Raster}
@@ -23,8 +23,8 @@ returns-then-down-eq0-2 g c r k rin kin =
     (let e : same (same c.first_tap-top.result +ℤ pos 2) ≡ c.first_tap-top.result +ℤ pos 2 = omega (arith, ints) in e)
     ∙ ap (λ (z : ℤ). z +ℤ pos 2) (c.first_tap-top.ensures.value ∙ ap (first_tap c.args.y) row) in
     let across_is : c.fraction-across.result ≡ fraction c.args.vector.column = c.fraction-across.ensures.value ∙ ap fraction column in
-    let weights : taps c.args.version c.fraction-across.result ≡ taps c.args.version (fraction c.args.vector.column) = ap (taps c.args.version) across_is in
-    c.predict_across.ensures r k rin kin
+    let weights : c.taps-weights.result.now ≡ taps c.args.version (fraction c.args.vector.column) = c.taps-weights.ensures.value ∙ ap (taps c.args.version) across_is in
+    c.pass_rows.ensures r k rin kin
     ∙ ap (λ (w : List ℤ). horizontal_pass w p (same c.first_tap-left.result) (same (same c.first_tap-top.result +ℤ pos 2)) r k) weights
     ∙ ap (λ (z : ℤ). horizontal_pass (taps c.args.version (fraction c.args.vector.column)) p z (same (same c.first_tap-top.result +ℤ pos 2)) r k) left
     ∙ ap (λ (z : ℤ). horizontal_pass (taps c.args.version (fraction c.args.vector.column)) p (first_tap c.args.x c.args.vector.column) z r k) top
@@ -41,7 +41,13 @@ returns-else-across-eq0-2 g c r k rin kin =
     small_same c.first_tap-left.result (omega (arith, ints), omega (arith, ints)) ∙ (c.first_tap-left.ensures.value ∙ ap (first_tap c.args.x) column) in
     let top : same c.first_tap-top.result ≡ first_tap c.args.y c.args.vector.row =
     small_same c.first_tap-top.result (omega (arith, ints), omega (arith, ints)) ∙ (c.first_tap-top.ensures.value ∙ ap (first_tap c.args.y) row) in
-    c.predict_both.ensures r k rin kin
+    let across_is : c.taps-first.result.now ≡ taps c.args.version (fraction c.args.vector.column) =
+    c.taps-first.ensures.value ∙ ap (taps c.args.version) (c.fraction-across.ensures.value ∙ ap fraction column) in
+    let down_is : c.taps-second.result.now ≡ taps c.args.version (fraction c.args.vector.row) =
+    c.taps-second.ensures.value ∙ ap (taps c.args.version) (c.fraction-down.ensures.value ∙ ap fraction row) in
+    c.pass_both.ensures r k rin kin
+    ∙ ap (λ (w : List ℤ). filter_six w (λ j. horizontal_pass c.taps-first.result.now p (same c.first_tap-left.result) (same c.first_tap-top.result) (r + j) k)) down_is
+    ∙ ap (λ (w : List ℤ). filter_six (taps c.args.version (fraction c.args.vector.row)) (λ j. horizontal_pass w p (same c.first_tap-left.result) (same c.first_tap-top.result) (r + j) k)) across_is
     ∙ ap (λ (z : ℤ). filter_six (taps c.args.version (fraction c.args.vector.row)) (λ j. horizontal_pass (taps c.args.version (fraction c.args.vector.column)) p z (same c.first_tap-top.result) (r + j) k)) left
     ∙ ap (λ (z : ℤ). filter_six (taps c.args.version (fraction c.args.vector.row)) (λ j. horizontal_pass (taps c.args.version (fraction c.args.vector.column)) p (first_tap c.args.x c.args.vector.column) z (r + j) k)) top
     ∙ inter_passes c.args.version p c.args.x c.args.y c.args.vector r k
@@ -64,13 +70,11 @@ returns-then-across-eq0-2 g c r k rin kin =
     let none : fraction c.args.vector.column ≡ 0 = sym (ap fraction column) ∙ sym c.fraction-across.ensures.value ∙ c.if-across-eq0-2.true in
     let moved : (i : ℕ) → reference_pixel p (same (same c.first_tap-left.result +ℤ pos 2) +ℤ pos k) (same c.first_tap-top.result +ℤ pos i) ≡ reference_pixel p (x +ℤ pos 2 +ℤ pos k) (y +ℤ pos i) =
     λ i. ap (λ (z : ℤ). reference_pixel p (z +ℤ pos k) (same c.first_tap-top.result +ℤ pos i)) left ∙ ap (λ (z : ℤ). reference_pixel p (x +ℤ pos 2 +ℤ pos k) (z +ℤ pos i)) top in
-    c.predict_down.ensures.value r k rin kin
-    ∙ ap (λ (n : ℕ). filter_six (taps c.args.version n) (λ j. reference_pixel p (same (same c.first_tap-left.result +ℤ pos 2) +ℤ pos k) (same c.first_tap-top.result +ℤ pos (r + j)))) down_is
+    c.pass_down.ensures r k rin kin
+    ∙ ap (λ (w : List ℤ). filter_six w (λ j. reference_pixel p (same (same c.first_tap-left.result +ℤ pos 2) +ℤ pos k) (same c.first_tap-top.result +ℤ pos (r + j)))) (c.taps-column_weights.ensures.value ∙ ap (taps c.args.version) down_is)
     ∙ filter_six-same (taps c.args.version (fraction c.args.vector.row)) (λ j. reference_pixel p (same (same c.first_tap-left.result +ℤ pos 2) +ℤ pos k) (same c.first_tap-top.result +ℤ pos (r + j)))
     (λ j. horizontal_pass (taps c.args.version (fraction c.args.vector.column)) p x y (r + j) k)
-    (λ j jin.
-    let within : r + j < g.row.W = omega arith in
-    moved (r + j) ∙ across_whole c.args.version (fraction c.args.vector.column) p x y (r + j) k none (subst (λ (v : ℕ). v ≤ 255) (moved (r + j)) (c.predict_down.ensures.bytes (r + j) k within kin)))
+    (λ j jin. moved (r + j) ∙ across_whole c.args.version (fraction c.args.vector.column) p x y (r + j) k none (c.pixels_are_bytes.ensures (x +ℤ pos 2 +ℤ pos k) (y +ℤ pos (r + j))))
     ∙ inter_passes c.args.version p c.args.x c.args.y c.args.vector r k
 
 pub returns-then-across-eq0 : goal.returns-then-across-eq0
@@ -94,4 +98,4 @@ returns-then-across-eq0 g c r k rin kin =
     ∙ inter_whole c.args.version p c.args.x c.args.y c.args.vector r k
     (sym (ap fraction row) ∙ sym c.fraction-down.ensures.value ∙ c.if-down-eq0.true)
     (sym (ap fraction column) ∙ sym c.fraction-across.ensures.value ∙ c.if-across-eq0.true)
-    (subst (λ (v : ℕ). v ≤ 255) moved (c.copied_rows.ensures.bytes r k rin kin))
+    (c.pixels_are_bytes.ensures (first_tap c.args.x c.args.vector.column +ℤ pos 2 +ℤ pos k) (first_tap c.args.y c.args.vector.row +ℤ pos 2 +ℤ pos r))

@@ -1,8 +1,8 @@
-use Rattle.std.proofs.Common.{◌≡◌, ◌∙◌, ℕ, ◌<◌, ◌≤◌, ℤ, pos, ◌+ℤ◌, ap, subst, get_or, arith, rules, to_z, of_z, w32}
+use Rattle.std.proofs.Common.{◌≡◌, ◌∙◌, ℕ, ◌<◌, ℤ, pos, ◌+ℤ◌, ap, get_or, arith, rules, to_z, of_z, w32}
 use Rattle.std.proofs.lemmas.Int.{ints, to_z-of_z}
 use Rattle.vp_base.specs.Raster.{Raster}
 use Rattle.vp_inter.specs.Inter.{reference_pixel}
-use Rattle.vp_inter.proofs.PassLemmas.{rows_more, rows_bytes}
+use Rattle.vp_inter.proofs.PassLemmas.{rows_more}
 use Rattle.vp_inter.proofs.filtered.copy_rows.Goals as goal
 
 pub plain_row-row-requires : goal.plain_row-row-requires
@@ -32,20 +32,11 @@ loop-i-preserved c =
       size = search rules;
       done = rows_more 16 c.loop-i.i c.loop-i.rows c.put_lanes.new.pixels c.plain_row-row.result value
           c.loop-i.invariant.done c.put_lanes.ensures.here c.put_lanes.ensures.before last;
-      bytes = rows_bytes 16 c.loop-i.i value c.plain_row-row.result c.loop-i.invariant.bytes last c.put_lanes.ensures.bytes;
     }
 
-pub returns-clause-value : goal.returns-clause-value
-returns-clause-value c i k iin kin =
+pub returns : goal.returns
+returns c i k iin kin =
     let p : Raster = c.args.plane.now in
     c.loop-i.invariant.done i k (omega arith) kin
     ∙ ap (λ (z : ℤ). reference_pixel p (z +ℤ pos k) (to_z w32 (of_z w32 c.args.top) +ℤ pos i)) (to_z-of_z w32 c.args.left c.ranges.left)
     ∙ ap (λ (z : ℤ). reference_pixel p (c.args.left +ℤ pos k) (z +ℤ pos i)) (to_z-of_z w32 c.args.top c.ranges.top)
-
-pub returns-clause-bytes : goal.returns-clause-bytes
-returns-clause-bytes c i k iin kin =
-    let p : Raster = c.args.plane.now in
-    subst (λ (v : ℕ). v ≤ 255)
-    (ap (λ (z : ℤ). reference_pixel p (z +ℤ pos k) (to_z w32 (of_z w32 c.args.top) +ℤ pos i)) (to_z-of_z w32 c.args.left c.ranges.left)
-    ∙ ap (λ (z : ℤ). reference_pixel p (c.args.left +ℤ pos k) (z +ℤ pos i)) (to_z-of_z w32 c.args.top c.ranges.top))
-    (c.loop-i.invariant.bytes i k (omega arith) kin)

@@ -1,4 +1,4 @@
-use Rattle.std.proofs.Common.{◌≡◌, ℕ, ◌+◌, ◌<◌, ◌≤◌, length, pos, ◌+ℤ◌}
+use Rattle.std.proofs.Common.{◌≡◌, length, pos, ◌+ℤ◌}
 use Rattle.vp_inter.specs.Inter.{reference_pixel}
 use Rattle.vp_inter.specs.Filtered.{AreRows}
 use Rattle.vp_inter.proofs.filtered.copy_rows.Given as goal
@@ -7,5 +7,4 @@ abbrev pub invariant-loop-i : goal.invariant-loop-i
 invariant-loop-i l = record {
   size : length l.rows ≡ 352;
   done : AreRows l.rows l.i (λ i c. reference_pixel l.plane (l.left +ℤ pos c) (l.top +ℤ pos i));
-  bytes : (i c : ℕ) → i < l.i → c < 16 → reference_pixel l.plane (l.left +ℤ pos c) (l.top +ℤ pos i) ≤ 255;
 }

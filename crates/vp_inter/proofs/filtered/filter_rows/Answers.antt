@@ -1,4 +1,4 @@
-use Rattle.std.proofs.Common.{◌≡◌, ◌∙◌, ℕ, ℤ, pos, ◌≤◌, ◌+ℤ◌, List, ap, subst, arith, to_z, of_z, w32}
+use Rattle.std.proofs.Common.{◌≡◌, ◌∙◌, ℤ, pos, ◌+ℤ◌, List, ap, arith, to_z, of_z, w32}
 use Rattle.std.proofs.lemmas.Int.{ints, to_z-of_z}
 use Rattle.vp_base.specs.Raster.{Raster}
 use Rattle.vp_inter.specs.Filter.{taps}
@@ -14,10 +14,10 @@ returns-then-eighths-eq0 c i k iin kin =
     let top : to_z w32 (of_z w32 c.args.top) ≡ c.args.top = to_z-of_z w32 c.args.top c.ranges.top in
     let here = ap (λ (z : ℤ). reference_pixel p (z +ℤ pos k) (to_z w32 (of_z w32 c.args.top) +ℤ pos i)) left
     ∙ ap (λ (z : ℤ). reference_pixel p (c.args.left +ℤ pos 2 +ℤ pos k) (z +ℤ pos i)) top in
-    c.copy_rows.ensures.value i k iin kin
+    c.copy_rows.ensures i k iin kin
     ∙ here
     ∙ across_whole 0 c.args.eighths p c.args.left c.args.top i k c.if-eighths-eq0.true
-    (subst (λ (n : ℕ). n ≤ 255) here (c.copy_rows.ensures.bytes i k iin kin))
+    (c.pixels_are_bytes.ensures (c.args.left +ℤ pos 2 +ℤ pos k) (c.args.top +ℤ pos i))
 
 pub returns-else-eighths-eq0 : goal.returns-else-eighths-eq0
 returns-else-eighths-eq0 c i k iin kin =

@@ -52,6 +52,9 @@ returns-then-is_split-clause-v c r j rin jin =
     let y : ℕ = 8 * c.args.place.row in
     inter_bound c.args.version c.args.reference.now.v (x + 4 * (j / 4)) (y + 4 * (r / 4)) (chroma_moved c.args.version c.args.motion.now (sub_at 2 r j)) (r % 4) (j % 4)
 
+pub whole_chroma_vector-vector-requires : goal.whole_chroma_vector-vector-requires
+whole_chroma_vector-vector-requires c = ap (λ (a : MacroblockMotion). is_split a.mode) (sym c.motion.view_is) ∙ sym c.is_split.ensures ∙ c.if-is_split.false
+
 pub returns-else-is_split-clause-value : goal.returns-else-is_split-clause-value
 returns-else-is_split-clause-value c =
     let p : Image = c.args.picture.now in
@@ -59,14 +62,14 @@ returns-else-is_split-clause-value c =
     let y : ℕ = 8 * c.args.place.row in
     let e : MacroblockMotion = c.args.motion.now in
     let moved = chroma_moved c.args.version c.args.motion.now in
-    let vector : PlaneVector = c.chroma_vector_of-vector.result in
+    let vector : PlaneVector = c.whole_chroma_vector-vector.result in
     let whole : is_split c.args.motion.now.mode ≡ false = ap (λ (a : MacroblockMotion). is_split a.mode) (sym c.motion.view_is) ∙ sym c.is_split.ensures ∙ c.if-is_split.false in
     let one : AreOne e.mode e.vectors = subst (λ (a : MacroblockMotion). AreOne a.mode a.vectors) c.motion.view_is c.motion.invariant in
     let step : Raster → Raster → Raster = λ ref s. with_block s x y 8 8 (moved_pixel c.args.version ref x y 2 moved) in
     let as_one : (ref s : Raster) → with_block s x y 8 8 (inter_pixel c.args.version ref x y vector) ≡ step ref s =
     λ ref s. with_block_same s x y 8 8 (inter_pixel c.args.version ref x y vector) (moved_pixel c.args.version ref x y 2 moved)
     (λ r j rin jin.
-    ap (λ (v : PlaneVector). inter_pixel c.args.version ref x y v r j) c.chroma_vector_of-vector.ensures
+    ap (λ (v : PlaneVector). inter_pixel c.args.version ref x y v r j) c.whole_chroma_vector-vector.ensures
     ∙ moved_alike c.args.version ref x y 2 moved r j (chroma_one c.args.version e (sub_at 2 r j) one whole (sub_below 2 r j rin jin))) in
     c.predict_into_chroma.ensures
     ∙ ap (λ (q : Raster). record p { u = q; v = with_block p.v x y 8 8 (inter_pixel c.args.version c.args.reference.now.v x y vector) }) (as_one c.args.reference.now.u p.u)

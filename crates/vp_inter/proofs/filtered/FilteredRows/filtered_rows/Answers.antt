@@ -1,4 +1,4 @@
-use Rattle.std.proofs.Common.{◌≡◌, ◌∙◌, ℕ, ℤ, ◌+◌, ◌*◌, List, ap, get_or, refl, arith}
+use Rattle.std.proofs.Common.{◌∙◌, ℕ, ℤ, ◌+◌, ◌*◌, List, ap, get_or, refl, arith}
 use Rattle.vp_inter.specs.Filter.{filter_six}
 use Rattle.vp_inter.proofs.FilteredLemmas.{paired_six}
 use Rattle.vp_inter.proofs.filtered.FilteredRows.filtered_rows.Goals as goal

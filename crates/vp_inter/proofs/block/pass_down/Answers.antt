@@ -1,0 +1,44 @@
+use Rattle.std.proofs.Common.{◌≡◌, ◌∙◌, ℕ, ℤ, pos, ◌+◌, ◌*◌, ◌<◌, ◌+ℤ◌, List, ap, sym, refl, get_or, arith, w32}
+use Rattle.std.proofs.lemmas.Int.{ints, to_z-of_z}
+use lib.IntN.{nat_abs}
+use Rattle.vp_base.specs.Raster.{Raster, pixel}
+use Rattle.vp_inter.specs.Inter.{reference_pixel, IsInside}
+use Rattle.vp_inter.proofs.FilterLemmas.{filter_six-same}
+use Rattle.vp_inter.proofs.PassLemmas.{inside_pixel}
+use Rattle.vp_inter.proofs.ReferenceLemmas.{natural}
+use Rattle.vp_inter.proofs.Sums.{same}
+use Rattle.vp_inter.proofs.block.pass_down.Goals as goal
+
+moved : (p : Raster) (x y left top : ℤ) (i j : ℕ) → x ≡ left → y ≡ top → reference_pixel p (x +ℤ pos j) (y +ℤ pos i) ≡ reference_pixel p (left +ℤ pos j) (top +ℤ pos i)
+moved p x y left top i j e f = ap (λ (z : ℤ). reference_pixel p (z +ℤ pos j) (y +ℤ pos i)) e ∙ ap (λ (z : ℤ). reference_pixel p (left +ℤ pos j) (z +ℤ pos i)) f
+
+-- a pixel of a block inside the plane
+within : (p : Raster) (left top k i columns rows : ℕ) (x y : ℤ) → x ≡ pos left → y ≡ pos top → IsInside p x y columns rows → k < columns → i < rows
+    → pixel p (left + k) (top + i) ≡ reference_pixel p (x +ℤ pos k) (y +ℤ pos i)
+within p left top k i columns rows x y ex ey inside kin iin =
+    sym (inside_pixel p (left + k) (top + i) (omega (arith, ints)) (omega (arith, ints)))
+    ∙ ap (λ (z : ℤ). reference_pixel p (z +ℤ pos k) (pos (top + i))) (sym ex)
+    ∙ ap (λ (z : ℤ). reference_pixel p (x +ℤ pos k) (z +ℤ pos i)) (sym ey)
+
+pub returns : goal.returns
+returns g c r k rin kin =
+    let rows : List ℕ = c.copied_rows-rows.result in
+    c.pass_columns.ensures r k rin kin
+    ∙ filter_six-same c.args.weights.now (λ j. get_or rows ((r + j) * g.row.N + k) 0) (λ j. reference_pixel c.args.plane.now (c.args.left +ℤ pos k) (c.args.top +ℤ pos (r + j)))
+    (λ j jin.
+    let within : r + j < g.row.W = omega arith in
+    c.copied_rows-rows.ensures.value (r + j) k within kin
+    ∙ moved c.args.plane.now (same c.args.left) (same c.args.top) c.args.left c.args.top (r + j) k (to_z-of_z w32 c.args.left c.ranges.left) (to_z-of_z w32 c.args.top c.ranges.top))
+
+pub returns-then-lies_inside : goal.returns-then-lies_inside
+returns-then-lies_inside g c r k rin kin =
+    let p : Raster = c.args.plane.now in
+    let left : ℕ = nat_abs (same c.args.left) in
+    let top : ℕ = nat_abs (same c.args.top) in
+    let inside = c.if-lies_inside.ensures refl in
+    let el : same c.args.left ≡ c.args.left = to_z-of_z w32 c.args.left c.ranges.left in
+    let et : same c.args.top ≡ c.args.top = to_z-of_z w32 c.args.top c.ranges.top in
+    c.plane_columns.ensures r k rin kin
+    ∙ filter_six-same c.args.weights.now (λ j. pixel p (left + k) (top + (r + j))) (λ j. reference_pixel p (c.args.left +ℤ pos k) (c.args.top +ℤ pos (r + j)))
+    (λ j jin. within p left top k (r + j) g.row.N g.row.W (same c.args.left) (same c.args.top) (natural (same c.args.left) inside.0) (natural (same c.args.top) inside.2) inside kin (let h : r + j < g.row.W = omega arith in h)
+    ∙ moved p (same c.args.left) (same c.args.top) c.args.left c.args.top (r + j) k el et)
