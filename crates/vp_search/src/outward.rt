@@ -156,6 +156,8 @@ fn take_first(places: u64) -> (usize, u64)
 }
 
 /// The best of a known vector and those of eight in a row that are within the range. Their costs are at least `bounds`.
+/// Not inlined: the loop over the bounds needs the registers.
+#[inline(never)]
 fn consider_eight(
     block: &[u8],
     window: &[u8],
@@ -292,6 +294,7 @@ fn unbounded_after(
 
 /// The best of a known vector and those of row `i`, by their bounds. Of the bounds that are counted, some are past the
 /// range: 7 of 24 at range 8.
+#[inline(always)]
 fn consider_bounded_row(
     block: &[u8],
     window: &[u8],
@@ -336,7 +339,9 @@ fn consider_bounded_row(
     }
 }
 
-/// The best of a known vector and those of row `i`: by their bounds, or without.
+/// The best of a known vector and those of row `i`: by their bounds, or without. Inlined, as a row with bounds is: what
+/// prepares the block's sums for it takes about as long as the bounds of a short row.
+#[inline(always)]
 fn consider_next(
     block: &[u8],
     window: &[u8],

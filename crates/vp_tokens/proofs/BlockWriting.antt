@@ -6,32 +6,34 @@ use Rattle.vp_bool.specs.Reader.{give}
 use Rattle.vp_bool.specs.Intervals.{Interval}
 use Rattle.vp_bool.specs.Writing.{Continues, Writes}
 use Rattle.vp_bool.proofs.WritingLemmas.{Writes-then, Continues-none, Continues-same}
-use Rattle.vp_tables.specs.declared.modes.Token.{Token}
 use Rattle.vp_tables.specs.declared.modes.Token.TheVariants.{EndOfBlock}
+use Rattle.vp_tables.specs.declared.trees.TheConstants.{TOKEN_TREE}
+use Rattle.vp_tree.specs.Tree.{walk_from}
 use Rattle.vp_tokens.specs.Block.{Block, IsBlock, level_of, no_tokens}
 use Rattle.vp_tokens.specs.declared.block.BlockKind.{BlockKind}
-use Rattle.vp_tokens.specs.Levels.{Probabilities, token, is_end, size, signed_level, context_after, pair_after, coefficient_block, bands_of, first_of}
+use Rattle.vp_tokens.specs.Levels.{Probabilities, token, row, context_after, pair_after, coefficient_block, bands_of, first_of}
 use Rattle.vp_tokens.specs.Spelled.{IsSpelledBlock}
-use Rattle.vp_tokens.specs.Written.{padded_prefix}
+use Rattle.vp_tokens.specs.Written.{padded_prefix, IsLevelWritten}
 use Rattle.vp_tokens.proofs.FrontLemmas.{front-more, front-all, front-none}
 use Rattle.vp_tokens.proofs.LevelLemmas.{tokens_from, tokens_from-block}
 
 module _ (bands : List (List (List ℕ))) where
-  pub end_written : (i context from : ℕ) (b : Block) {old new : Interval} → i < 16 → Writes (token bands i context from) old new EndOfBlock
+  pub end_written : (i context from : ℕ) (b : Block) {old new : Interval} → i < 16 → from ≡ 0 → Writes (token bands i context 0) old new EndOfBlock
       → Continues (tokens_from bands (16 - i) i context from b) (give b) old new
   unfolding tokens_from
-  end_written i context from b lt w =
+  end_written i context from b lt root w =
       let k : 16 - i ≡ suc (16 - (i + 1)) = omega arith in
-      rw k (Writes-then _ w (Continues-none _ _))
+      rw (root, k) (Writes-then _ w (Continues-none _ _))
 
-  pub level_written : (i context from n : ℕ) (t : Token) (z : ℤ) (b : Block) {old mid later new : Interval} → i < 16 → is_end t ≡ false
-      → Writes (token bands i context from) old mid t → Writes (size t) mid later n → Writes (signed_level n) later new z
+  -- a level, written by the row of its position and context
+  pub level_written : (i context from : ℕ) (own : List ℕ) (z : ℤ) (b : Block) {old new : Interval} → i < 16 → own ≡ row bands i context
+      → IsLevelWritten (walk_from EndOfBlock TOKEN_TREE own from) (unsigned_abs z) z old new
       → Continues (tokens_from bands (16 - i) i context from b)
-      (tokens_from bands (16 - (i + 1)) (i + 1) (context_after n) (pair_after n) (record { levels = slice_set b.levels i z; tokens = i + 1 })) old new
-  unfolding tokens_from
-  level_written i context from n t z b lt going wt ws wl =
+      (tokens_from bands (16 - (i + 1)) (i + 1) (context_after (unsigned_abs z)) (pair_after (unsigned_abs z)) (record { levels = slice_set b.levels i z; tokens = i + 1 })) old new
+  unfolding tokens_from token
+  level_written i context from own z b lt same w =
       let k : 16 - i ≡ suc (16 - (i + 1)) = omega arith in
-      rw k (Writes-then _ wt (rw going (Writes-then _ ws (Writes-then _ wl (Continues-none _ _)))))
+      rw (k, ← same) (Writes-then _ w.token (rw w.goes_on (Writes-then _ w.size (Writes-then _ w.sign (Continues-none _ _)))))
 
   pub done_written : (i context from : ℕ) (b : Block) (old : Interval) → 16 ≤ i → Continues (tokens_from bands (16 - i) i context from b) (give b) old old
   unfolding tokens_from
@@ -83,7 +85,7 @@ so_far-all kind i b good spelled low end before = λ j. record {
 
 -- ---- where the next walk starts
 
-abs_zero : (z : ℤ) → unsigned_abs z ≡ 0 → z ≡ pos 0
+pub abs_zero : (z : ℤ) → unsigned_abs z ≡ 0 → z ≡ pos 0
 abs_zero (pos n) e = ap pos e
 abs_zero (negsuc n) e = absurd cc
 

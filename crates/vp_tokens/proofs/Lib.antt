@@ -9,6 +9,7 @@ pub mod WalkLemmas
 pub mod WalkWritingLemmas
 pub mod FrontLemmas
 pub mod BlockWriting
+pub mod LevelWriting
 pub mod MacroblockWriting
 pub mod PuttingLemmas
 pub mod Making

@@ -1,17 +1,17 @@
 -- The walk of the token tree in two parts, and how they are written.
 use Rattle.std.proofs.Common.{◌≡◌, ◌⊎◌, inl, inr, ℕ, Bool, true, false, List, refl, sym}
-use Rattle.std.specs.Prelude.{slice_index, not}
+use Rattle.std.specs.Prelude.{slice_index, not, if◌then◌else◌}
 use Rattle.vp_bool.specs.Bools.{State, read}
 use Rattle.vp_bool.specs.Reader as reader
 use Rattle.vp_bool.specs.Reader.{Reader, ◌>>=◌, give}
 use Rattle.vp_bool.specs.Intervals.{Interval}
-use Rattle.vp_bool.specs.Writing.{Writes}
+use Rattle.vp_bool.specs.Writing.{Writes, Continues}
 use Rattle.vp_bool.proofs.WritingLemmas.{Writes-then, Continues-none, Continues-given, Continues-same, Continues-then}
 use Rattle.vp_tree.specs.Tree.{walk_from}
 use Rattle.vp_tables.specs.declared.modes.Token.{Token}
 use Rattle.vp_tables.specs.declared.modes.Token.TheVariants as token_is
 use Rattle.vp_tables.specs.declared.trees.TheConstants.{TOKEN_TREE}
-use Rattle.vp_tokens.specs.Walks.{more, end_of_block, IsStart}
+use Rattle.vp_tokens.specs.Walks.{more, nonzero, end_of_block, IsStart}
 use Rattle.vp_tokens.proofs.WalkLemmas.{walk-end_of_block, walk-goes}
 
 module _ (row : List ℕ) where
@@ -44,6 +44,16 @@ module _ (row : List ℕ) where
   pub end_uncoded : (from : ℕ) (ends : Bool) (old : Interval) → from ≡ 2 → ends ≡ false → Writes (end_of_block row from) old old ends
   unfolding end_of_block
   end_uncoded from ends old e f = rw (e, f) (Continues-none _ _)
+
+  -- whether the next level is nonzero, once the block goes on
+  pub front_written : (from : ℕ) (b : Bool) {old mid new : Interval} → IsStart from → Writes (end_of_block row from) old mid false
+      → Writes (read (slice_index row 1)) mid new b → Continues (walk_from token_is.EndOfBlock TOKEN_TREE row from) (if b then nonzero row else give token_is.Zero) old new
+  unfolding more
+  front_written from b start first w = Continues-then (Continues-same (λ s. walk_parts from s start) _) (Writes-then after_end first (Writes-then _ w (Continues-none _ _)))
+
+  pub one_written : {old mid new : Interval} {m : Reader Token} → Continues m (nonzero row) old mid → Writes (read (slice_index row 2)) mid new false → Writes m old new token_is.One
+  unfolding nonzero
+  one_written front w = Continues-then front (Writes-then _ w (Continues-none _ _))
 
 pub start : {from : ℕ} {P : Type 0} → (from ≡ 0) ⊎ ((from ≡ 2) × P) → IsStart from
 start (inl e) = inl e

@@ -1,33 +1,30 @@
 //! Writing the tokens of a block.
 
-ghost use Rattle.std.specs.Prelude.{◌≡◌, ◌⊎◌, ◌<◌, false, OnOk};
+ghost use Rattle.std.specs.Prelude.{◌<◌, OnOk};
 ghost use Rattle.vp_bool.specs.Writing.{Writes};
-ghost use Rattle.vp_tokens.specs.Levels.{token, is_end, coefficient_block};
+ghost use Rattle.vp_tokens.specs.Levels.{token, coefficient_block};
 ghost use Rattle.vp_tokens.specs.Spelled.{IsSpelledBlock};
 
-use crate::block::{Block, BlockKind, bands_of, first_of, row_of, start_after};
-use crate::size_writing::{token_of, write_signed, write_size};
+use crate::block::{Block, BlockKind, bands_of, first_of, row_of};
+use crate::level_writing::write_level;
 use crate::walk_writing::write_walk;
 use std::alloc::AllocError;
 use vp_bool::BoolEncoder;
 use vp_tables::Token;
 
-/// Writes the token at a position, from a pair of the tree on.
+/// Writes the end of the block before a position.
 #[inline(always)]
-fn write_token(
+fn write_end_of_block(
     bands: &[[[u8; 11]; 3]; 8],
     position: usize,
     context: usize,
-    from: usize,
-    what: Token,
     e: &mut BoolEncoder,
 ) -> Result<(), AllocError>
     requires position_in { position < 16 }
     requires context_in { context < 3 }
-    requires from_in { (from ≡ 0) ⊎ ((from ≡ 2) × (is_end what ≡ false)) }
-    ensures { OnOk result (Writes (token bands.now position context from) e.old e.new what) }
+    ensures { OnOk result (Writes (token bands.now position context 0) e.old e.new Token.EndOfBlock) }
 {
-    write_walk(row_of(bands, position, context), from, what, e)?;
+    write_walk(row_of(bands, position, context), 0, Token::EndOfBlock, e)?;
     Ok(())
 }
 
@@ -49,17 +46,12 @@ pub(crate) fn write_block(
     let mut from = 0;
     for i in first_of(kind)..16 {
         if i >= end {
-            write_token(bands, i, context, from, Token::EndOfBlock, e)?;
+            write_end_of_block(bands, i, context, e)?;
             return Ok(());
         }
-        let level = what.levels[i];
-        let size = level.unsigned_abs();
-        let token = token_of(size);
-        write_token(bands, i, context, from, token, e)?;
-        write_size(token, size, e)?;
-        write_signed(level, e)?;
-        context = size.min(2) as usize;
-        from = start_after(size);
+        let next = write_level(row_of(bands, i, context), from, what.levels[i], e)?;
+        context = next.context;
+        from = next.from;
     }
     Ok(())
 }

@@ -5,6 +5,7 @@
 mod block;
 mod block_writing;
 mod contexts;
+mod level_writing;
 mod macroblock;
 mod partitions;
 mod size_writing;

@@ -1,4 +1,4 @@
-use Rattle.std.proofs.Common.{◌≡◌, ◌+◌, ◌<◌, ◌≤◌, pos, get_or, refl, inl, subst, ap, arith, rules}
+use Rattle.std.proofs.Common.{◌≡◌, ◌+◌, ◌<◌, ◌≤◌, pos, get_or, refl, inl, inr, subst, ap, arith, rules}
 use Rattle.std.proofs.lemmas.Int.{to_z-of_z}
 use mir.Syntax.{w16}
 use mir.Val.{SFits}
@@ -29,18 +29,18 @@ loop-i-preserved c =
     let z = get_or c.what.inside.levels i (pos 0) in
     let here : z ≡ level_of v i = ap (λ (b : Block). level_of b i) c.what.view_is in
     let fits : SFits w16 z = search rules in
-    let same = to_z-of_z w16 z fits in
-    let u = rw same at c.unsigned_abs-size.ensures.value in
-    let s = rw (same, ← u) at c.in_ok-write_signed.ensures in
-    let one = level_written c.bands_of-bands.result.now i c.loop-i.context c.loop-i.from _ _ z (so_far first i v) c.loop-i-test.true c.token_of-token.ensures.goes_on c.in_ok-write_token-2.ensures c.in_ok-write_size.ensures s in
+    let w = rw (to_z-of_z w16 z fits) at c.in_ok-next.ensures.written in
+    let next = rw (to_z-of_z w16 z fits) at c.in_ok-next.ensures.context in
+    let start = rw (to_z-of_z w16 z fits) at c.in_ok-next.ensures.from in
+    let one = level_written c.bands_of-bands.result.now i c.loop-i.context c.loop-i.from _ z (so_far first i v) c.loop-i-test.true c.row_of.ensures w in
     let low : first ≤ i = omega (arith, c.first_of-i.ensures.value) in
     let whole = good.whole in
     let more = so_far-more first i v low (omega arith) in
     record {
-      context_in = omega (arith, c.min-context.ensures);
-      from_in = start_next _ _ c.start_after-from.ensures.value (λ e small. let n : i + 1 < v.tokens = not_last c.args.kind v i c.requires.spelled (omega arith) (rw (u, here) at e) small in omega arith);
+      context_in = omega (arith, next);
+      from_in = start_next _ _ start (λ e small. let n : i + 1 < v.tokens = not_last c.args.kind v i c.requires.spelled (omega arith) (rw here at e) small in omega arith);
       before = λ h. omega arith;
-      left = rw (c.min-context.ensures, c.start_after-from.ensures.value, ← more) (Continues-then c.loop-i.invariant.left (rw here at one));
+      left = rw (next, start, here, ← more) (Continues-then c.loop-i.invariant.left (rw here at one));
     }
 
 pub returns-then-i-end : goal.returns-then-i-end
@@ -52,7 +52,11 @@ returns-then-i-end c =
     let end : c.what.inside.tokens ≡ v.tokens = ap (λ (b : Block). b.tokens) c.what.view_is in
     let low : first ≤ i = omega (arith, c.first_of-i.ensures.value) in
     let all = so_far-all c.args.kind i v good c.requires.spelled low (omega arith) (λ h. let b = c.loop-i.invariant.before h in omega arith) in
-    let w = end_written c.bands_of-bands.result.now i c.loop-i.context c.loop-i.from (so_far first i v) c.loop-i-test.true c.in_ok-write_token.ensures in
+    let root : c.loop-i.from ≡ 0 = elim c.loop-i.invariant.from_in [
+      | inl e ↦ e
+      | inr second ↦ absurd (let more = second.1 c.loop-i-test.true in omega arith)
+    ] in
+    let w = end_written c.bands_of-bands.result.now i c.loop-i.context c.loop-i.from (so_far first i v) c.loop-i-test.true root c.in_ok-write_end_of_block.ensures in
     Continues-then (rw all at c.loop-i.invariant.left) (rw all at w)
 
 pub returns : goal.returns

@@ -1,5 +1,5 @@
 use Rattle.vp_tokens.specs.Levels.{token}
-use Rattle.vp_tokens.proofs.block_writing.write_token.Goals as goal
+use Rattle.vp_tokens.proofs.block_writing.write_end_of_block.Goals as goal
 
 pub returns : goal.returns
 unfolding token
