@@ -1,16 +1,27 @@
--- Words in their plain order.
-use Rattle.std.proofs.Common.{◌≡◌, [], ◌∷◌, Bool, List, Option, None, refl}
-use Rattle.std.specs.Prelude.{Some, codes}
+-- Words in their plain order: the rows that clap reads from them, each command's in one equation.
+use Rattle.std.proofs.Common.{◌≡◌, [], ◌∷◌, Bool, List, ap, refl}
+use Rattle.std.specs.Prelude.{None, Some, codes}
 use Rattle.clap.specs.Walk.{Row, Text, first_of, one_of}
 use Rattle.clap.specs.Faults.{fault_of}
 use Rattle.clap.specs.Simple.{subcommand_of}
+use Rattle.clap.specs.declared.builder.value_parser.Reading.TheVariants.{AsWritten}
+use Rattle.clap.specs.declared.parser.matches.ValueSource.TheVariants.{CommandLine, DefaultValue}
 use Rattle.clap.proofs.OnLiterals.{clap_on_literals}
 use Rattle.vp_args.specs.Args.{parsed_args, parsed_command, asks_many, checks, decodes, decodes_range, faults_of, pictures, program, tells, IsOperand}
 
--- the options and operands of a subcommand
-rows_in : Option (Text × List Row) → List Row
-rows_in None = []
-rows_in (Some p) = p.1
+-- an argument with these values
+abbrev given : Text → List Text → Row
+given name texts = record { id = name; values = texts; count = None; source = Some CommandLine; reading = AsWritten }
+
+-- a flag that is there
+abbrev set : Text → Row
+set name = given name (codes "true" ∷ [])
+
+-- a flag that is not there
+abbrev unset : Text → Row
+unset name = record { id = name; values = codes "false" ∷ []; count = None; source = Some DefaultValue; reading = AsWritten }
+
+-- ---- vp8 info IN
 
 abbrev info_words : Text → Text → List Text
 info_words name input = name ∷ codes "info" ∷ input ∷ []
@@ -22,25 +33,21 @@ info_taken_by many name input h = rw (h.separator, h.long, h.short) refl
 pub info_taken : (name input : Text) → IsOperand input → faults_of (info_words name input) ≡ []
 info_taken name input h = info_taken_by (asks_many (info_words name input)) name input h
 
-abbrev info_rows : Bool → Text → Text → List Row
-info_rows many name input = rows_in (subcommand_of (program many) (info_words name input))
+abbrev info_rows : Text → List Row
+info_rows input = given (codes "IN") (input ∷ []) ∷ unset (codes "long") ∷ unset (codes "json") ∷ unset (codes "progress") ∷ []
 
-info_asked_by : (many : Bool) (name input : Text) → IsOperand input
-    → (parsed_command (subcommand_of (program many) (info_words name input)) ≡ tells (info_rows many name input) (input ∷ []))
-    × (one_of (codes "long") (info_rows many name input) ≡ Some (codes "false"))
-    × (one_of (codes "json") (info_rows many name input) ≡ Some (codes "false"))
-    × (first_of (codes "max-packets") (info_rows many name input) ≡ None)
-    × (first_of (codes "max-pixels") (info_rows many name input) ≡ None)
-unfolding program clap_on_literals rows_in
-info_asked_by many name input h = rw (h.separator, h.long, h.short) (refl, refl, refl, refl, refl)
+info_read : (many : Bool) (name input : Text) → IsOperand input
+    → subcommand_of (program many) (info_words name input) ≡ Some (codes "info", info_rows input)
+unfolding program clap_on_literals
+info_read many name input h = rw (h.separator, h.long, h.short) refl
 
 pub info_asked : (name input : Text) → IsOperand input
     → (rows : List Row) × (parsed_args (info_words name input) ≡ tells rows (input ∷ [])) × (one_of (codes "long") rows ≡ Some (codes "false"))
     × (one_of (codes "json") rows ≡ Some (codes "false")) × (first_of (codes "max-packets") rows ≡ None) × (first_of (codes "max-pixels") rows ≡ None)
 info_asked name input h =
-    let many = asks_many (info_words name input) in
-    let asked = info_asked_by many name input h in
-    (info_rows many name input, asked.0, asked.1, asked.2, asked.3, asked.4)
+    (info_rows input, ap parsed_command (info_read (asks_many (info_words name input)) name input h), refl, refl, refl, refl)
+
+-- ---- vp8 decode IN OUT
 
 abbrev decode_words : Text → Text → Text → List Text
 decode_words name input output = name ∷ codes "decode" ∷ input ∷ output ∷ []
@@ -54,25 +61,27 @@ pub decode_taken : (name input output : Text) → IsOperand input → IsOperand 
     → faults_of (decode_words name input output) ≡ []
 decode_taken name input output h k = decode_taken_by (asks_many (decode_words name input output)) name input output h k
 
-abbrev decode_rows : Bool → Text → Text → Text → List Row
-decode_rows many name input output = rows_in (subcommand_of (program many) (decode_words name input output))
+-- the flags of decode that are not there, but for --y4m
+abbrev no_sums : List Row
+no_sums = unset (codes "md5") ∷ unset (codes "md5-each") ∷ unset (codes "progress") ∷ []
 
-decode_asked_by : (many : Bool) (name input output : Text) → IsOperand input → IsOperand output
-    → (parsed_command (subcommand_of (program many) (decode_words name input output)) ≡ decodes (decode_rows many name input output) input output)
-    × (one_of (codes "y4m") (decode_rows many name input output) ≡ Some (codes "false"))
-    × (one_of (codes "md5") (decode_rows many name input output) ≡ Some (codes "false"))
-    × (first_of (codes "max-packets") (decode_rows many name input output) ≡ None)
-    × (first_of (codes "max-pixels") (decode_rows many name input output) ≡ None)
-unfolding program clap_on_literals rows_in
-decode_asked_by many name input output h k = rw (h.separator, h.long, h.short, k.separator, k.long, k.short) (refl, refl, refl, refl, refl)
+abbrev files : Text → Text → List Row → List Row
+files input output rows = given (codes "IN") (input ∷ []) ∷ given (codes "OUT") (output ∷ []) ∷ rows
+
+decode_read : (many : Bool) (name input output : Text) → IsOperand input → IsOperand output
+    → subcommand_of (program many) (decode_words name input output)
+    ≡ Some (codes "decode", files input output (unset (codes "y4m") ∷ no_sums))
+unfolding program clap_on_literals
+decode_read many name input output h k = rw (h.separator, h.long, h.short, k.separator, k.long, k.short) refl
 
 pub decode_asked : (name input output : Text) → IsOperand input → IsOperand output
     → (rows : List Row) × (parsed_args (decode_words name input output) ≡ decodes rows input output) × (one_of (codes "y4m") rows ≡ Some (codes "false"))
     × (one_of (codes "md5") rows ≡ Some (codes "false")) × (first_of (codes "max-packets") rows ≡ None) × (first_of (codes "max-pixels") rows ≡ None)
 decode_asked name input output h k =
-    let many = asks_many (decode_words name input output) in
-    let asked = decode_asked_by many name input output h k in
-    (decode_rows many name input output, asked.0, asked.1, asked.2, asked.3, asked.4)
+    (files input output (unset (codes "y4m") ∷ no_sums),
+    ap parsed_command (decode_read (asks_many (decode_words name input output)) name input output h k), refl, refl, refl, refl)
+
+-- ---- vp8 decode --y4m IN OUT
 
 abbrev y4m_words : Text → Text → Text → List Text
 y4m_words name input output = name ∷ codes "decode" ∷ codes "--y4m" ∷ input ∷ output ∷ []
@@ -86,27 +95,20 @@ pub y4m_taken : (name input output : Text) → IsOperand input → IsOperand out
     → faults_of (y4m_words name input output) ≡ []
 y4m_taken name input output h k = y4m_taken_by (asks_many (y4m_words name input output)) name input output h k
 
-abbrev y4m_rows : Bool → Text → Text → Text → List Row
-y4m_rows many name input output = rows_in (subcommand_of (program many) (y4m_words name input output))
-
-y4m_asked_by : (many : Bool) (name input output : Text) → IsOperand input → IsOperand output
-    → (parsed_command (subcommand_of (program many) (y4m_words name input output)) ≡ decodes (y4m_rows many name input output) input output)
-    × (one_of (codes "y4m") (y4m_rows many name input output) ≡ Some (codes "true"))
-    × (one_of (codes "md5") (y4m_rows many name input output) ≡ Some (codes "false"))
-    × (first_of (codes "max-packets") (y4m_rows many name input output) ≡ None)
-    × (first_of (codes "max-pixels") (y4m_rows many name input output) ≡ None)
-unfolding program clap_on_literals rows_in
-y4m_asked_by many name input output h k = rw (h.separator, h.long, h.short, k.separator, k.long, k.short) (refl, refl, refl, refl, refl)
+y4m_read : (many : Bool) (name input output : Text) → IsOperand input → IsOperand output
+    → subcommand_of (program many) (y4m_words name input output)
+    ≡ Some (codes "decode", set (codes "y4m") ∷ files input output no_sums)
+unfolding program clap_on_literals
+y4m_read many name input output h k = rw (h.separator, h.long, h.short, k.separator, k.long, k.short) refl
 
 pub y4m_asked : (name input output : Text) → IsOperand input → IsOperand output
     → (rows : List Row) × (parsed_args (y4m_words name input output) ≡ decodes rows input output) × (one_of (codes "y4m") rows ≡ Some (codes "true"))
     × (one_of (codes "md5") rows ≡ Some (codes "false")) × (first_of (codes "max-packets") rows ≡ None) × (first_of (codes "max-pixels") rows ≡ None)
 y4m_asked name input output h k =
-    let many = asks_many (y4m_words name input output) in
-    let asked = y4m_asked_by many name input output h k in
-    (y4m_rows many name input output, asked.0, asked.1, asked.2, asked.3, asked.4)
+    (set (codes "y4m") ∷ files input output no_sums,
+    ap parsed_command (y4m_read (asks_many (y4m_words name input output)) name input output h k), refl, refl, refl, refl)
 
--- ---- a picture as a file
+-- ---- vp8 picture IN OUT
 
 abbrev still_words : Text → Text → Text → List Text
 still_words name input output = name ∷ codes "picture" ∷ input ∷ output ∷ []
@@ -120,30 +122,20 @@ pub still_taken : (name input output : Text) → IsOperand input → IsOperand o
     → faults_of (still_words name input output) ≡ []
 still_taken name input output h k = still_taken_by (asks_many (still_words name input output)) name input output h k
 
-abbrev still_rows : Bool → Text → Text → Text → List Row
-still_rows many name input output = rows_in (subcommand_of (program many) (still_words name input output))
-
-still_asked_by : (many : Bool) (name input output : Text) → IsOperand input → IsOperand output
-    → (parsed_command (subcommand_of (program many) (still_words name input output)) ≡ pictures (still_rows many name input output) input output)
-    × (first_of (codes "packet") (still_rows many name input output) ≡ None)
-    × (first_of (codes "scale") (still_rows many name input output) ≡ None)
-    × (first_of (codes "qi") (still_rows many name input output) ≡ None)
-    × (first_of (codes "max-packets") (still_rows many name input output) ≡ None)
-    × (first_of (codes "max-pixels") (still_rows many name input output) ≡ None)
-unfolding program clap_on_literals rows_in
-still_asked_by many name input output h k =
-    rw (h.separator, h.long, h.short, k.separator, k.long, k.short) (refl, refl, refl, refl, refl, refl)
+still_read : (many : Bool) (name input output : Text) → IsOperand input → IsOperand output
+    → subcommand_of (program many) (still_words name input output) ≡ Some (codes "picture", files input output [])
+unfolding program clap_on_literals
+still_read many name input output h k = rw (h.separator, h.long, h.short, k.separator, k.long, k.short) refl
 
 pub still_asked : (name input output : Text) → IsOperand input → IsOperand output
     → (rows : List Row) × (parsed_args (still_words name input output) ≡ pictures rows input output) × (first_of (codes "packet") rows ≡ None)
     × (first_of (codes "scale") rows ≡ None) × (first_of (codes "qi") rows ≡ None)
     × (first_of (codes "max-packets") rows ≡ None) × (first_of (codes "max-pixels") rows ≡ None)
 still_asked name input output h k =
-    let many = asks_many (still_words name input output) in
-    let asked = still_asked_by many name input output h k in
-    (still_rows many name input output, asked.0, asked.1, asked.2, asked.3, asked.4, asked.5)
+    (files input output [],
+    ap parsed_command (still_read (asks_many (still_words name input output)) name input output h k), refl, refl, refl, refl, refl)
 
--- ---- the picture of one packet
+-- ---- vp8 decode --frame N IN OUT
 
 abbrev frame_words : Text → Text → Text → Text → List Text
 frame_words name number input output = name ∷ codes "decode" ∷ codes "--frame" ∷ number ∷ input ∷ output ∷ []
@@ -158,27 +150,23 @@ pub frame_taken : (name number input output : Text) → IsOperand number → IsO
     → faults_of (frame_words name number input output) ≡ []
 frame_taken name number input output n h k = frame_taken_by (asks_many (frame_words name number input output)) name number input output n h k
 
-abbrev frame_rows : Bool → Text → Text → Text → Text → List Row
-frame_rows many name number input output = rows_in (subcommand_of (program many) (frame_words name number input output))
+abbrev frame_rows : Text → Text → Text → List Row
+frame_rows number input output = given (codes "frame") (number ∷ []) ∷ files input output (unset (codes "y4m") ∷ no_sums)
 
-frame_asked_by : (many : Bool) (name number input output : Text) → IsOperand number → IsOperand input → IsOperand output
-    → (parsed_command (subcommand_of (program many) (frame_words name number input output)) ≡ decodes_range (frame_rows many name number input output) input output)
-    × (first_of (codes "frame") (frame_rows many name number input output) ≡ Some number)
-    × (first_of (codes "frames") (frame_rows many name number input output) ≡ None)
-    × (one_of (codes "y4m") (frame_rows many name number input output) ≡ Some (codes "false"))
-unfolding program clap_on_literals rows_in
-frame_asked_by many name number input output n h k =
-    rw (n.separator, n.long, n.short, h.separator, h.long, h.short, k.separator, k.long, k.short) (refl, refl, refl, refl)
+frame_read : (many : Bool) (name number input output : Text) → IsOperand number → IsOperand input → IsOperand output
+    → subcommand_of (program many) (frame_words name number input output) ≡ Some (codes "decode", frame_rows number input output)
+unfolding program clap_on_literals
+frame_read many name number input output n h k =
+    rw (n.separator, n.long, n.short, h.separator, h.long, h.short, k.separator, k.long, k.short) refl
 
 pub frame_asked : (name number input output : Text) → IsOperand number → IsOperand input → IsOperand output
     → (rows : List Row) × (parsed_args (frame_words name number input output) ≡ decodes_range rows input output) × (first_of (codes "frame") rows ≡ Some number)
     × (first_of (codes "frames") rows ≡ None) × (one_of (codes "y4m") rows ≡ Some (codes "false"))
 frame_asked name number input output n h k =
-    let many = asks_many (frame_words name number input output) in
-    let asked = frame_asked_by many name number input output n h k in
-    (frame_rows many name number input output, asked.0, asked.1, asked.2, asked.3)
+    (frame_rows number input output,
+    ap parsed_command (frame_read (asks_many (frame_words name number input output)) name number input output n h k), refl, refl, refl)
 
--- ---- files to check
+-- ---- vp8 check IN IN
 
 abbrev check_two : Text → Text → Text → List Text
 check_two name first second = name ∷ codes "check" ∷ first ∷ second ∷ []
@@ -190,21 +178,20 @@ two_taken_by many name first second h k = rw (h.separator, h.long, h.short, k.se
 pub two_taken : (name first second : Text) → IsOperand first → IsOperand second → faults_of (check_two name first second) ≡ []
 two_taken name first second h k = two_taken_by (asks_many (check_two name first second)) name first second h k
 
-abbrev two_rows : Bool → Text → Text → Text → List Row
-two_rows many name first second = rows_in (subcommand_of (program many) (check_two name first second))
+abbrev two_rows : Text → Text → List Row
+two_rows first second = given (codes "IN") (first ∷ second ∷ []) ∷ unset (codes "verbose") ∷ unset (codes "progress") ∷ []
 
-two_asked_by : (many : Bool) (name first second : Text) → IsOperand first → IsOperand second
-    → (parsed_command (subcommand_of (program many) (check_two name first second)) ≡ checks (two_rows many name first second) (first ∷ second ∷ []))
-    × (one_of (codes "verbose") (two_rows many name first second) ≡ Some (codes "false"))
-unfolding program clap_on_literals rows_in
-two_asked_by many name first second h k = rw (h.separator, h.long, h.short, k.separator, k.long, k.short) (refl, refl)
+two_read : (many : Bool) (name first second : Text) → IsOperand first → IsOperand second
+    → subcommand_of (program many) (check_two name first second) ≡ Some (codes "check", two_rows first second)
+unfolding program clap_on_literals
+two_read many name first second h k = rw (h.separator, h.long, h.short, k.separator, k.long, k.short) refl
 
 pub two_asked : (name first second : Text) → IsOperand first → IsOperand second
     → (rows : List Row) × (parsed_args (check_two name first second) ≡ checks rows (first ∷ second ∷ [])) × (one_of (codes "verbose") rows ≡ Some (codes "false"))
 two_asked name first second h k =
-    let many = asks_many (check_two name first second) in
-    let asked = two_asked_by many name first second h k in
-    (two_rows many name first second, asked.0, asked.1)
+    (two_rows first second, ap parsed_command (two_read (asks_many (check_two name first second)) name first second h k), refl)
+
+-- ---- vp8 check --verbose IN
 
 abbrev check_told : Text → Text → List Text
 check_told name input = name ∷ codes "check" ∷ codes "--verbose" ∷ input ∷ []
@@ -216,18 +203,14 @@ told_taken_by many name input h = rw (h.separator, h.long, h.short) refl
 pub told_taken : (name input : Text) → IsOperand input → faults_of (check_told name input) ≡ []
 told_taken name input h = told_taken_by (asks_many (check_told name input)) name input h
 
-abbrev told_rows : Bool → Text → Text → List Row
-told_rows many name input = rows_in (subcommand_of (program many) (check_told name input))
+abbrev told_rows : Text → List Row
+told_rows input = set (codes "verbose") ∷ given (codes "IN") (input ∷ []) ∷ unset (codes "progress") ∷ []
 
-told_asked_by : (many : Bool) (name input : Text) → IsOperand input
-    → (parsed_command (subcommand_of (program many) (check_told name input)) ≡ checks (told_rows many name input) (input ∷ []))
-    × (one_of (codes "verbose") (told_rows many name input) ≡ Some (codes "true"))
-unfolding program clap_on_literals rows_in
-told_asked_by many name input h = rw (h.separator, h.long, h.short) (refl, refl)
+told_read : (many : Bool) (name input : Text) → IsOperand input
+    → subcommand_of (program many) (check_told name input) ≡ Some (codes "check", told_rows input)
+unfolding program clap_on_literals
+told_read many name input h = rw (h.separator, h.long, h.short) refl
 
 pub told_asked : (name input : Text) → IsOperand input
     → (rows : List Row) × (parsed_args (check_told name input) ≡ checks rows (input ∷ [])) × (one_of (codes "verbose") rows ≡ Some (codes "true"))
-told_asked name input h =
-    let many = asks_many (check_told name input) in
-    let asked = told_asked_by many name input h in
-    (told_rows many name input, asked.0, asked.1)
+told_asked name input h = (told_rows input, ap parsed_command (told_read (asks_many (check_told name input)) name input h), refl)
