@@ -15,13 +15,13 @@ pub(crate) struct Hexadecimal<'a>(pub(crate) &'a [u8]);
 
 impl fmt::Display for Hexadecimal<'_> {
     fn fmt<W: fmt::Write>(&self, f: &mut fmt::Formatter<W>) -> fmt::Result {
-        match self.0 {
-            [a, b, c, d, ..] => write!(f, "{a:02x} {b:02x} {c:02x} {d:02x}"),
-            [a, b, c] => write!(f, "{a:02x} {b:02x} {c:02x}"),
-            [a, b] => write!(f, "{a:02x} {b:02x}"),
-            [a] => write!(f, "{a:02x}"),
-            [] => Ok(()),
+        for (place, byte) in self.0.iter().take(4).enumerate() {
+            if place > 0 {
+                f.write_str(" ")?;
+            }
+            write!(f, "{byte:02x}")?;
         }
+        Ok(())
     }
 }
 
@@ -110,52 +110,56 @@ pub fn hint_stream_file<W: Write>(
 
 // Prints the codec of a file that isn't VP8, and how to encode those that ffmpeg decodes.
 fn hint_codec<W: Write>(name: &str, head: &[u8], output: &mut W) -> io::Result<()> {
-    let file = Printable(name);
-    match head {
-        [_, _, _, _, _, _, _, _, b'V', b'P', b'9', b'0', ..] => {
-            write!(output, "  {file}: VP9, not VP8")?;
-            hint_pipe(ShellWord(name, ""), made_of(name), output)
-        }
-        [_, _, _, _, _, _, _, _, b'A', b'V', b'0', b'1', ..] => {
-            write!(output, "  {file}: AV1, not VP8")?;
-            hint_pipe(ShellWord(name, ""), made_of(name), output)
-        }
-        [_, _, _, _, _, _, _, _, codec @ ..] => {
-            let bytes = Hexadecimal(codec);
-            writeln!(output, "  {file}: codec {bytes}, not VP8")
-        }
-        _ => Ok(()),
+    let Some(codec) = head.get(8..) else {
+        return Ok(());
+    };
+    if codec.starts_with(b"VP90") {
+        hint_other_codec(name, "VP9", output)
+    } else if codec.starts_with(b"AV01") {
+        hint_other_codec(name, "AV1", output)
+    } else {
+        let (file, bytes) = (Printable(name), Hexadecimal(codec));
+        writeln!(output, "  {file}: codec {bytes}, not VP8")
     }
+}
+
+// Prints the name of a codec that ffmpeg decodes, and how to encode the file.
+fn hint_other_codec<W: Write>(name: &str, codec: &str, output: &mut W) -> io::Result<()> {
+    let file = Printable(name);
+    write!(output, "  {file}: {codec}, not VP8")?;
+    hint_pipe(ShellWord(name, ""), made_of(name), output)
 }
 
 /// Prints what a file is that isn't IVF, and how to make an IVF file of it.
 pub fn hint_not_ivf<W: Write>(name: &str, seen: &Seen, output: &mut W) -> io::Result<()> {
     let (kind, start) = (seen.kind(), Hexadecimal(seen.head()));
-    let (file, word, made) = (Printable(name), ShellWord(name, ""), made_of(name));
+    let file = Printable(name);
     write!(output, "  {file}: not an IVF file")?;
     match kind {
         FileKind::Empty => writeln!(output),
         FileKind::Unknown => writeln!(output, "; it begins with {start}"),
-        FileKind::WebM | FileKind::Avi => writeln!(
-            output,
-            " but {kind} ({start}). Try: ffmpeg -i {word} -c copy -r 30 {made}, with the film's rate for 30"
-        ),
-        FileKind::Y4m => writeln!(
-            output,
-            " but {kind} ({start}). Try: vp8 encode {word} {made}"
-        ),
+        _ => {
+            write!(output, " but {kind} ({start})")?;
+            hint_making(name, kind, output)
+        }
+    }
+}
+
+// Prints how to make an IVF file, or a picture, of a file of another kind, after what it is.
+fn hint_making<W: Write>(name: &str, kind: FileKind, output: &mut W) -> io::Result<()> {
+    let (word, made) = (ShellWord(name, ""), made_of(name));
+    match kind {
+        FileKind::WebM | FileKind::Avi => {
+            write!(output, ". Try: ffmpeg -i {word} -c copy -r 30 {made}")?;
+            writeln!(output, ", with the film's rate for 30")
+        }
+        FileKind::Y4m => writeln!(output, ". Try: vp8 encode {word} {made}"),
         FileKind::WebP => {
             let picture = picture_of(name);
-            writeln!(
-                output,
-                " but {kind} ({start}). Try: vp8 picture {word} {picture}"
-            )
+            writeln!(output, ". Try: vp8 picture {word} {picture}")
         }
-        FileKind::Mp4 | FileKind::H264 | FileKind::Ogg => {
-            write!(output, " but {kind} ({start})")?;
-            hint_pipe(word, made, output)
-        }
-        _ => writeln!(output, " but {kind} ({start})"),
+        FileKind::Mp4 | FileKind::H264 | FileKind::Ogg => hint_pipe(word, made, output),
+        _ => writeln!(output),
     }
 }
 

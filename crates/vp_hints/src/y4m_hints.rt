@@ -18,24 +18,32 @@ pub fn hint_not_y4m<W: Write>(
     to: &str,
     output: &mut W,
 ) -> io::Result<()> {
-    let (kind, start) = (seen.kind(), Hexadecimal(seen.head()));
-    let (word, to) = (ShellWord(file.0, ""), ShellWord(to, ""));
-    match kind {
-        FileKind::Y4m => writeln!(
+    let kind = seen.kind();
+    if let FileKind::Y4m = kind {
+        return writeln!(
             output,
             "  {file}: a line of it is no line of YUV4MPEG2, or its rate is not two numbers"
-        ),
-        FileKind::Empty => writeln!(output, "  {file}: not a YUV4MPEG2 file"),
-        FileKind::Unknown => writeln!(
-            output,
-            "  {file}: not a YUV4MPEG2 file; it begins with {start}"
-        ),
+        );
+    }
+    write!(output, "  {file}: not a YUV4MPEG2 file")?;
+    hint_kind(file, kind, seen.head(), to, output)
+}
+
+// Prints what a file is, by its first bytes, and how to encode it into the file `to`.
+fn hint_kind<W: Write>(
+    file: Printable<'_>,
+    kind: FileKind,
+    head: &[u8],
+    to: &str,
+    output: &mut W,
+) -> io::Result<()> {
+    let start = Hexadecimal(head);
+    match kind {
+        FileKind::Empty => writeln!(output),
+        FileKind::Unknown => writeln!(output, "; it begins with {start}"),
         _ => {
-            write!(
-                output,
-                "  {file}: not a YUV4MPEG2 file but {kind} ({start})"
-            )?;
-            hint_pipe(word, to, output)
+            write!(output, " but {kind} ({start})")?;
+            hint_pipe(ShellWord(file.0, ""), ShellWord(to, ""), output)
         }
     }
 }
@@ -72,19 +80,30 @@ fn colour_of(head: &[u8]) -> Option<&'static str> {
     words
 }
 
+// The tokens of chroma formats that have 8 bits, with their words.
+const FORMATS: [(&[u8], &str); 6] = [
+    (b"C444", "4:4:4"),
+    (b"C422", "4:2:2"),
+    (b"C411", "4:1:1"),
+    (b"C440", "4:4:0"),
+    (b"Cmono", "gray"),
+    (b"C444alpha", "4:4:4 with alpha"),
+];
+
 // Returns the words for a token of the chroma format.
 fn colour_words(token: &[u8]) -> Option<&'static str> {
-    match token {
-        b"C444" => Some("4:4:4"),
-        b"C422" => Some("4:2:2"),
-        b"C411" => Some("4:1:1"),
-        b"C440" => Some("4:4:0"),
-        b"Cmono" => Some("gray"),
-        b"C444alpha" => Some("4:4:4 with alpha"),
-        [b'C', b'4', b'2', b'0', b'p', ..] => Some("4:2:0 with more than 8 bits"),
-        [b'C', b'4', _, _, b'p', ..] => Some("not 4:2:0, with more than 8 bits"),
-        _ => None,
+    if token.starts_with(b"C420p") {
+        return Some("4:2:0 with more than 8 bits");
     }
+    if token.starts_with(b"C4") && token.get(4) == Some(&b'p') {
+        return Some("not 4:2:0, with more than 8 bits");
+    }
+    for (format, words) in FORMATS {
+        if token == format {
+            return Some(words);
+        }
+    }
+    None
 }
 
 /// Prints why the size of the pictures of a YUV4MPEG2 file is refused where they may have this number of pixels, if its
