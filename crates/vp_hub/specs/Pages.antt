@@ -10,6 +10,7 @@ use Rattle.vp_ivf.specs.Names.{file_fault_name}
 use Rattle.vp_head.specs.Names.{packet_fault_name}
 use Rattle.vp_y4m.specs.Text.{header_text}
 use Rattle.vp_stream.specs.Stream.{stream_refusal}
+use Rattle.vp_stream.specs.Texts.{head_lines}
 use Rattle.vp_stream.specs.Seeking.{AnswerValue, Shown, Hidden, Fault, NoPacket, answer_at}
 use Rattle.vp_heads.specs.declared.request.Request.{Request}
 use Rattle.vp_heads.specs.declared.request.Resource.{Resource}
@@ -43,13 +44,6 @@ state_by (Faulty f) fault = file_fault_name f
 state_by Good fault = codes "ended"
 state_by Open (Some f) = file_fault_name f
 state_by Open None = codes "open"
-
--- the lines for a stream's head: its size and its rate
-abbrev pub head_lines : Option IvfHead → List ℕ
-head_lines None = []
-head_lines (Some h) =
-    codes "size " ++ (decimal h.w ++ (codes "x" ++ (decimal h.h
-    ++ (codes "\nrate " ++ (decimal h.rate ++ (codes "/" ++ (decimal h.scale ++ codes "\n")))))))
 
 -- the information about a stream
 unfoldable pub info_text : Source → List ℕ

@@ -7,7 +7,7 @@ use Rattle.vp_base.proofs.Writes.{appends_none, appends_both}
 use Rattle.vp_decode.specs.declared.decoder.Outcome.{Outcome}
 use Rattle.vp_decode.specs.declared.decoder.Outcome.TheVariants.{Shown}
 use Rattle.vp_stream.specs.declared.outcomes.Survey.{Survey}
-use Rattle.vp_hub.specs.Pages.{head_lines}
+use Rattle.vp_stream.specs.Texts.{head_lines}
 use Rattle.std.specs.List.{concat}
 use Rattle.std.proofs.lemmas.List.Folds.{concat-append}
 use Rattle.vp_head.specs.declared.fault.PacketFault.{PacketFault}

@@ -15,7 +15,7 @@ use Rattle.vp_stream.specs.Seeking.{saturating_count}
 use Rattle.vp_check.specs.declared.checked.Checked.{Checked}
 use Rattle.vp_check.specs.declared.checked.CheckedPacket.{CheckedPacket}
 use Rattle.vp_check.specs.Checks.{is_corrupt_check, is_fault_check, is_hidden_check, is_shown_check, is_sound}
-use Rattle.vp_hub.specs.Pages.{head_lines}
+use Rattle.vp_stream.specs.Texts.{head_lines}
 use Rattle.vp_lines.specs.Listing.{word_of}
 use Rattle.vp_lines.specs.declared.counts.Counts.{Counts}
 use Rattle.vp_lines.specs.declared.lines.PacketLine.{PacketLine}

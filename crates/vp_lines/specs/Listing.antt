@@ -4,7 +4,7 @@ use Rattle.vp_head.specs.Names.{packet_fault_name}
 use Rattle.vp_decode.specs.declared.decoder.Outcome.{Outcome}
 use Rattle.vp_decode.specs.declared.decoder.Outcome.TheVariants as outcome
 use Rattle.vp_stream.specs.declared.outcomes.Survey.{Survey}
-use Rattle.vp_hub.specs.Pages.{head_lines}
+use Rattle.vp_stream.specs.Texts.{head_lines}
 
 -- the word for the outcome of a packet
 abbrev pub word_of : Outcome → List ℕ

@@ -6,7 +6,7 @@ ghost use Rattle.vp_lines.specs.CheckLines.{damage_line, document, fault_text, j
 ghost use Rattle.vp_lines.specs.CheckLines.{json_end, json_object, json_start, json_text, line_form};
 ghost use Rattle.vp_lines.specs.CheckLines.{listed_line, name_line, packet_text, packet_texts, packets_text, whole_text};
 ghost use Rattle.vp_lines.specs.Listing.{word_of};
-ghost use Rattle.vp_hub.specs.Pages.{head_lines};
+ghost use Rattle.vp_stream.specs.Texts.{head_lines};
 
 use crate::file_names::{hex_digit, print_file_name};
 use crate::listing::print_rate;

@@ -3,7 +3,7 @@
 ghost use Rattle.std.specs.Prelude.{◌≡◌, ◌<◌, ◌+◌, ◌≤◌, length, true, OnOk};
 ghost use Rattle.std.specs.Io.KnownBytes.{Appends};
 ghost use Rattle.vp_base.specs.Counted.{counted_contents};
-ghost use Rattle.vp_hub.specs.Pages.{head_lines};
+ghost use Rattle.vp_stream.specs.Texts.{head_lines};
 ghost use Rattle.vp_lines.specs.FaultLines.{fault_line, fault_lines};
 ghost use Rattle.vp_lines.specs.Listing.{head_text, lines_from, packet_lines, packet_line, survey_text};
 

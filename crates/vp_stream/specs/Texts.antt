@@ -1,6 +1,7 @@
--- The output of decoding a file: the shown pictures as I420, or as YUV4MPEG2 up to the first change of size. Pinned by
--- the tests `decode_to_y4m`, `no_picture_no_bytes` and `size_change_before_file_fault`.
-use Rattle.std.specs.Prelude.{ℕ, Bool, false, not, ◌==◌, ◌&&◌, List, [], ◌∷◌, ◌++◌, Option, Some, None}
+-- The output of decoding a file: the shown pictures as I420, or as YUV4MPEG2 up to the first change of size; and the
+-- lines that tell of its head. Pinned by the tests `decode_to_y4m`, `no_picture_no_bytes`,
+-- `size_change_before_file_fault` and `info_of_a_stream`.
+use Rattle.std.specs.Prelude.{ℕ, Bool, false, not, ◌==◌, ◌&&◌, List, [], ◌∷◌, ◌++◌, codes, decimal, Option, Some, None}
 use Rattle.std.specs.List.{flat_map, filter_map, take_while, list_all}
 use Rattle.vp_base.specs.declared.limits.Limits.{Limits}
 use Rattle.vp_base.specs.Image.{Image, i420}
@@ -48,3 +49,12 @@ pictures_of limits file = shown_in (answers_of limits file)
 -- all output for a file
 abbrev pub decoded_text : Limits → Form → List ℕ → List ℕ
 decoded_text limits form file = text form (reading_of limits file).head (pictures_of limits file)
+
+-- ---- the lines for the head of a file: its size and its rate
+
+-- the lines, none if there is no valid head
+abbrev pub head_lines : Option IvfHead → List ℕ
+head_lines None = []
+head_lines (Some h) =
+    codes "size " ++ (decimal h.w ++ (codes "x" ++ (decimal h.h
+    ++ (codes "\nrate " ++ (decimal h.rate ++ (codes "/" ++ (decimal h.scale ++ codes "\n")))))))
