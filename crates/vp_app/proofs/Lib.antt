@@ -1,7 +1,4 @@
-pub mod CommandLemmas
-pub mod CheckLemmas
+pub mod ProgramLemmas
 pub mod FeedingLemmas
 pub mod ServingLemmas
 pub mod RunLemmas
-pub mod PictureLemmas
-pub mod TaskLemmas

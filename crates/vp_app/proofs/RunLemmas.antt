@@ -8,7 +8,8 @@ use Rattle.vp_args.specs.declared.serve_args.ServeArgs.{ServeArgs}
 use Rattle.vp_args.specs.declared.serve_args.ServeManyArgs.{ServeManyArgs}
 use Rattle.vp_app.specs.declared.many.ManyFault.{ManyFault}
 use Rattle.vp_app.specs.declared.service.ServiceFault.{ServiceFault}
-use Rattle.vp_app.specs.Commands.{ServesConnections, Side}
+use Rattle.vp_commands.specs.Commands.{Side}
+use Rattle.vp_app.specs.Program.{ServesConnections}
 use Rattle.vp_app.specs.Many.{IsFedBefore, ServesMany, WorksLoop, followed_names, options_of}
 use Rattle.vp_app.specs.Serving.{AreFilesFed, IsNewHub, IsServing}
 

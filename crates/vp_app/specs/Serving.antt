@@ -15,7 +15,7 @@ use Rattle.vp_hub.specs.Hub.{HubState, new_hub_state, stream_limits}
 use Rattle.vp_hub.specs.Work.{Hub}
 use Rattle.vp_hub.specs.Sessions.{IsSession, IsTurnedAway}
 use Rattle.vp_args.specs.declared.serve_args.NamedFile.{NamedFile}
-use Rattle.vp_app.specs.Usual.{AreLimits}
+use Rattle.vp_commands.specs.Usual.{AreLimits}
 use Rattle.vp_app.specs.Feeding.{IsFed}
 
 -- ---- the hub

@@ -1,6 +1,6 @@
 //! The command `vp8 serve --max-connections`: feeds files into a hub, and then serves many connections at once.
 
-ghost use Rattle.std.specs.Prelude.{◌≡◌, ◌≢◌, ℕ, IfOk, List, None, false, true};
+ghost use Rattle.std.specs.Prelude.{◌≡◌, ◌≢◌, IfOk, None, false, true};
 ghost use Rattle.vp_base.specs.Counted.{counted_remaining};
 ghost use Rattle.vp_serve.specs.ServerLoop.{initial};
 ghost use Rattle.vp_app.specs.declared.many.ManyFault.{ManyFault};
@@ -8,8 +8,7 @@ ghost use Rattle.vp_app.specs.declared.service.ServiceFault.{ServiceFault};
 ghost use Rattle.vp_app.specs.Many.{IsFedBefore, ServesMany, WorksLoop, followed_names, options_of};
 ghost use Rattle.vp_app.specs.Serving.{AreFilesFed, IsFileFed};
 
-use crate::hints::{hint_address, hint_memory, hint_names, hint_odd_file, hint_stream};
-use crate::outside::{Outside, is_regular, oddity_at, oddity_of};
+use crate::hints::{hint_address, hint_names, hint_odd_file, hint_stream};
 use crate::service::{ServiceFault, feed_stream, hub_with_cursors, print_address, stream_names};
 use std::alloc::{AllocError, Global};
 use std::io::{Read, Write};
@@ -19,6 +18,7 @@ use std::time::Clock;
 use std::{fs, io};
 use vp_args::{NamedFile, ServeArgs, ServeManyArgs};
 use vp_base::{ByteList, Counted};
+use vp_commands::{Outside, hint_memory, is_regular, oddity_at, oddity_of};
 use vp_hints::{Cause, Meter, Printable};
 use vp_hub::Hub;
 use vp_mio::{FollowedFile, MioTransport};

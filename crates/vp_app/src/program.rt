@@ -1,54 +1,31 @@
 //! The program: runs the command line over any standard streams.
 
-ghost use Rattle.std.specs.Prelude.{◌≡◌, ◌≢◌, ◌≤◌, ◌⊎◌, [], IfOk, IsOk, None, false, true};
+ghost use Rattle.std.specs.Prelude.{◌≡◌, ◌≢◌, ◌≤◌, ◌⊎◌, [], false, true};
 ghost use Rattle.clap.specs.Values.{kind_of};
 ghost use Rattle.clap.specs.Walk.{texts};
 ghost use Rattle.clap.specs.declared.error.kind.ErrorKind.{ErrorKind};
-ghost use Rattle.vp_stream.specs.declared.fault.DecodeFault.{DecodeFault};
-ghost use Rattle.vp_hints.specs.Overwrite.{is_begun};
-ghost use Rattle.vp_hints.specs.Witness.{witness_inner};
-ghost use Rattle.vp_app.specs.Commands.{Side, first_name, info_style, is_plain, is_stream, is_summed, is_y4m};
-ghost use Rattle.vp_app.specs.Commands.{read_side};
-ghost use Rattle.vp_app.specs.Commands.{status_by_report, status_by_service, written_side, DecodesFile, DecodesInto};
-ghost use Rattle.vp_app.specs.Commands.{Does, DoesCheck};
-ghost use Rattle.vp_app.specs.Commands.{DoesDecode, DoesDecodeRange, DoesInfo, IsFileDecoded, IsFileSurveyed};
-ghost use Rattle.vp_app.specs.Commands.{ListsFile, PrintsSurvey, SurveysFile, SurveysInput, WritesPictures};
-ghost use Rattle.vp_app.specs.Commands.{WritesRange};
+ghost use Rattle.vp_commands.specs.Commands.{read_side, written_side};
+ghost use Rattle.vp_app.specs.Program.{status_by_service, Does};
 ghost use Rattle.vp_app.specs.Many.{status_by_many};
-ghost use Rattle.vp_app.specs.Status.{status_of};
 ghost use Rattle.vp_args.specs.Args.{parsed_args, faults_of, AreMistaken, ParsedArgs, IsForMemory, IsMistake, IsInvalidValue};
 ghost use Rattle.vp_args.specs.Args.{IsTaskFor};
 
-use crate::check::{CheckWork, check_files};
-use crate::encode::encode;
-use crate::encoded::tell_encoded;
-use crate::files::{file_fault, finish_pictures, limits_of};
-use crate::hints::{hint_decode, hint_encode, hint_serve, hint_survey};
+use crate::hints::hint_serve;
 use crate::many::{ManyFault, print_fault, serve_many};
-use crate::outside::Outside;
-use crate::picture::{report_picture, write_picture};
-use crate::range::{decode_packets, report_packets};
 use crate::service::{ServiceFault, serve};
-use crate::sums::{sum_packets, sum_pictures};
-use crate::unwritten::report_unwritten;
 use clap::Error;
 use clap::error::ErrorKind;
-use std::alloc::Global;
-use std::fs::OpenFile;
 use std::io::{Read, Write};
 use std::net::{Net, TcpListener, TcpStream};
 use std::rt::{Env, Files};
 use std::time::Clock;
 use std::{env, io};
-use vp_args::{
-    CheckArgs, DecodeArgs, DecodeRangeArgs, EncodeArgs, FileLimits, InfoArgs, Refusal, ServeArgs,
-    ServeManyArgs, Task, read_args,
-};
+use vp_args::{Refusal, ServeArgs, ServeManyArgs, Task, read_args};
 use vp_base::Counted;
-use vp_encode::{EncodeAllFault, EncodeReport};
-use vp_hints::{Meter, Overwrite, Unit, Witness, hint_length, hint_packets};
-use vp_lines::{LineStyle, print_faults, print_survey, report_fault};
-use vp_stream::{DecodeFault, Form, Report, Survey, SurveyFault, decode_all, survey};
+use vp_commands::{Outside, run_check, run_decode, run_encode, run_info, run_picture, run_range};
+use vp_hints::Meter;
+use vp_lines::report_fault;
+use vp_stream::DecodeFault;
 
 /// Runs the command that the arguments ask for; the first argument is the program's name. Returns the exit status: 0, 1
 /// after a fault, or 2 after a usage error.
@@ -167,11 +144,7 @@ fn run_task<
     match task {
         Task::Decode(decoding) => run_decode(outside, decoding, input, output, errors),
         Task::DecodeRange(wanted) => run_range(outside, wanted, input, output, errors),
-        Task::Encode(encoding) => {
-            switch_on(outside, encoding.progress, Unit::Frames);
-            let done = encode(outside, encoding, input, output);
-            report_encode(outside, done, encoding, errors)
-        }
+        Task::Encode(encoding) => run_encode(outside, encoding, input, output, errors),
         Task::Info(wanted) => run_info(outside, wanted, input, output, errors),
         Task::Serve(service) => {
             let done = serve(outside, service, input, output, errors);
@@ -182,215 +155,9 @@ fn run_task<
             report_serve_many(done, many, errors)
         }
         Task::Check(wanted) => run_check(outside, wanted, input, output, errors),
-        Task::Picture(wanted) => {
-            let done = write_picture(outside, wanted, input);
-            report_picture(outside, &done, wanted, errors)
-        }
+        Task::Picture(wanted) => run_picture(outside, wanted, input, errors),
         Task::Nothing => 2,
     }
-}
-
-// Lets progress be reported, if that is asked for.
-fn switch_on<H>(outside: &Outside<'_, H>, asked: bool, unit: Unit) {
-    if asked {
-        outside.meter().count(unit);
-    }
-}
-
-// Decodes a file, and reports it.
-#[tactic(auto, using(crate::proofs::TaskLemmas::written_pictures, crate::proofs::TaskLemmas::summed_pictures))]
-fn run_decode<H: Files + AllocGlobal + Clock + Eprint, R: Read, W: Write, E: Write>(
-    outside: &mut Outside<'_, H>,
-    decoding: &DecodeArgs<'_>,
-    input: &mut Counted<R>,
-    output: &mut Counted<W>,
-    errors: &mut Counted<E>,
-) -> u8
-    ensures status { result ≤ 1 }
-    ensures does { DoesDecode decoding.now result
-        (read_side R.remaining input.old) (read_side R.remaining input.new)
-        (written_side W.contents output.old) (written_side W.contents output.new) }
-{
-    switch_on(outside, decoding.progress, Unit::Packets);
-    if is_summed(decoding) {
-        sum_pictures(outside, decoding, input, output, errors)
-    } else {
-        write_pictures(outside, decoding, input, output, errors)
-    }
-}
-
-// Whether sums are printed in place of pictures.
-fn is_summed(decoding: &DecodeArgs<'_>) -> bool
-    ensures { result ≡ is_summed decoding.now }
-{
-    decoding.md5 || decoding.md5_each
-}
-
-// Decodes a file, writes its pictures, and reports it.
-fn write_pictures<H: Files + AllocGlobal + Clock + Eprint, R: Read, W: Write, E: Write>(
-    outside: &mut Outside<'_, H>,
-    decoding: &DecodeArgs<'_>,
-    input: &mut Counted<R>,
-    output: &mut Counted<W>,
-    errors: &mut Counted<E>,
-) -> u8
-    ensures status { result ≤ 1 }
-    ensures does { WritesPictures decoding.now result
-        (read_side R.remaining input.old) (read_side R.remaining input.new)
-        (written_side W.contents output.old) (written_side W.contents output.new) }
-{
-    let done = decode(outside, form_of(decoding.y4m), decoding, input, output);
-    report_decode(outside, done, decoding, errors)
-}
-
-// Decodes a range of packets, and reports it.
-#[tactic(auto, using(crate::proofs::TaskLemmas::written_range, crate::proofs::TaskLemmas::summed_range))]
-fn run_range<H: Files + AllocGlobal + Clock + Eprint, R: Read, W: Write, E: Write>(
-    outside: &mut Outside<'_, H>,
-    wanted: &DecodeRangeArgs<'_>,
-    input: &mut Counted<R>,
-    output: &mut Counted<W>,
-    errors: &mut Counted<E>,
-) -> u8
-    ensures status { result ≤ 1 }
-    ensures does { DoesDecodeRange wanted.now result
-        (read_side R.remaining input.old) (read_side R.remaining input.new)
-        (written_side W.contents output.old) (written_side W.contents output.new) }
-{
-    switch_on(outside, wanted.decoding.progress, Unit::Packets);
-    if is_summed(&wanted.decoding) {
-        sum_packets(outside, wanted, input, output, errors)
-    } else {
-        write_range(outside, wanted, input, output, errors)
-    }
-}
-
-// Decodes a range of packets, writes their pictures, and reports it.
-fn write_range<H: Files + AllocGlobal + Clock + Eprint, R: Read, W: Write, E: Write>(
-    outside: &mut Outside<'_, H>,
-    wanted: &DecodeRangeArgs<'_>,
-    input: &mut Counted<R>,
-    output: &mut Counted<W>,
-    errors: &mut Counted<E>,
-) -> u8
-    ensures status { result ≤ 1 }
-    ensures does { WritesRange wanted.now result
-        (read_side R.remaining input.old) (read_side R.remaining input.new)
-        (written_side W.contents output.old) (written_side W.contents output.new) }
-{
-    let done = decode_packets(outside, form_of(wanted.decoding.y4m), wanted, input, output);
-    report_packets(outside, done, wanted, errors)
-}
-
-// Lists files.
-#[tactic(auto, using(crate::proofs::TaskLemmas::listed_file, crate::proofs::TaskLemmas::listed_files))]
-fn run_info<H: Files + AllocGlobal + Clock + Eprint, R: Read, W: Write, E: Write>(
-    outside: &mut Outside<'_, H>,
-    wanted: &InfoArgs<'_>,
-    input: &mut Counted<R>,
-    output: &mut Counted<W>,
-    errors: &mut Counted<E>,
-) -> u8
-    ensures status { result ≤ 1 }
-    ensures does { DoesInfo wanted.now result
-        (read_side R.remaining input.old) (read_side R.remaining input.new)
-        (written_side W.contents output.old) (written_side W.contents output.new) }
-{
-    switch_on(outside, wanted.progress, Unit::Packets);
-    if is_plain(wanted) {
-        let from = first_name(&wanted.files);
-        return list_file(outside, wanted.limits, from, input, output, errors);
-    }
-    let work = CheckWork {
-        limits: wanted.limits,
-        style: info_style(wanted),
-        names: &wanted.files,
-        failures: output.failures(),
-    };
-    check_files(outside, &work, input, output, errors)
-}
-
-// Checks files.
-fn run_check<H: Files + AllocGlobal + Clock + Eprint, R: Read, W: Write, E: Write>(
-    outside: &mut Outside<'_, H>,
-    wanted: &CheckArgs<'_>,
-    input: &mut Counted<R>,
-    output: &mut Counted<W>,
-    errors: &mut Counted<E>,
-) -> u8
-    ensures status { result ≤ 1 }
-    ensures does { DoesCheck wanted.now result
-        (read_side R.remaining input.old) (read_side R.remaining input.new)
-        (written_side W.contents output.old) (written_side W.contents output.new) }
-{
-    switch_on(outside, wanted.progress, Unit::Packets);
-    let work = CheckWork {
-        limits: wanted.limits,
-        style: LineStyle::Counted {
-            verbose: wanted.verbose,
-        },
-        names: &wanted.files,
-        failures: output.failures(),
-    };
-    check_files(outside, &work, input, output, errors)
-}
-
-// The first name, if there is one.
-#[tactic(auto, using(crate::proofs::TaskLemmas::first_of_some, crate::proofs::TaskLemmas::first_of_none))]
-fn first_name<'a>(names: &[&'a str]) -> &'a str
-    ensures { result.now ≡ first_name (texts names.now) }
-{
-    match names {
-        [name, ..] => name,
-        [] => "",
-    }
-}
-
-// Whether the lines of one file are asked for, without marks.
-fn is_plain(wanted: &InfoArgs<'_>) -> bool
-    ensures { result ≡ is_plain wanted.now }
-{
-    let marked = wanted.long || wanted.json;
-    wanted.files.len() == 1 && !marked
-}
-
-// Returns the form of the lines otherwise.
-fn info_style(wanted: &InfoArgs<'_>) -> LineStyle
-    ensures { result ≡ info_style wanted.now }
-{
-    if wanted.json {
-        LineStyle::Json
-    } else {
-        LineStyle::Packets {
-            long: wanted.long,
-            named: 1 < wanted.files.len(),
-        }
-    }
-}
-
-// Surveys a file, and prints what is found.
-fn list_file<H: Files + AllocGlobal + Clock + Eprint, R: Read, W: Write, E: Write>(
-    outside: &mut Outside<'_, H>,
-    limits: FileLimits,
-    from: &str,
-    input: &mut Counted<R>,
-    output: &mut Counted<W>,
-    errors: &mut Counted<E>,
-) -> u8
-    ensures status { result ≤ 1 }
-    ensures lists { ListsFile limits from.now result
-        (read_side R.remaining input.old) (read_side R.remaining input.new)
-        (written_side W.contents output.old) (written_side W.contents output.new) }
-{
-    let done = survey_file(outside, limits, from, input);
-    report_survey(outside, done, from, output, errors)
-}
-
-// Returns the form of the pictures: YUV4MPEG2, or I420.
-pub(crate) fn form_of(y4m: bool) -> Form
-    ensures { is_y4m result ≡ y4m }
-{
-    if y4m { Form::Y4m } else { Form::I420 }
 }
 
 // Reports why no task is run, and returns the exit status.
@@ -409,241 +176,6 @@ fn reject<W: Write, E: Write>(
         Refusal::Value(text) => report_usage_error(text, errors),
         Refusal::ClapError(error) => report_args_error(error, output, errors),
     }
-}
-
-// Opens the files, and decodes. The output must not be the input file, because creating it would empty it.
-fn decode<H: Files + AllocGlobal + Clock + Eprint, R: Read, W: Write>(
-    outside: &mut Outside<'_, H>,
-    form: Form,
-    decoding: &DecodeArgs<'_>,
-    input: &mut Counted<R>,
-    output: &mut Counted<W>,
-) -> Result<Report, DecodeFault>
-    ensures decoded { DecodesFile decoding.now.limits form decoding.now.input.now decoding.now.output.now result
-        (read_side R.remaining input.old) (read_side R.remaining input.new)
-        (written_side W.contents output.old) (written_side W.contents output.new) }
-    ensures unread { is_stream decoding.now.input.now ≡ false → input.new ≡ input.old }
-    ensures unwritten { is_stream decoding.now.output.now ≡ false → output.new ≡ output.old }
-{
-    if decoding.input == "-" {
-        return decode_into(outside, form, decoding, input, output);
-    }
-    if decoding.input == decoding.output {
-        outside.is_one_file = true;
-        return Err(DecodeFault::Device);
-    }
-    match outside.open_metered(decoding.input) {
-        Ok(mut file) => {
-            let done = decode_into(
-                outside,
-                form,
-                decoding,
-                &mut Counted::new(&mut file),
-                output,
-            );
-            outside.has_read(file.into_witness());
-            done
-        }
-        Err(error) => Err(file_fault(&error, DecodeFault::Device, DecodeFault::Memory)),
-    }
-}
-
-#[tactic(auto, using(crate::proofs::CommandLemmas::into_stream, crate::proofs::CommandLemmas::into_file, crate::proofs::CommandLemmas::into_none))]
-fn decode_into<H: Files + AllocGlobal, R: Read, W: Write>(
-    outside: &mut Outside<'_, H>,
-    form: Form,
-    decoding: &DecodeArgs<'_>,
-    input: &mut Counted<R>,
-    output: &mut Counted<W>,
-) -> Result<Report, DecodeFault>
-    ensures decoded { DecodesInto decoding.now.limits form decoding.now.output.now result
-        (read_side R.remaining input.old) (read_side R.remaining input.new)
-        (written_side W.contents output.old) (written_side W.contents output.new) }
-    ensures unwritten { is_stream decoding.now.output.now ≡ false → output.new ≡ output.old }
-{
-    if decoding.output == "-" {
-        return decode_over(outside.alloc(), form, decoding.limits, input, output);
-    }
-    match outside.make(decoding.output) {
-        Ok(mut file) => {
-            let done = decode_into_file(outside.alloc(), form, decoding.limits, input, &mut file);
-            outside.has_written(decoding.output, file);
-            done
-        }
-        Err(error) => Err(file_fault(&error, DecodeFault::Device, DecodeFault::Memory)),
-    }
-}
-
-// Decodes to a file. If the status is 0 although there is no picture, the file is empty afterwards.
-fn decode_into_file<R: Read, F: OpenFile + Write>(
-    alloc: Global,
-    form: Form,
-    limits: FileLimits,
-    input: &mut Counted<R>,
-    file: &mut Witness<Overwrite<F>>,
-) -> Result<Report, DecodeFault>
-    ensures decoded { (a : Side) × (b : Side) × IsFileDecoded limits form result
-        (read_side R.remaining input.old) (read_side R.remaining input.new) a b }
-    ensures finished { status_of result ≡ 0 → is_begun (witness_inner file.new) ≡ true }
-{
-    let done = decode_over(alloc, form, limits, input, &mut Counted::new(&mut *file));
-    if finish_pictures(&done, file).is_err() {
-        return Err(DecodeFault::Device);
-    }
-    done
-}
-
-pub(crate) fn decode_over<R: Read, W: Write>(
-    alloc: Global,
-    form: Form,
-    limits: FileLimits,
-    input: &mut Counted<R>,
-    output: &mut Counted<W>,
-) -> Result<Report, DecodeFault>
-    ensures { IsFileDecoded limits form result
-        (read_side R.remaining input.old) (read_side R.remaining input.new)
-        (written_side W.contents output.old) (written_side W.contents output.new) }
-{
-    decode_all(alloc, input, output, form, limits_of(limits))
-}
-
-// Opens the file, and surveys it.
-#[tactic(auto, using(crate::proofs::CommandLemmas::look_stream, crate::proofs::CommandLemmas::look_file, crate::proofs::CommandLemmas::look_none))]
-fn survey_file<H: Files + AllocGlobal + Clock + Eprint, R: Read>(
-    outside: &mut Outside<'_, H>,
-    limits: FileLimits,
-    from: &str,
-    input: &mut Counted<R>,
-) -> Result<Survey, DecodeFault>
-    ensures looked { SurveysFile limits from.now result (read_side R.remaining input.old) (read_side R.remaining input.new) }
-    ensures unread { is_stream from.now ≡ false → input.new ≡ input.old }
-{
-    if from == "-" {
-        return survey_input(outside.alloc(), limits, input);
-    }
-    match outside.open_metered(from) {
-        Ok(mut file) => {
-            let done = survey_input(outside.alloc(), limits, &mut Counted::new(&mut file));
-            outside.has_read(file.into_witness());
-            done
-        }
-        Err(error) => Err(file_fault(&error, DecodeFault::Device, DecodeFault::Memory)),
-    }
-}
-
-fn survey_input<R: Read>(
-    alloc: Global,
-    limits: FileLimits,
-    input: &mut Counted<R>,
-) -> Result<Survey, DecodeFault>
-    ensures { SurveysInput limits result (read_side R.remaining input.old) (read_side R.remaining input.new) }
-{
-    match survey_over(alloc, limits, input) {
-        Ok(survey) => Ok(survey),
-        Err(fault) => Err(DecodeFault::from(fault)),
-    }
-}
-
-fn survey_over<R: Read>(
-    alloc: Global,
-    limits: FileLimits,
-    input: &mut Counted<R>,
-) -> Result<Survey, SurveyFault>
-    ensures { IsFileSurveyed limits result (read_side R.remaining input.old) (read_side R.remaining input.new) }
-{
-    survey(alloc, input, limits_of(limits))
-}
-
-// Prints the faults, and returns the exit status.
-pub(crate) fn report_decode<H: AllocGlobal, E: Write>(
-    outside: &Outside<'_, H>,
-    done: Result<Report, DecodeFault>,
-    decoding: &DecodeArgs<'_>,
-    errors: &mut Counted<E>,
-) -> u8
-    ensures status { result ≡ status_of done }
-    ensures ended { result ≤ 1 }
-{
-    let report = match done {
-        Ok(report) => report,
-        Err(fault) => {
-            let status = outside.report(fault, errors);
-            let files = (decoding.input, decoding.output);
-            let _ = hint_decode(outside, fault, files, errors);
-            return status;
-        }
-    };
-    let _ = print_faults(outside.alloc(), report.faults.as_slice(), errors);
-    let _ = hint_packets(report.faults.as_slice(), errors);
-    if report.faults.is_empty() { 0 } else { 1 }
-}
-
-// Prints the number of frames and the sum of their squared errors, or the fault, and returns the exit status.
-fn report_encode<H, E: Write>(
-    outside: &Outside<'_, H>,
-    done: Result<EncodeReport, EncodeAllFault>,
-    encoding: &EncodeArgs<'_>,
-    errors: &mut Counted<E>,
-) -> u8
-    ensures status { result ≤ 1 }
-    ensures by { result ≡ status_by_report done }
-{
-    match done {
-        Ok(report) => {
-            let _ = writeln!(errors, "frames {} error {}", report.frames, report.error);
-            let _ = tell_encoded(outside, &report, errors);
-            0
-        }
-        Err(fault) => {
-            let status = outside.report(fault, errors);
-            let _ = hint_encode(outside, fault, encoding, errors);
-            status
-        }
-    }
-}
-
-// Prints a survey and the file's fault, and returns the exit status.
-fn report_survey<H: AllocGlobal, W: Write, E: Write>(
-    outside: &Outside<'_, H>,
-    done: Result<Survey, DecodeFault>,
-    from: &str,
-    output: &mut Counted<W>,
-    errors: &mut Counted<E>,
-) -> u8
-    ensures status { result ≤ 1 }
-    ensures well { result ≡ 0 → IsOk done × IfOk done (λ s. s.fault ≡ None) }
-    ensures told { PrintsSurvey done result (written_side W.contents output.old)
-        (written_side W.contents output.new) }
-{
-    let survey = match done {
-        Ok(survey) => survey,
-        Err(fault) => return report_unread(outside, fault, from, errors),
-    };
-    let failures = output.failures();
-    if print_survey(outside.alloc(), &survey, output).is_err() {
-        return report_unwritten(failures, output, errors);
-    }
-    match survey.fault {
-        Some(fault) => report_unread(outside, DecodeFault::File(fault), from, errors),
-        None => {
-            let _ = hint_length(from, &outside.input, errors);
-            0
-        }
-    }
-}
-
-// Prints the fault of a file that is not surveyed whole, and returns the exit status.
-fn report_unread<H, E: Write>(
-    outside: &Outside<'_, H>,
-    fault: DecodeFault,
-    from: &str,
-    errors: &mut Counted<E>,
-) -> u8
-    ensures { result ≡ 1 }
-{
-    let status = report_fault(fault, errors);
-    let _ = hint_survey(outside, fault, from, errors);
-    status
 }
 
 // Prints the help, or the usage error.

@@ -14,13 +14,12 @@ ghost use Rattle.vp_hub.specs.Hub.{HubState, IsStep, Outcome, new_hub_state, str
 ghost use Rattle.vp_hub.specs.Names.{are_names};
 ghost use Rattle.vp_hub.specs.View.{is_memory as hub_is_memory};
 ghost use Rattle.vp_app.specs.declared.service.ServiceFault.{ServiceFault};
-ghost use Rattle.vp_app.specs.Commands.{read_side, ServesConnections};
+ghost use Rattle.vp_commands.specs.Commands.{read_side};
+ghost use Rattle.vp_app.specs.Program.{ServesConnections};
 ghost use Rattle.vp_app.specs.Feeding.{FeedsPiece, IsFed};
 ghost use Rattle.vp_app.specs.Serving.{AreFilesFed, IsFileFed, IsNewHub, IsServed, IsServing, names_of};
 
-use crate::files::file_fault;
 use crate::hints::{hint_connection, hint_odd_files};
-use crate::outside::Outside;
 use std::alloc::{AllocError, Global};
 use std::io::{Read, Write};
 use std::net::{Net, Shutdown, TcpListener, TcpStream};
@@ -29,6 +28,7 @@ use std::time::Duration;
 use std::{fmt, io};
 use vp_args::{NamedFile, ServeArgs};
 use vp_base::{ByteList, Counted, Limits};
+use vp_commands::{Outside, file_fault};
 use vp_hints::Meter;
 use vp_hub::{Event, Hub, HubFault, NewFault, ServeFault, serve_one};
 

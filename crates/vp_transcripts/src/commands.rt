@@ -9,9 +9,10 @@ use crate::text::{Names, limits, malformed};
 use crate::transcript::{Found, Script};
 use std::alloc::{AllocError, Global};
 use std::{fs, io};
-use vp_app::{command, settings_of};
+use vp_app::command;
 use vp_args::{EncodeOptions, ServeArgs, Task, read_args};
 use vp_base::{Counted, Limits};
+use vp_commands::settings_of;
 use vp_encode::{EncodeAllFault, EncodeReport, Settings, encode_all};
 
 /// The state of the transcript commands for the command line: the limits of `limited`.

@@ -1,8 +1,8 @@
 use Rattle.std.proofs.Common.{refl, ap, inl, inr}
 use Rattle.clap.specs.Walk.{texts}
 use Rattle.vp_args.specs.Args.{parsed_args}
-use Rattle.vp_app.specs.Commands.{read_side, written_side}
-use Rattle.vp_app.proofs.CommandLemmas.{does_refused, mistaken_words}
+use Rattle.vp_commands.specs.Commands.{read_side, written_side}
+use Rattle.vp_app.proofs.ProgramLemmas.{does_refused, mistaken_words}
 use Rattle.vp_app.proofs.program.command_metered.Goals as goal
 
 pub returns-in-Ok-clause-does : goal.returns-in-Ok-clause-does

@@ -1,6 +1,6 @@
 use Rattle.std.proofs.Common.{rules, ap}
-use Rattle.vp_app.specs.Commands.{read_side, written_side}
-use Rattle.vp_app.proofs.CommandLemmas.{does_check, does_decode, does_decode_range, does_encode, does_nothing, does_picture, does_serve, does_serve_many, does_tell}
+use Rattle.vp_commands.specs.Commands.{read_side, written_side}
+use Rattle.vp_app.proofs.ProgramLemmas.{does_check, does_decode, does_decode_range, does_encode, does_nothing, does_picture, does_serve, does_serve_many, does_tell}
 use Rattle.vp_app.proofs.program.run_task.Goals as goal
 
 pub returns-in-Decode-clause-does : goal.returns-in-Decode-clause-does
@@ -19,10 +19,11 @@ returns-in-DecodeRange-clause-does g c = λ asked h.
 
 pub returns-in-Encode-clause-does : goal.returns-in-Encode-clause-does
 returns-in-Encode-clause-does g c = λ asked h.
-    does_encode asked c.args.task.now c.in-Encode.encoding c.encode-done.result c.report_encode.result
-    (read_side g.R.Read.remaining c.args.input.now) (read_side g.R.Read.remaining c.encode-done.new.input)
-    (written_side g.W.Write.contents c.args.output.now) (written_side g.W.Write.contents c.encode-done.new.output)
-    (search rules) h c.report_encode.ensures.by c.encode-done.ensures.encoded
+    let done = c.run_encode.ensures.does in
+    does_encode asked c.args.task.now c.in-Encode.encoding done.0 c.run_encode.result
+    (read_side g.R.Read.remaining c.args.input.now) (read_side g.R.Read.remaining c.run_encode.new.input)
+    (written_side g.W.Write.contents c.args.output.now) (written_side g.W.Write.contents c.run_encode.new.output)
+    (search rules) h done.1 done.2
 
 pub returns-in-Info-clause-does : goal.returns-in-Info-clause-does
 returns-in-Info-clause-does g c = λ asked h.
@@ -40,10 +41,11 @@ returns-in-Check-clause-does g c = λ asked h.
 
 pub returns-in-Picture-clause-does : goal.returns-in-Picture-clause-does
 returns-in-Picture-clause-does g c = λ asked h.
-    does_picture asked c.args.task.now c.in-Picture.wanted c.write_picture-done.result c.report_picture.result
-    (read_side g.R.Read.remaining c.args.input.now) (read_side g.R.Read.remaining c.write_picture-done.new.input)
+    let done = c.run_picture.ensures.does in
+    does_picture asked c.args.task.now c.in-Picture.wanted done.0 c.run_picture.result
+    (read_side g.R.Read.remaining c.args.input.now) (read_side g.R.Read.remaining c.run_picture.new.input)
     (written_side g.W.Write.contents c.args.output.now)
-    (search rules) h c.report_picture.ensures c.write_picture-done.ensures.made
+    (search rules) h done.1 done.2
 
 pub returns-in-Serve-clause-does : goal.returns-in-Serve-clause-does
 returns-in-Serve-clause-does g c = λ asked h.

@@ -1,5 +1,5 @@
 use Rattle.vp_app.proofs.RunLemmas.{runs_service}
-use Rattle.vp_app.specs.Commands.{read_side}
+use Rattle.vp_commands.specs.Commands.{read_side}
 use Rattle.vp_app.proofs.service.serve.Goals as goal
 
 pub returns-in-Ok-clause-served : goal.returns-in-Ok-clause-served

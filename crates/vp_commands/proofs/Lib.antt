@@ -1,0 +1,4 @@
+pub mod CommandLemmas
+pub mod CheckLemmas
+pub mod PictureLemmas
+pub mod TaskLemmas

@@ -1,0 +1,4 @@
+pub mod Usual
+pub mod Status
+pub mod Picturing
+pub mod Commands
