@@ -6,3 +6,4 @@ pub mod Overwrite
 pub mod Metered
 pub mod Tally
 pub mod Pipes
+pub mod Film

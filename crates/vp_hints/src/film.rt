@@ -1,5 +1,9 @@
 //! The bits a second and the distance from its source of a film that is encoded.
 
+ghost use Rattle.std.specs.Prelude.{◌≡◌};
+ghost use Rattle.vp_hints.specs.Film.{film_bytes, film_of_packets, film_rate, film_samples, film_scale, plane_samples};
+ghost use Rattle.vp_hints.specs.Seen.{seen_bytes};
+
 use crate::seen::Seen;
 use std::fmt;
 use std::num::nearest_u64_to_f64;
@@ -17,7 +21,9 @@ pub struct Film {
 
 impl Film {
     /// Takes it from what was seen of the file.
-    pub fn of(seen: &Seen) -> Film {
+    pub fn of(seen: &Seen) -> Film
+        ensures { film_bytes result ≡ seen_bytes seen.now }
+    {
         let head = seen.head();
         Film {
             width: number_at(head, 12, 2),
@@ -30,7 +36,9 @@ impl Film {
 
     /// Takes it from the packets of a file with `rate / scale` frames a second: their number, and the sum of their
     /// lengths. The file has 32 bytes before them, and 12 before each; its size saturates.
-    pub fn of_packets(dim: Dim, rate: u32, scale: u32, packets: u32, bytes: u64) -> Film {
+    pub fn of_packets(dim: Dim, rate: u32, scale: u32, packets: u32, bytes: u64) -> Film
+        ensures { result ≡ film_of_packets dim.w dim.h rate scale packets bytes }
+    {
         let heads = 32 + 12 * u64::from(packets);
         Film {
             width: u64::from(dim.w),
@@ -42,7 +50,10 @@ impl Film {
     }
 
     /// The frames in a number of seconds: the file's rate, and its scale.
-    pub fn rate(&self) -> (u64, u64) {
+    pub fn rate(&self) -> (u64, u64)
+        ensures frames { result.0 ≡ film_rate self.now }
+        ensures seconds { result.1 ≡ film_scale self.now }
+    {
         (self.rate, self.scale)
     }
 
@@ -57,7 +68,9 @@ impl Film {
     }
 
     /// The samples of Y, U and V of a number of frames; saturates.
-    pub fn samples(&self, frames: u64) -> u64 {
+    pub fn samples(&self, frames: u64) -> u64
+        ensures { result ≡ film_samples self.now frames }
+    {
         plane_samples(self.width, self.height).saturating_mul(frames)
     }
 }
@@ -105,8 +118,11 @@ pub(crate) fn number_at(head: &[u8], place: usize, bytes: usize) -> u64 {
     number
 }
 
-/// The samples of Y, U and V of a picture with these sides.
-pub fn plane_samples(width: u64, height: u64) -> u64 {
+/// The samples of Y, U and V of a picture with these sides; saturates.
+#[tactic(auto, using(crate::proofs::FilmLemmas::saturated_planes))]
+pub fn plane_samples(width: u64, height: u64) -> u64
+    ensures { result ≡ plane_samples width height }
+{
     let chroma = width.div_ceil(2).saturating_mul(height.div_ceil(2));
     width
         .saturating_mul(height)
