@@ -48,7 +48,7 @@ pub extern "C" fn vp8_encoder_new(
     let Ok(made) = Encoder::new(alloc, dim, settings.settings()) else {
         return SETTINGS;
     };
-    let Some(coding) = EncoderHandle::of(alloc, made, dim) else {
+    let Ok(coding) = EncoderHandle::of(alloc, made, dim) else {
         return MEMORY;
     };
     encoder.open(alloc, HandleValue::Encoder(coding))

@@ -1,13 +1,13 @@
 //! The encoder of a handle.
 
-ghost use Rattle.std.specs.Prelude.{◌≡◌, ◌≢◌, ◌⊎◌, None, IfSome};
+ghost use Rattle.std.specs.Prelude.{◌≡◌, ◌≢◌, ◌⊎◌, None, IfOk};
 ghost use Rattle.vp_encode.specs.TooLong.{IsTooLong};
 ghost use Rattle.vp8_c.specs.Planes.{planes_in};
 
 use crate::planes::CallerPlanes;
 use crate::rows::read_picture;
 use crate::status::{BUFFER, MEMORY, OK, TOO_LONG};
-use std::alloc::Global;
+use std::alloc::{AllocError, Global};
 use vp_base::{Dim, Picture};
 use vp_encode::{EncodeFault, Encoded, Encoder};
 
@@ -27,20 +27,17 @@ pub struct EncoderHandle {
 impl EncoderHandle {
     ghost use Rattle.vp8_c.specs.EncoderHandle.{Encodes, EncodesSource, IsFrameForgotten};
 
-    /// Creates a handle's encoder for pictures of this size. None if memory runs out.
-    pub fn of(alloc: Global, encoder: Encoder, dim: Dim) -> Option<EncoderHandle>
+    /// Creates a handle's encoder for pictures of this size.
+    pub fn of(alloc: Global, encoder: Encoder, dim: Dim) -> Result<EncoderHandle, AllocError>
         requires { encoder.dim ≡ dim }
-        ensures encoder { IfSome result (λ c. c.encoder ≡ encoder) }
-        ensures encoded { IfSome result (λ c. c.encoded ≡ None) }
+        ensures encoder { IfOk result (λ c. c.encoder ≡ encoder) }
+        ensures encoded { IfOk result (λ c. c.encoded ≡ None) }
     {
-        match Picture::new(alloc, dim, 0) {
-            Ok(source) => Some(EncoderHandle {
-                encoder,
-                source,
-                encoded: None,
-            }),
-            Err(_) => None,
-        }
+        Ok(EncoderHandle {
+            encoder,
+            source: Picture::new(alloc, dim, 0)?,
+            encoded: None,
+        })
     }
 
     /// Encodes the source in the buffer, and keeps the frame.

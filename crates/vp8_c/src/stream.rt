@@ -30,7 +30,7 @@ pub extern "C" fn vp8_stream_new(alloc: Global, stream: &mut Handle, bytes: &[u8
     if stream.is_open() {
         return OPEN;
     }
-    let Some(asked) = StreamHandle::of_file(alloc, bytes) else {
+    let Ok(asked) = StreamHandle::of_file(alloc, bytes) else {
         return MEMORY;
     };
     stream.open(alloc, HandleValue::Stream(asked))

@@ -1,11 +1,11 @@
 //! The IVF file of a handle with its cursor: a file that grows, and requests for its packets.
 
-ghost use Rattle.std.specs.Prelude.{◌≡◌, IfSome};
+ghost use Rattle.std.specs.Prelude.{◌≡◌, IfOk};
 ghost use Rattle.vp_stream.specs.Cursor.{IsCursorOf};
 
 use crate::file_handle::{FileHandle, answer_number};
 use crate::status::MEMORY;
-use std::alloc::Global;
+use std::alloc::{AllocError, Global};
 use vp_base::Limits;
 use vp_stream::{Answer, Cursor, Stream};
 
@@ -41,17 +41,17 @@ impl StreamHandle {
         }
     }
 
-    /// Creates a handle's file from all its bytes. None if memory runs out.
-    pub fn of_file(alloc: Global, bytes: &[u8]) -> Option<StreamHandle>
-        ensures file { IfSome result (λ a. IsFile bytes.now a.file) }
-        ensures unasked { IfSome result IsUnasked }
+    /// Creates a handle's file from all its bytes.
+    pub fn of_file(alloc: Global, bytes: &[u8]) -> Result<StreamHandle, AllocError>
+        ensures file { IfOk result (λ a. IsFile bytes.now a.file) }
+        ensures unasked { IfOk result IsUnasked }
     {
         let mut whole = StreamHandle::empty(alloc);
         if whole.feed(bytes) == MEMORY {
-            return None;
+            return Err(AllocError);
         }
         let _fault = whole.finish();
-        Some(whole)
+        Ok(whole)
     }
 
     /// Takes the next piece of the file.
