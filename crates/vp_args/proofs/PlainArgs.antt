@@ -77,9 +77,14 @@ decode_read many name input output h k = rw (h.separator, h.long, h.short, k.sep
 pub decode_asked : (name input output : Text) → IsOperand input → IsOperand output
     → (rows : List Row) × (parsed_args (decode_words name input output) ≡ decodes rows input output) × (one_of (codes "y4m") rows ≡ Some (codes "false"))
     × (one_of (codes "md5") rows ≡ Some (codes "false")) × (first_of (codes "max-packets") rows ≡ None) × (first_of (codes "max-pixels") rows ≡ None)
-decode_asked name input output h k =
-    (files input output (unset (codes "y4m") ∷ no_sums),
-    ap parsed_command (decode_read (asks_many (decode_words name input output)) name input output h k), refl, refl, refl, refl)
+decode_asked name input output h k = (
+  files input output (unset (codes "y4m") ∷ no_sums),
+  ap parsed_command (decode_read (asks_many (decode_words name input output)) name input output h k),
+  refl,
+  refl,
+  refl,
+  refl,
+)
 
 -- ---- vp8 decode --y4m IN OUT
 
@@ -104,9 +109,14 @@ y4m_read many name input output h k = rw (h.separator, h.long, h.short, k.separa
 pub y4m_asked : (name input output : Text) → IsOperand input → IsOperand output
     → (rows : List Row) × (parsed_args (y4m_words name input output) ≡ decodes rows input output) × (one_of (codes "y4m") rows ≡ Some (codes "true"))
     × (one_of (codes "md5") rows ≡ Some (codes "false")) × (first_of (codes "max-packets") rows ≡ None) × (first_of (codes "max-pixels") rows ≡ None)
-y4m_asked name input output h k =
-    (set (codes "y4m") ∷ files input output no_sums,
-    ap parsed_command (y4m_read (asks_many (y4m_words name input output)) name input output h k), refl, refl, refl, refl)
+y4m_asked name input output h k = (
+  set (codes "y4m") ∷ files input output no_sums,
+  ap parsed_command (y4m_read (asks_many (y4m_words name input output)) name input output h k),
+  refl,
+  refl,
+  refl,
+  refl,
+)
 
 -- ---- vp8 picture IN OUT
 
@@ -131,9 +141,15 @@ pub still_asked : (name input output : Text) → IsOperand input → IsOperand o
     → (rows : List Row) × (parsed_args (still_words name input output) ≡ pictures rows input output) × (first_of (codes "packet") rows ≡ None)
     × (first_of (codes "scale") rows ≡ None) × (first_of (codes "qi") rows ≡ None)
     × (first_of (codes "max-packets") rows ≡ None) × (first_of (codes "max-pixels") rows ≡ None)
-still_asked name input output h k =
-    (files input output [],
-    ap parsed_command (still_read (asks_many (still_words name input output)) name input output h k), refl, refl, refl, refl, refl)
+still_asked name input output h k = (
+  files input output [],
+  ap parsed_command (still_read (asks_many (still_words name input output)) name input output h k),
+  refl,
+  refl,
+  refl,
+  refl,
+  refl,
+)
 
 -- ---- vp8 decode --frame N IN OUT
 
@@ -162,9 +178,13 @@ frame_read many name number input output n h k =
 pub frame_asked : (name number input output : Text) → IsOperand number → IsOperand input → IsOperand output
     → (rows : List Row) × (parsed_args (frame_words name number input output) ≡ decodes_range rows input output) × (first_of (codes "frame") rows ≡ Some number)
     × (first_of (codes "frames") rows ≡ None) × (one_of (codes "y4m") rows ≡ Some (codes "false"))
-frame_asked name number input output n h k =
-    (frame_rows number input output,
-    ap parsed_command (frame_read (asks_many (frame_words name number input output)) name number input output n h k), refl, refl, refl)
+frame_asked name number input output n h k = (
+  frame_rows number input output,
+  ap parsed_command (frame_read (asks_many (frame_words name number input output)) name number input output n h k),
+  refl,
+  refl,
+  refl,
+)
 
 -- ---- vp8 check IN IN
 
