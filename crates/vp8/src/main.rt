@@ -1,4 +1,4 @@
-//! The program `vp8`. Its commands are in the crate `vp_app`.
+//! The program `vp8`. Its commands are in the crates `vp_app` and `vp_commands`.
 #![tactic(auto)]
 
 use std::cell::Cell;

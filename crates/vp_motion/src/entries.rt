@@ -1,4 +1,4 @@
-//! The different vectors of a macroblock's neighbours, with their weights.
+//! The nonzero vectors of a macroblock's neighbours in their order, with their weights. Equal ones in a row are one.
 
 ghost use Rattle.std.specs.Prelude.{◌≡◌, ◌<◌, ◌≤◌, ◌+◌, [], length, IfSome, None};
 ghost use Rattle.vp_motion.specs.Near.{joined, total, weighted_at, HavePositiveWeights};

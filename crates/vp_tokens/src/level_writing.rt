@@ -59,7 +59,7 @@ fn write_front(
 }
 
 /// Writes a level, from a pair of the tree on. Magnitudes 0 and 1 have code of their own, which writes two bools at
-/// once.
+/// once where there are two.
 #[inline(always)]
 pub(crate) fn write_level(
     row: &[u8; 11],
