@@ -1,15 +1,14 @@
 -- Nine flags that go along from block to block are those by which the blocks are read.
-use Rattle.std.proofs.Common.{◌≡◌, ◌∙◌, ℕ, zero, suc, ◌+◌, ◌<◌, ◌≤◌, Bool, true, false, List, [], ◌∷◌, length, get_or, refl, sym, ap, subst, arith, inl, inr, add-one, length-set}
+use Rattle.std.proofs.Common.{◌≡◌, ◌∙◌, ℕ, zero, suc, ◌+◌, ◌<◌, ◌≤◌, Bool, true, false, List, [], ◌∷◌, length, refl, sym, ap, subst, arith, add-one, length-set}
 use Rattle.std.specs.Prelude.{slice_index, slice_set}
-use Rattle.std.proofs.lemmas.Bool.{ne_eqb, le-ltb, lt-ltb, cases_lt}
-use Rattle.std.proofs.lemmas.List.{get_or-set_other, get_or-replicate, get_or_past}
+use Rattle.std.proofs.lemmas.Bool.{ne_eqb, le-ltb, lt-ltb}
 use Rattle.vp_bool.specs.Bools.{State}
 use Rattle.vp_bool.specs.Reader.{Reader, bind, when, rows}
 use Rattle.vp_bool.proofs.ReaderLemmas.{rows-more, rows-none}
 use Rattle.vp_tokens.specs.declared.block.BlockKind.{BlockKind}
 use Rattle.vp_tokens.specs.declared.block.BlockKind.TheVariants as kind_is
 use Rattle.vp_tokens.specs.declared.macroblock.TheConstants.{ABOVE, LEFT}
-use Rattle.vp_tokens.specs.Block.{Block, has_token, no_tokens}
+use Rattle.vp_tokens.specs.Block.{Block, has_token}
 use Rattle.vp_tokens.specs.Levels.{Probabilities, bands_of, first_of, coefficient_block}
 use Rattle.vp_tokens.specs.Blocks.{flag_at, had_of, is_there, true_count, kind_of, y2_or, block_at, no_blocks}
 use Rattle.vp_tokens.specs.Contexts.{bottom_row_flags, right_column_flags}
@@ -213,17 +212,6 @@ above-place = each_block (λ (k : ℕ). slice_index ABOVE k < 9)
 pub left-place : (k : ℕ) → k < 25 → slice_index LEFT k < 9
 left-place = each_block (λ (k : ℕ). slice_index LEFT k < 9)
     (omega arith) (omega arith) (omega arith) (omega arith) (omega arith) (omega arith) (omega arith) (omega arith) (omega arith) (omega arith) (omega arith) (omega arith) (omega arith) (omega arith) (omega arith) (omega arith) (omega arith) (omega arith) (omega arith) (omega arith) (omega arith) (omega arith) (omega arith) (omega arith) (omega arith)
-
-pub no_blocks-at : (k : ℕ) → get_or no_blocks k no_tokens ≡ no_tokens
-no_blocks-at k = elim (cases_lt k 25) [
-  | inl low ↦ get_or-replicate 25 k no_tokens no_tokens low
-  | inr high ↦ get_or_past no_blocks k no_tokens high
-]
-
--- the blocks that aren't read stay
-pub placed-others : (bands : List (List (List ℕ))) (first k j : ℕ) (r : Reading) (s : State) → (j ≡ k → ⊥) → get_or (placed bands first k r s).0.blocks j no_tokens ≡ get_or r.blocks j no_tokens
-unfolding placed bind
-placed-others bands first k j r s apart = get_or-set_other r.blocks k j _ no_tokens apart
 
 pub all-placed : (p : Probabilities) (has_y2 : Bool) (kind : BlockKind) (r r1 r2 r3 : Reading) (s s1 s2 s3 : State) → when has_y2 (plane p kind_is.Y2 0 1 r) r s ≡ (r1, s1) → kind ≡ kind_of has_y2 1
     → r2 ≡ (plane p kind 1 16 r1 s1).0 → s2 ≡ (plane p kind 1 16 r1 s1).1 → r3 ≡ (plane p kind_is.Chroma 17 8 r2 s2).0 → s3 ≡ (plane p kind_is.Chroma 17 8 r2 s2).1

@@ -2,10 +2,12 @@ pub mod PartitionLemmas
 pub mod LevelLemmas
 pub mod Around
 pub mod FlagLemmas
+pub mod FreshLemmas
 pub mod Reading
 pub mod Steps
 pub mod WritingLemmas
 pub mod WalkLemmas
+pub mod ZeroLemmas
 pub mod WalkWritingLemmas
 pub mod FrontLemmas
 pub mod BlockWriting

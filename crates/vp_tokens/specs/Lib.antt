@@ -8,3 +8,4 @@ pub mod Spelled
 pub mod Written
 pub mod Walks
 pub mod Placed
+pub mod Zeros

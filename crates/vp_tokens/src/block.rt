@@ -1,16 +1,17 @@
 //! The coefficient levels of a block, and reading them.
 
-ghost use Rattle.std.specs.Prelude.{◌≡◌, ◌≤◌, ◌<◌, ◌+◌, ℕ, pos, slice_index_or, slice_set, unsigned_abs};
-ghost use Rattle.vp_tokens.specs.Block.{has_token, no_tokens, IsTight, IsBlock};
-ghost use Rattle.vp_tokens.specs.Levels.{Probabilities, bands_of, first_of, row, token, is_end, pair_after};
+ghost use Rattle.std.specs.Prelude.{◌≡◌, ◌≤◌, ◌<◌, ◌+◌, ◌-◌, ℕ, pos, slice_index_or, slice_set, unsigned_abs};
+ghost use Rattle.std.specs.Prelude.{IfSome, option_map};
+ghost use Rattle.vp_tokens.specs.Block.{has_token, IsTight, IsBlock};
+ghost use Rattle.vp_tokens.specs.Levels.{Probabilities, bands_of, first_of, row};
 ghost use Rattle.vp_tokens.specs.Placed.{banded};
-ghost use Rattle.vp_tokens.specs.Walks.{IsStart};
+ghost use Rattle.vp_tokens.specs.Zeros.{zeros};
 
 use crate::sizes::{context_after_token, read_signed, read_size};
-use crate::walks::walked;
+use crate::walks::{end_of_block, nonzero};
 use std::marker::Model;
 use vp_bool::BoolDecoder;
-use vp_tables::{Token, band};
+use vp_tables::band;
 
 /// The levels of a 4x4 block of coefficients. Each level is from -2,114 to 2,114; levels after the last token are 0.
 #[derive(Clone, Copy, Debug, PartialEq, Eq)]
@@ -88,6 +89,14 @@ impl Block {
         self.levels[position] = level;
         self.tokens = position as u8 + 1;
     }
+
+    /// Ends the block after its last position: the levels that are left are 0.
+    #[inline(always)]
+    fn end(&mut self)
+        ensures { self.new ≡ record { levels = self.old.levels; tokens = 16 } }
+    {
+        self.tokens = 16;
+    }
 }
 
 /// The probabilities of a block type, by band, context and token tree pair.
@@ -126,41 +135,43 @@ pub(crate) fn row_of(bands: &[[[u8; 11]; 3]; 8], position: usize, context: usize
     &bands[band(position)][context]
 }
 
-/// Reads the token at a position, from a pair of the tree on.
-#[inline(always)]
-#[tactic(auto, unfolding(crate::specs::Levels::token))]
-fn read_token(
-    bands: &[[[u8; 11]; 3]; 8],
+/// The position of a token that isn't 0, and its probabilities.
+#[derive(Clone, Copy, Drop)]
+struct Nonzero<'a> {
     position: usize,
+    row: &'a [u8; 11],
+}
+
+/// Reads the zeros from position `i` on, up to a token that isn't 0, if there is one. The token at `i` isn't the end of
+/// block, and has this context. Nothing is stored: the levels are 0 already. In a loop of its own, which never asks
+/// whether the end of block is coded.
+#[inline(always)]
+fn pass_zeros<'a>(
+    bands: &'a [[[u8; 11]; 3]; 8],
+    i: usize,
     context: usize,
-    from: usize,
     d: &mut BoolDecoder,
-) -> Token
-    requires position_in { position < 16 }
+) -> Option<Nonzero<'a>>
     requires context_in { context < 3 }
-    requires from_in { IsStart from }
-    ensures value { result ≡ (token bands.now position context from d.old).0 }
-    ensures rest { d.new ≡ (token bands.now position context from d.old).1 }
+    ensures value { option_map (λ n. record { position = n.position; row = n.row.now }) result
+        ≡ (zeros bands.now (16 - i) i context d.old).0 }
+    ensures rest { d.new ≡ (zeros bands.now (16 - i) i context d.old).1 }
+    ensures later { IfSome result (λ n. i ≤ n.position) }
+    ensures inside { IfSome result (λ n. n.position < 16) }
 {
-    walked(row_of(bands, position, context), from, d)
+    let mut context = context;
+    for position in i..16 {
+        let row = row_of(bands, position, context);
+        if d.read(row[1]) {
+            return Some(Nonzero { position, row });
+        }
+        context = 0;
+    }
+    None
 }
 
-/// Whether the token is the end of block.
-fn is_end(token: Token) -> bool
-    ensures { result ≡ is_end token }
-{
-    matches!(token, Token::EndOfBlock)
-}
-
-/// The pair at which the walk for the token after a level of this magnitude starts. No end of block follows a 0.
-pub(crate) fn start_after(size: u16) -> usize
-    ensures value { result ≡ pair_after size }
-    ensures start { IsStart result }
-{
-    if size == 0 { 2 } else { 0 }
-}
-
-/// Reads the tokens of a block from its first position on, with the probabilities of its type and this context.
+/// Reads the tokens of a block from its first position on, with the probabilities of its type and this context. `found`
+/// is overwritten.
 #[inline(always)]
 pub(crate) fn read_block(
     bands: &[[[u8; 11]; 3]; 8],
@@ -171,20 +182,24 @@ pub(crate) fn read_block(
 )
     requires first_in { first ≤ 1 }
     requires context_in { context < 3 }
-    requires none { found.old ≡ no_tokens }
     ensures value { found.new ≡ (banded bands.now first context d.old).0 }
     ensures rest { d.new ≡ (banded bands.now first context d.old).1 }
 {
+    *found = Block::NONE;
     let mut context = context;
-    let mut from = 0;
-    for i in first..16 {
-        let token = read_token(bands, i, context, from, d);
-        if is_end(token) {
+    let mut i = first;
+    while i < 16 {
+        if end_of_block(row_of(bands, i, context), d) {
             return;
         }
+        let Some(next) = pass_zeros(bands, i, context, d) else {
+            found.end();
+            return;
+        };
+        let token = nonzero(next.row, d);
         context = context_after_token(token);
         let size = read_size(token, d);
-        found.put(i, read_signed(size, d));
-        from = start_after(size);
+        found.put(next.position, read_signed(size, d));
+        i = next.position + 1;
     }
 }

@@ -1,8 +1,7 @@
 //! Reading the tokens of a macroblock (RFC 6386, chapter 13).
-ghost use Rattle.std.specs.Prelude.{◌≡◌, ℕ, true, ◌+◌, ◌<◌, ◌≤◌, length, slice_index_or};
+ghost use Rattle.std.specs.Prelude.{◌≡◌, true, ◌+◌, ◌<◌, ◌≤◌, length};
 ghost use Rattle.vp_base.specs.Grid.{Grid, Has, with_entry};
 ghost use Rattle.vp_bool.specs.Bools.{State};
-ghost use Rattle.vp_tokens.specs.Block.{no_tokens};
 ghost use Rattle.vp_tokens.specs.Levels.{Probabilities};
 ghost use Rattle.vp_tokens.specs.Blocks.{Blocks, blocks_of, had_of, flag_at, y2_or, all_blocks, no_blocks};
 ghost use Rattle.vp_tokens.specs.Blocks.{without_tokens, macroblock};
@@ -46,7 +45,6 @@ fn read_placed(
 )
     requires first_in { first ≤ 1 }
     requires k_in { k < 25 }
-    requires none { slice_index_or blocks.old k no_tokens ≡ no_tokens }
     ensures value { reading blocks.new flags.new ≡ (placed bands.now first k (reading blocks.old flags.old) d.old).0 }
     ensures rest { d.new ≡ (placed bands.now first k (reading blocks.old flags.old) d.old).1 }
 {
@@ -59,7 +57,7 @@ fn read_placed(
     flags.left[side] = had;
 }
 
-/// Reads `count` blocks of one type from block `k` on. They must have no tokens yet.
+/// Reads `count` blocks of one type from block `k` on.
 #[inline(never)]
 fn read_plane(
     probabilities: &[[[[u8; 11]; 3]; 8]; 4],
@@ -71,11 +69,9 @@ fn read_plane(
     d: &mut BoolDecoder,
 )
     requires inside { k + count ≤ 25 }
-    requires none { (j : ℕ) → k ≤ j → slice_index_or blocks.old j no_tokens ≡ no_tokens }
     ensures value { reading blocks.new flags.new ≡ (plane probabilities.now kind k count
         (reading blocks.old flags.old) d.old).0 }
     ensures rest { d.new ≡ (plane probabilities.now kind k count (reading blocks.old flags.old) d.old).1 }
-    ensures none { (j : ℕ) → k + count ≤ j → slice_index_or blocks.new j no_tokens ≡ no_tokens }
 {
     let bands = bands_of(probabilities, kind);
     let first = first_of(kind);
@@ -87,7 +83,7 @@ fn read_plane(
     *d = own;
 }
 
-/// Reads all blocks. They must have no tokens yet.
+/// Reads all blocks.
 fn read_all(
     probabilities: &[[[[u8; 11]; 3]; 8]; 4],
     has_y2: bool,
@@ -95,13 +91,14 @@ fn read_all(
     flags: &mut Flags,
     d: &mut BoolDecoder,
 )
-    requires { blocks.old ≡ no_blocks }
     ensures value { reading blocks.new flags.new ≡ (blocks_read probabilities.now has_y2
-        (reading blocks.old flags.old) d.old).0 }
-    ensures rest { d.new ≡ (blocks_read probabilities.now has_y2 (reading blocks.old flags.old) d.old).1 }
+        (reading no_blocks flags.old) d.old).0 }
+    ensures rest { d.new ≡ (blocks_read probabilities.now has_y2 (reading no_blocks flags.old) d.old).1 }
 {
     if has_y2 {
         read_plane(probabilities, BlockKind::Y2, 0, 1, blocks, flags, d);
+    } else {
+        blocks[0] = Block::NONE;
     }
     let luma = kind_of(has_y2, 1);
     read_plane(probabilities, luma, 1, 16, blocks, flags, d);
@@ -120,7 +117,7 @@ fn flags_without(old: &[bool; 9], has_y2: bool) -> [bool; 9]
     [false, false, false, false, false, false, false, false, y2]
 }
 
-/// Reads all blocks, unless the macroblock is skipped. They must have no tokens yet.
+/// Reads all blocks, unless the macroblock is skipped. Then they must have no tokens yet.
 fn read_unless(
     skipped: bool,
     probabilities: &[[[[u8; 11]; 3]; 8]; 4],
@@ -129,7 +126,7 @@ fn read_unless(
     flags: &mut Flags,
     d: &mut BoolDecoder,
 )
-    requires { blocks.old ≡ no_blocks }
+    requires { skipped ≡ true → blocks.old ≡ no_blocks }
     ensures value { blocks.new ≡ (all_blocks probabilities.now has_y2 skipped
         (by_flags flags.old.above flags.old.left) d.old).0 }
     ensures rest { d.new ≡ (all_blocks probabilities.now has_y2 skipped
@@ -176,7 +173,9 @@ pub fn read_macroblock(
         above: contexts.above_of(place),
         left: contexts.left_of(place),
     };
-    *tokens = Tokens::NONE;
+    if skipped {
+        *tokens = Tokens::NONE;
+    }
     let blocks = &mut tokens.blocks;
     read_unless(skipped, probabilities, has_y2, blocks, &mut flags, d);
     contexts.put(place, flags.above, flags.left);

@@ -1,9 +1,6 @@
 //! The walk of the token tree, unrolled (RFC 6386, chapter 13.2).
-ghost use Rattle.std.specs.Prelude.{◌≡◌, ◌≤◌, ◌<◌};
-ghost use Rattle.vp_tables.specs.declared.trees.TheConstants.{TOKEN_TREE};
-ghost use Rattle.vp_tables.specs.declared.modes.Token.TheVariants as token_is;
-ghost use Rattle.vp_tree.specs.Tree.{walk_from};
-ghost use Rattle.vp_tokens.specs.Walks.{categories_3_6, any_category, two_to_four, above_one, nonzero, more, end_of_block, IsStart};
+ghost use Rattle.std.specs.Prelude.{◌≡◌};
+ghost use Rattle.vp_tokens.specs.Walks.{categories_3_6, any_category, two_to_four, above_one, nonzero, end_of_block};
 
 use vp_bool::BoolDecoder;
 use vp_tables::Token;
@@ -79,7 +76,7 @@ fn above_one(row: &[u8; 11], d: &mut BoolDecoder) -> Token
 /// The walk from the pair at index 4.
 #[inline(always)]
 #[tactic(auto, unfolding(crate::specs::Walks::nonzero, vp_bool::specs::Reader::bind))]
-fn nonzero(row: &[u8; 11], d: &mut BoolDecoder) -> Token
+pub(crate) fn nonzero(row: &[u8; 11], d: &mut BoolDecoder) -> Token
     ensures value { result ≡ (nonzero row.now d.old).0 }
     ensures rest { d.new ≡ (nonzero row.now d.old).1 }
 {
@@ -90,40 +87,12 @@ fn nonzero(row: &[u8; 11], d: &mut BoolDecoder) -> Token
     }
 }
 
-/// The walk from the pair at index 2.
-#[inline(always)]
-#[tactic(auto, unfolding(crate::specs::Walks::more, vp_bool::specs::Reader::bind))]
-fn more(row: &[u8; 11], d: &mut BoolDecoder) -> Token
-    ensures value { result ≡ (more row.now d.old).0 }
-    ensures rest { d.new ≡ (more row.now d.old).1 }
-{
-    if d.read(row[1]) {
-        nonzero(row, d)
-    } else {
-        Token::Zero
-    }
-}
-
 /// Reads whether the block ends here. After a 0 this isn't coded.
 #[inline(always)]
 #[tactic(auto, unfolding(crate::specs::Walks::end_of_block, vp_bool::specs::Reader::bind))]
-fn end_of_block(row: &[u8; 11], from: usize, d: &mut BoolDecoder) -> bool
-    ensures value { result ≡ (end_of_block row.now from d.old).0 }
-    ensures rest { d.new ≡ (end_of_block row.now from d.old).1 }
+pub(crate) fn end_of_block(row: &[u8; 11], d: &mut BoolDecoder) -> bool
+    ensures value { result ≡ (end_of_block row.now 0 d.old).0 }
+    ensures rest { d.new ≡ (end_of_block row.now 0 d.old).1 }
 {
-    if from == 0 { !d.read(row[0]) } else { false }
-}
-
-/// Reads a token, from a pair of the tree on.
-#[inline(always)]
-pub(crate) fn walked(row: &[u8; 11], from: usize, d: &mut BoolDecoder) -> Token
-    requires { IsStart from }
-    ensures value { result ≡ (walk_from token_is.EndOfBlock TOKEN_TREE row.now from d.old).0 }
-    ensures rest { d.new ≡ (walk_from token_is.EndOfBlock TOKEN_TREE row.now from d.old).1 }
-{
-    if end_of_block(row, from, d) {
-        Token::EndOfBlock
-    } else {
-        more(row, d)
-    }
+    !d.read(row[0])
 }

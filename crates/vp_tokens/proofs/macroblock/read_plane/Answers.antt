@@ -1,14 +1,12 @@
-use Rattle.std.proofs.Common.{◌≡◌, ◌∙◌, ◌+◌, sym, ap, arith, get_or}
+use Rattle.std.proofs.Common.{◌≡◌, ◌+◌, sym, arith}
 use Rattle.vp_bool.proofs.ReaderLemmas.{Gives, rows-more, rows-none, gives}
-use Rattle.vp_tokens.specs.Block.{no_tokens}
-use Rattle.vp_tokens.specs.Placed.{Reading, reading, placed, plane}
+use Rattle.vp_tokens.specs.Placed.{reading, placed, plane}
 use Rattle.vp_tokens.proofs.Reading.{pair_is}
-use Rattle.vp_tokens.proofs.FlagLemmas.{placed-others}
 use Rattle.vp_tokens.proofs.macroblock.read_plane.Goals as goal
 use Rattle.vp_tokens.proofs.macroblock.read_plane.Goals.{After-loop-i}
 
 pub loop-i-init : goal.loop-i-init
-loop-i-init c = record { so_far = rw (c.copy-own.ensures) (rows-none _ _ _); none = λ j h. c.requires.none j (omega arith) }
+loop-i-init c = record { so_far = rw (c.copy-own.ensures) (rows-none _ _ _) }
 
 pub loop-i-preserved : goal.loop-i-preserved
 loop-i-preserved c =
@@ -16,10 +14,6 @@ loop-i-preserved c =
     record {
       so_far = rows-more c.loop-i.i (λ j. placed c.bands_of-bands.result.now c.first_of-first.result (c.args.k + j)) _ _ _ _ _ _ c.loop-i.invariant.so_far
           (pair_is _ _ _ (sym e.value) (sym e.rest));
-      none = λ j h.
-          ap (λ (r : Reading). get_or r.blocks j no_tokens) e.value
-          ∙ placed-others c.bands_of-bands.result.now c.first_of-first.result (c.args.k + c.loop-i.i) j (reading c.loop-i.blocks c.loop-i.flags) c.loop-i.own (λ same. absurd (omega arith))
-          ∙ c.loop-i.invariant.none j (omega arith);
     }
 
 read : (c : After-loop-i) → Gives (plane c.args.probabilities.now c.args.kind c.args.k c.args.count (reading c.args.blocks.now c.args.flags.now) c.args.d.now) (reading c.loop-i.blocks c.loop-i.flags) c.loop-i.own

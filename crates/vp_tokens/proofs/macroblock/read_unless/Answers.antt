@@ -1,5 +1,5 @@
 use Rattle.std.proofs.Common.{◌≡◌, ◌∙◌, sym, ap, subst, refl, rules}
-use Rattle.vp_tokens.specs.Blocks.{had_of, flag_at, y2_or, all_blocks}
+use Rattle.vp_tokens.specs.Blocks.{had_of, flag_at, y2_or, all_blocks, no_blocks}
 use Rattle.vp_tokens.specs.Contexts.{bottom_row_flags, right_column_flags}
 use Rattle.vp_tokens.specs.Flagged.{by_flags}
 use Rattle.vp_tokens.specs.Placed.{Reading, reading, blocks_read}
@@ -10,18 +10,18 @@ use Rattle.vp_tokens.proofs.macroblock.read_unless.Goals.{Else-skipped}
 
 pub returns-then-skipped-clause-value : goal.returns-then-skipped-clause-value
 unfolding all_blocks
-returns-then-skipped-clause-value c = rw c.if-skipped.true c.requires
+returns-then-skipped-clause-value c = rw c.if-skipped.true (c.requires c.if-skipped.true)
 
 pub returns-then-skipped-clause-rest : goal.returns-then-skipped-clause-rest
 unfolding all_blocks
 returns-then-skipped-clause-rest c = rw c.if-skipped.true refl
 
 read : (c : Else-skipped) → IsRead c.args.probabilities.now c.args.has_y2 c.args.flags.now.above c.args.flags.now.left c.args.d.now 25
-    (blocks_read c.args.probabilities.now c.args.has_y2 (reading c.args.blocks.now c.args.flags.now) c.args.d.now).0 (blocks_read c.args.probabilities.now c.args.has_y2 (reading c.args.blocks.now c.args.flags.now) c.args.d.now).1
-read c = read-all c.args.probabilities.now c.args.has_y2 (reading c.args.blocks.now c.args.flags.now) c.args.d.now (search rules) (search rules) c.requires
+    (blocks_read c.args.probabilities.now c.args.has_y2 (reading no_blocks c.args.flags.now) c.args.d.now).0 (blocks_read c.args.probabilities.now c.args.has_y2 (reading no_blocks c.args.flags.now) c.args.d.now).1
+read c = read-all c.args.probabilities.now c.args.has_y2 (reading no_blocks c.args.flags.now) c.args.d.now (search rules) (search rules) refl
 
 blocks : (c : Else-skipped) → all_blocks c.args.probabilities.now c.args.has_y2 c.args.skipped (by_flags c.args.flags.now.above c.args.flags.now.left) c.args.d.now
-    ≡ ((blocks_read c.args.probabilities.now c.args.has_y2 (reading c.args.blocks.now c.args.flags.now) c.args.d.now).0.blocks, (blocks_read c.args.probabilities.now c.args.has_y2 (reading c.args.blocks.now c.args.flags.now) c.args.d.now).1)
+    ≡ ((blocks_read c.args.probabilities.now c.args.has_y2 (reading no_blocks c.args.flags.now) c.args.d.now).0.blocks, (blocks_read c.args.probabilities.now c.args.has_y2 (reading no_blocks c.args.flags.now) c.args.d.now).1)
 blocks c = all_read c.args.probabilities.now c.args.has_y2 c.args.skipped (by_flags c.args.flags.now.above c.args.flags.now.left) c.args.d.now _ c.if-skipped.false (read c).so_far
 
 pub returns-else-skipped-clause-value : goal.returns-else-skipped-clause-value
