@@ -1,5 +1,5 @@
--- The filter parameters of a coded macroblock, and those of others of its kind.
-use Rattle.std.proofs.Common.{◌≡◌, ◌∙◌, ℕ, pos, ◌+◌, ◌*◌, ◌+ℤ◌, Bool, true, false, cond, eqb, refl, sym, ap}
+-- The filter parameters of a kind of macroblock in all segments.
+use Rattle.std.proofs.Common.{◌≡◌, ◌∙◌, ℕ, pos, ◌+◌, ◌*◌, ◌+ℤ◌, Bool, false, cond, eqb, refl, sym, ap}
 use Rattle.vp_head.specs.declared.fields.Header.{Header}
 use Rattle.vp_loop.specs.declared.strength.Level.{Level}
 use Rattle.vp_loop.specs.declared.strength.MacroblockKind.{MacroblockKind}
@@ -19,34 +19,6 @@ by header n inner =
 filter_level-by : (header : Header) (segment : ℕ) (kind : MacroblockKind) → filter_level header segment kind ≡ by header (macroblock_level header segment kind) (has_inner_edges kind)
 unfolding filter_level
 filter_level-by header segment kind = refl
-
--- with subblock edges filtered, those of a coded one
-pub as_coded : (header : Header) (segment : ℕ) (kind : MacroblockKind) → has_inner_edges kind ≡ true
-    → filter_level header segment (record kind { coded = true }) ≡ filter_level header segment kind
-as_coded header segment kind inner =
-    filter_level-by header segment (record kind { coded = true })
-    ∙ ap (by header (macroblock_level header segment kind)) (sym inner)
-    ∙ sym (filter_level-by header segment kind)
-
-without : (header : Header) (n : ℕ) → record (by header n true) { inner = 0 } ≡ by header n false
-without header n =
-    let interior = interior_limit header.filter.sharpness n in
-    let is : ℕ → Level = λ inner. record {
-      edge = (n + 2) * 2 + interior;
-      inner = inner;
-      interior = cond header.filter.simple 0 interior;
-      hev = cond header.filter.simple 0 (variance_threshold header.key n);
-    } in
-    elim (eqb n 0) as (λ (none : Bool). record (cond none no_level (is (n * 2 + interior))) { inner = 0 } ≡ cond none no_level (is 0)) [ true ↦ refl | false ↦ refl ]
-
--- else those of a coded one, but for subblock edges
-pub but_inner : (header : Header) (segment : ℕ) (kind : MacroblockKind) → has_inner_edges kind ≡ false
-    → record (filter_level header segment (record kind { coded = true })) { inner = 0 } ≡ filter_level header segment kind
-but_inner header segment kind none =
-    ap (λ (l : Level). record l { inner = 0 }) (filter_level-by header segment (record kind { coded = true }))
-    ∙ without header (macroblock_level header segment kind)
-    ∙ ap (by header (macroblock_level header segment kind)) (sym none)
-    ∙ sym (filter_level-by header segment kind)
 
 -- without segmentation all segments have the same ones
 pub one_segment : (header : Header) (s t : ℕ) (kind : MacroblockKind) → header.segmentation.enabled ≡ false

@@ -1,20 +1,28 @@
 //! The filter parameters of all kinds of macroblocks of a frame.
 
-ghost use Rattle.std.specs.Prelude.{◌≡◌, ◌<◌, length, true};
+ghost use Rattle.std.specs.Prelude.{◌≡◌, ◌<◌, length, Bool};
 ghost use Rattle.vp_head.specs.declared.fields.Header.{Header};
 ghost use Rattle.vp_loop.specs.Levels.{filter_level};
-ghost use Rattle.vp_loop.specs.LevelTable.{reference_index, class_index, AreLevels, AreSegmentLevels, AreFrameLevels};
+ghost use Rattle.vp_loop.specs.LevelTable.{reference_index, class_index, level_if};
+ghost use Rattle.vp_loop.specs.LevelTable.{AreLevels, AreSegmentLevels, AreFrameLevels};
 
-use crate::strength::{Level, MacroblockKind, ModeClass, has_inner_edges, levels};
+use crate::strength::{Level, MacroblockKind, ModeClass, levels};
 use vp_head::{Header, Reference};
 
-/// The filter parameters of coded macroblocks of one segment and reference frame, by mode class.
+/// The filter parameters of macroblocks of one segment, reference frame and mode class: of coded ones, and of others.
 #[derive(Clone, Copy, Drop)]
-struct ClassLevels {
-    classes: [Level; 5],
+struct KindLevels {
+    coded: Level,
+    uncoded: Level,
 }
 
-/// The filter parameters of coded macroblocks of one segment, by reference frame.
+/// The filter parameters of macroblocks of one segment and reference frame, by mode class.
+#[derive(Clone, Copy, Drop)]
+struct ClassLevels {
+    classes: [KindLevels; 5],
+}
+
+/// The filter parameters of macroblocks of one segment, by reference frame.
 #[derive(Clone, Copy, Drop)]
 struct SegmentLevels {
     references: [ClassLevels; 4],
@@ -51,17 +59,28 @@ fn class_index(class: ModeClass) -> usize
     }
 }
 
-/// The parameters of a coded macroblock of one kind.
-fn coded_level(header: &Header, segment: u8, reference: Reference, prediction: ModeClass) -> Level
-    ensures { result ≡ filter_level header.now segment
-        (record { reference = reference; prediction = prediction; coded = true }) }
+fn kind_levels(
+    header: &Header,
+    segment: u8,
+    reference: Reference,
+    prediction: ModeClass,
+) -> KindLevels
+    ensures { (coded : Bool) → level_if coded result ≡ filter_level header.now segment
+        (record { reference = reference; prediction = prediction; coded = coded }) }
 {
     let kind = MacroblockKind {
         reference,
         prediction,
         coded: true,
     };
-    levels(header, segment, &kind)
+    let other = MacroblockKind {
+        coded: false,
+        ..kind
+    };
+    KindLevels {
+        coded: levels(header, segment, &kind),
+        uncoded: levels(header, segment, &other),
+    }
 }
 
 fn class_levels(header: &Header, segment: u8, reference: Reference) -> ClassLevels
@@ -70,11 +89,11 @@ fn class_levels(header: &Header, segment: u8, reference: Reference) -> ClassLeve
 {
     ClassLevels {
         classes: [
-            coded_level(header, segment, reference, ModeClass::Whole),
-            coded_level(header, segment, reference, ModeClass::Subblocks),
-            coded_level(header, segment, reference, ModeClass::Zero),
-            coded_level(header, segment, reference, ModeClass::Moved),
-            coded_level(header, segment, reference, ModeClass::Split),
+            kind_levels(header, segment, reference, ModeClass::Whole),
+            kind_levels(header, segment, reference, ModeClass::Subblocks),
+            kind_levels(header, segment, reference, ModeClass::Zero),
+            kind_levels(header, segment, reference, ModeClass::Moved),
+            kind_levels(header, segment, reference, ModeClass::Split),
         ],
     }
 }
@@ -119,11 +138,11 @@ impl LevelTable {
     {
         let of_segment = &self.segments[usize::from(segment)];
         let of_reference = &of_segment.references[reference_index(kind.reference)];
-        let level = of_reference.classes[class_index(kind.prediction)];
-        if has_inner_edges(kind) {
-            level
+        let of_kind = of_reference.classes[class_index(kind.prediction)];
+        if kind.coded {
+            of_kind.coded
         } else {
-            Level { inner: 0, ..level }
+            of_kind.uncoded
         }
     }
 }
