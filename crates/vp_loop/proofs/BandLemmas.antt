@@ -1,11 +1,12 @@
 -- What holds of the line steps of a macroblock, one by one, holds of the macroblock.
-use Rattle.std.proofs.Common.{◌≡◌, ℕ, zero, suc, ◌+◌, ◌-◌, ◌*◌, ◌/◌, ◌<◌, ◌≤◌, nat_lt, Bool, true, false, Option, Some, None, refl, arith}
+use Rattle.std.proofs.Common.{◌≡◌, ℕ, zero, suc, ◌+◌, ◌-◌, ◌*◌, ◌/◌, ◌<◌, ◌≤◌, nat_lt, Bool, true, false, cond, Option, Some, None, refl, arith}
 use Rattle.std.proofs.lemmas.Bool.Decides.{nat_tests}
 use Rattle.vp_base.specs.Raster.{Raster}
 use Rattle.vp_base.specs.Over.{over}
 use Rattle.vp_loop.specs.declared.lines.LineStep.{LineStep}
 use Rattle.vp_loop.specs.declared.limits.EdgeLimits.{EdgeLimits}
-use Rattle.vp_loop.specs.Edges.{Orientation, vertical, horizontal, columns_of, rows_of, line_step, edge_lines, inner_edges, outer_step, inner_step, apply_if, edges_inside, block_edges, block_filtered}
+use Rattle.vp_loop.specs.Edges.{Orientation, vertical, horizontal, line_step, edge_lines, inner_edges, outer_step, inner_step, own_edge, edges_inside, block_edges, block_filtered}
+use Rattle.vp_loop.specs.Laws.{columns_of, rows_of}
 
 -- how far above a macroblock its lines may begin
 abbrev pub reach : Orientation → ℕ
@@ -34,7 +35,7 @@ module _ (P : (Raster → Raster) → Type 0) (same : P (λ p. p)) (next : (f g 
   holds-over (suc n) f each =
       next (λ p. over n f p) (f n) (holds-over n f (λ m below. each m (let i : m < suc n = omega arith in i))) (each n (omega arith))
 
-  pub holds-when : (b : Bool) (f : Raster → Raster) → (b ≡ true → P f) → P (λ p. apply_if b f p)
+  pub holds-when : (b : Bool) (f : Raster → Raster) → (b ≡ true → P f) → P (λ p. cond b (f p) p)
   holds-when true f a = a refl
   holds-when false f a = same
 
@@ -79,7 +80,7 @@ module _ (P : (Raster → Raster) → Type 0) (same : P (λ p. p)) (next : (f g 
         let big = fits.big in
         let columns = fits.columns in
         let left = fits.left in
-        next (λ p. apply_if (nat_lt 0 x) (edge_lines vertical (outer_step limits) size (x - 4) y) p) (λ p. edges_inside vertical limits size x y p)
+        next (λ p. own_edge vertical (outer_step limits) size x y p) (λ p. edges_inside vertical limits size x y p)
         (holds-when (nat_lt 0 x) (edge_lines vertical (outer_step limits) size (x - 4) y) (λ e. holds-vertical (outer_step limits) size (x - 4) y (grind (arith, nat_tests)) fits.rows fits.begins))
         (holds-inside_vertical size limits x y fits)
 
@@ -90,7 +91,7 @@ module _ (P : (Raster → Raster) → Type 0) (same : P (λ p. p)) (next : (f g 
         let rows = fits.rows in
         let high = fits.high in
         let begins = fits.begins in
-        next (λ p. apply_if (nat_lt 0 y) (edge_lines horizontal (outer_step limits) size x (y - 4)) p) (λ p. edges_inside horizontal limits size x y p)
+        next (λ p. own_edge horizontal (outer_step limits) size x y p) (λ p. edges_inside horizontal limits size x y p)
         (holds-when (nat_lt 0 y) (edge_lines horizontal (outer_step limits) size x (y - 4)) (λ e. holds-horizontal (outer_step limits) size x (y - 4) fits.columns (grind (arith, nat_tests)) (omega arith)))
         (holds-inside_horizontal size limits x y fits)
 

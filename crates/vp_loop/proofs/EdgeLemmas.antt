@@ -1,11 +1,11 @@
 -- The edges of a macroblock in one plane.
-use Rattle.std.proofs.Common.{◌≡◌, ◌∙◌, ℕ, ◌+◌, ◌-◌, ◌*◌, ◌/◌, ◌==◌, nat_lt, Bool, true, false, Option, Some, None, refl, ap, sym}
+use Rattle.std.proofs.Common.{◌≡◌, ◌∙◌, ℕ, ◌+◌, ◌-◌, ◌*◌, ◌/◌, nat_lt, Bool, true, false, cond, Option, Some, None, refl, ap, sym}
 use Rattle.vp_base.specs.Raster.{Raster}
 use Rattle.vp_base.specs.Over.{over}
 use Rattle.vp_base.proofs.OverLemmas.{over-none, over-more, over-kept}
 use Rattle.vp_loop.specs.declared.lines.LineStep.{LineStep}
 use Rattle.vp_loop.specs.declared.limits.EdgeLimits.{EdgeLimits}
-use Rattle.vp_loop.specs.Edges.{Orientation, vertical, horizontal, edge_lines, inner_edges, edges_inside, block_edges, block_filtered, apply_if, outer_step, inner_step}
+use Rattle.vp_loop.specs.Edges.{Orientation, vertical, horizontal, edge_lines, inner_edges, edges_inside, block_edges, block_filtered, own_edge, outer_step, inner_step}
 use Rattle.vp_loop.proofs.StepLemmas.{width-edge_lines, height-edge_lines}
 
 -- the first n of the edges inside a macroblock
@@ -45,7 +45,7 @@ pub height-first_edges : (orientation : Orientation) (step : LineStep) (n size x
 height-first_edges = keeps_first (λ (q : Raster). q.height) height-edge_lines
 
 module _ {X : Type 0} (look : Raster → X) (keeps : (orientation : Orientation) (step : LineStep) (n x y : ℕ) (p : Raster) → look (edge_lines orientation step n x y p) ≡ look p) where
-  keeps_when : (b : Bool) (f : Raster → Raster) (p : Raster) → look (f p) ≡ look p → look (apply_if b f p) ≡ look p
+  keeps_when : (b : Bool) (f : Raster → Raster) (p : Raster) → look (f p) ≡ look p → look (cond b (f p) p) ≡ look p
   keeps_when true f p e = e
   keeps_when false f p e = refl
 
@@ -59,14 +59,14 @@ module _ {X : Type 0} (look : Raster → X) (keeps : (orientation : Orientation)
       go None = refl
       go (Some limit) = keeps_inner orientation (inner_step limits limit) size x y p
 
+  keeps_own : (orientation : Orientation) (step : LineStep) (size x y : ℕ) (p : Raster) → look (own_edge orientation step size x y p) ≡ look p
+  keeps_own vertical step size x y p = keeps_when (nat_lt 0 x) (edge_lines vertical step size (x - 4) y) p (keeps vertical step size (x - 4) y p)
+  keeps_own horizontal step size x y p = keeps_when (nat_lt 0 y) (edge_lines horizontal step size x (y - 4)) p (keeps horizontal step size x (y - 4) p)
+
   keeps_edges : (orientation : Orientation) (size : ℕ) (limits : EdgeLimits) (x y : ℕ) (p : Raster) → look (block_edges orientation size limits x y p) ≡ look p
   unfolding block_edges
-  keeps_edges vertical size limits x y p =
-      keeps_inside vertical limits size x y (apply_if (nat_lt 0 x) (edge_lines vertical (outer_step limits) size (x - 4) y) p)
-      ∙ keeps_when (nat_lt 0 x) (edge_lines vertical (outer_step limits) size (x - 4) y) p (keeps vertical (outer_step limits) size (x - 4) y p)
-  keeps_edges horizontal size limits x y p =
-      keeps_inside horizontal limits size x y (apply_if (nat_lt 0 y) (edge_lines horizontal (outer_step limits) size x (y - 4)) p)
-      ∙ keeps_when (nat_lt 0 y) (edge_lines horizontal (outer_step limits) size x (y - 4)) p (keeps horizontal (outer_step limits) size x (y - 4) p)
+  keeps_edges orientation size limits x y p =
+      keeps_inside orientation limits size x y (own_edge orientation (outer_step limits) size x y p) ∙ keeps_own orientation (outer_step limits) size x y p
 
   pub keeps_block : (size : ℕ) (limits : Option EdgeLimits) (x y : ℕ) (p : Raster) → look (block_filtered size limits x y p) ≡ look p
   unfolding block_filtered

@@ -1,5 +1,5 @@
 -- A part of a block is written, and the rest, which stays as it is, is not.
-use Rattle.std.proofs.Common.{◌≡◌, ◌∙◌, ℕ, zero, suc, ◌+◌, ◌-◌, ◌<◌, ◌≤◌, ◌==◌, Bool, true, false, cond, not, eqb, List, [], length, get_or, refl, ap, sym, subst, arith, rules, inl, inr, length-drop}
+use Rattle.std.proofs.Common.{◌≡◌, ◌∙◌, ℕ, zero, suc, ◌+◌, ◌-◌, ◌<◌, ◌≤◌, Bool, true, false, cond, ◌&&◌, not, eqb, List, [], length, get_or, refl, ap, sym, subst, arith, rules, inl, inr, length-drop}
 use Rattle.std.specs.List.{slice_range}
 use Rattle.std.proofs.lemmas.List.{length-take, places}
 use Rattle.std.proofs.lemmas.Bool.{cases_lt}
@@ -12,7 +12,7 @@ use Rattle.vp_loop.specs.declared.lines.LineStep.{LineStep}
 use Rattle.vp_loop.specs.declared.limits.EdgeLimits.{EdgeLimits}
 use Rattle.vp_loop.specs.declared.limits.FilterKind.{FilterKind}
 use Rattle.vp_loop.specs.declared.limits.FilterKind.TheVariants as filter_is
-use Rattle.vp_loop.specs.LineSteps.{is_changed, filtered_line, stepped}
+use Rattle.vp_loop.specs.LineSteps.{is_small_step, is_smooth, is_high, common_adjusted, subblock_edge_filtered, stepped}
 use Rattle.vp_loop.specs.Lanes.{KeepsEnds, middle_of}
 use Rattle.vp_loop.specs.Edges.{vertical, horizontal, line_at, pixel_at, edge_lines, inner_step}
 use Rattle.vp_loop.proofs.StepLemmas.{stepped_ends, pixel_at-line_at}
@@ -35,15 +35,15 @@ second_kept false l m same = (refl, refl)
 
 -- a step inside a macroblock
 inside_kept : (kind : FilterKind) (limits : EdgeLimits) (limit : ℕ) (l : Line) → let step = inner_step (record limits { kind = kind }) limit in
-    ((filtered_line step l).p2 ≡ l.p2) × ((filtered_line step l).q2 ≡ l.q2)
-inside_kept filter_is.Simple limits limit l = (refl, refl)
-inside_kept filter_is.Normal limits limit l = (refl, refl)
+    ((stepped step l).p2 ≡ l.p2) × ((stepped step l).q2 ≡ l.q2)
+unfolding stepped
+inside_kept filter_is.Simple limits limit l = second_kept (is_small_step limit l) l (common_adjusted true l) (refl, refl)
+inside_kept filter_is.Normal limits limit l =
+    second_kept (is_small_step limit l && is_smooth limits.interior l) l (subblock_edge_filtered (is_high limits.hev l) l) (refl, refl)
 
 pub keeps_two : (limits : EdgeLimits) (limit : ℕ) → KeepsEnds 2 (inner_step limits limit)
-unfolding stepped
 keeps_two limits limit l zero h = stepped_ends (inner_step limits limit) l
-keeps_two limits limit l (suc zero) h =
-    second_kept (is_changed (inner_step limits limit) l) l (filtered_line (inner_step limits limit) l) (inside_kept limits.kind limits limit l)
+keeps_two limits limit l (suc zero) h = inside_kept limits.kind limits limit l
 keeps_two limits limit l (suc (suc n)) h = absurd (omega arith)
 
 end_kept : (k : ℕ) (step : LineStep) → KeepsEnds k step → (l : Line) (r : ℕ) → r < 8 → (k ≤ r → 8 - k ≤ r) → pixel_at (stepped step l) r ≡ pixel_at l r

@@ -18,3 +18,4 @@ pub mod WriteLemmas
 pub mod KeptLemmas
 pub mod LevelLemmas
 pub mod SentinelLemmas
+pub mod RestatedLemmas

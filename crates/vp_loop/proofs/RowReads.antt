@@ -24,8 +24,7 @@ unfolding line_at
 horizontal_in p ps x y i w same wide here =
     let at : (k j : ℕ) → j ≡ (y + k) * w + x → get_or ps j 0 ≡ pixel p x (y + k) =
     λ k j e. ap (λ (l : List ℕ). get_or l j 0) same ∙ (ap (λ (n : ℕ). get_or p.pixels n 0) e ∙ ap (λ (v : ℕ). get_or p.pixels ((y + k) * v + x) 0) wide) in
-    let e0 : get_or ps i 0 ≡ pixel p x y = ap (λ (l : List ℕ). get_or l i 0) same ∙ (ap (λ (n : ℕ). get_or p.pixels n 0) here ∙ ap (λ (v : ℕ). get_or p.pixels (y * v + x) 0) wide) in
-    let e1 = at 1 (i + w) (omega arith) in let e2 = at 2 (i + 2 * w) (omega arith) in let e3 = at 3 (i + 3 * w) (omega arith) in let e4 = at 4 (i + 4 * w) (omega arith) in
+    let e0 = at 0 i (omega arith) in let e1 = at 1 (i + w) (omega arith) in let e2 = at 2 (i + 2 * w) (omega arith) in let e3 = at 3 (i + 3 * w) (omega arith) in let e4 = at 4 (i + 4 * w) (omega arith) in
     let e5 = at 5 (i + 5 * w) (omega arith) in let e6 = at 6 (i + 6 * w) (omega arith) in let e7 = at 7 (i + 7 * w) (omega arith) in
     λ j. record { p3 = e0 j; p2 = e1 j; p1 = e2 j; p0 = e3 j; q0 = e4 j; q1 = e5 j; q2 = e6 j; q3 = e7 j }
 
@@ -34,6 +33,5 @@ unfolding line_at
 vertical_in p ps x y i w same wide here =
     let at : (k : ℕ) → k < 8 → get_or (chunk i 8 ps) k 0 ≡ pixel p (x + k) y =
     λ k below. get_or-chunk i 8 ps k 0 below ∙ (ap (λ (l : List ℕ). get_or l (i + k) 0) same ∙ (ap (λ (n : ℕ). get_or p.pixels n 0) (let e : i + k ≡ y * w + (x + k) = omega arith in e) ∙ ap (λ (v : ℕ). get_or p.pixels (y * v + (x + k)) 0) wide)) in
-    let e = at 0 (omega arith) ∙ ap (λ (n : ℕ). pixel p n y) (let z : x + 0 ≡ x = omega arith in z) in
-    let e1 = at 1 (omega arith) in let e2 = at 2 (omega arith) in let e3 = at 3 (omega arith) in let e4 = at 4 (omega arith) in let e5 = at 5 (omega arith) in let e6 = at 6 (omega arith) in let e7 = at 7 (omega arith) in
-    λ j. record { p3 = e j; p2 = e1 j; p1 = e2 j; p0 = e3 j; q0 = e4 j; q1 = e5 j; q2 = e6 j; q3 = e7 j }
+    let e0 = at 0 (omega arith) in let e1 = at 1 (omega arith) in let e2 = at 2 (omega arith) in let e3 = at 3 (omega arith) in let e4 = at 4 (omega arith) in let e5 = at 5 (omega arith) in let e6 = at 6 (omega arith) in let e7 = at 7 (omega arith) in
+    λ j. record { p3 = e0 j; p2 = e1 j; p1 = e2 j; p0 = e3 j; q0 = e4 j; q1 = e5 j; q2 = e6 j; q3 = e7 j }

@@ -9,8 +9,11 @@ use Rattle.vp_loop.specs.declared.limits.FilterKind.TheVariants as filter_is
 use Rattle.vp_loop.specs.declared.lines.LineStep.{LineStep}
 use Rattle.vp_loop.specs.declared.lines.EdgeKind.TheVariants.{Simple, Inner, Macroblock}
 use Rattle.vp_loop.specs.declared.strength.Level.{Level}
-use Rattle.vp_loop.specs.Edges.{Orientation, vertical, horizontal, edge_lines, inner_edges, block_edges, block_filtered, apply_if, chroma_limits}
+use Rattle.vp_loop.specs.Edges.{Orientation, vertical, horizontal, edge_lines, inner_edges, block_edges, block_filtered, chroma_limits}
 use Rattle.vp_loop.specs.Filtered.{macroblock_filtered}
+
+abbrev apply_if : Bool → (Raster → Raster) → Raster → Raster
+apply_if holds f p = cond holds (f p) p
 
 -- by what the zeros say: whether the macroblock is unfiltered, whether the filter is simple, and whether there are
 -- inner edges

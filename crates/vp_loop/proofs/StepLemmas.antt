@@ -1,5 +1,5 @@
 -- Line steps on a plane.
-use Rattle.std.proofs.Common.{◌≡◌, ◌∙◌, ℕ, zero, suc, ◌+◌, ◌-◌, ◌<◌, ◌≤◌, Bool, true, false, cond, List, length, get_or, refl, ap, sym, arith, zero-add}
+use Rattle.std.proofs.Common.{◌≡◌, ◌∙◌, ℕ, zero, suc, ◌+◌, ◌-◌, ◌<◌, ◌≤◌, Bool, true, false, cond, refl, ap, sym, arith, ◌&&◌}
 use Rattle.std.proofs.lemmas.Bool.Decides.{nat_tests}
 use Rattle.vp_base.specs.Raster.{Raster, pixel, with_run}
 use Rattle.vp_base.specs.Block.{with_block, is_in_block, IsWhole}
@@ -9,8 +9,10 @@ use Rattle.vp_loop.specs.declared.lines.Line.{Line}
 use Rattle.vp_loop.specs.declared.lines.LineStep.{LineStep}
 use Rattle.vp_loop.specs.declared.lines.EdgeKind.{EdgeKind}
 use Rattle.vp_loop.specs.declared.lines.EdgeKind.TheVariants.{Simple, Inner, Macroblock}
-use Rattle.vp_loop.specs.LineSteps.{is_changed, is_high, macroblock_edge_filtered, filtered_line, stepped}
-use Rattle.vp_loop.specs.Edges.{Orientation, vertical, horizontal, columns_of, rows_of, line_at, pixels_of, pixel_at, line_step, edge_lines}
+use Rattle.vp_loop.specs.LineSteps.{is_small_step, is_smooth, is_high, common_adjusted, subblock_edge_filtered, macroblock_edge_filtered, stepped}
+use Rattle.vp_loop.specs.Edges.{Orientation, vertical, horizontal, line_at, pixel_at, line_step, edge_lines}
+use Rattle.vp_loop.specs.Lanes.{pixels_of}
+use Rattle.vp_loop.specs.Laws.{columns_of, rows_of}
 
 -- ---- a line by its pixels
 
@@ -31,7 +33,7 @@ row_at horizontal y k = y + k
 
 vertical_pixel : (p : Raster) (x y k : ℕ) → k < 8 → pixel_at (line_at vertical p x y) k ≡ pixel p (x + k) y
 unfolding line_at
-vertical_pixel p x y zero h = ap (λ (n : ℕ). pixel p n y) (let z : x ≡ x + 0 = omega arith in z)
+vertical_pixel p x y zero h = refl
 vertical_pixel p x y (suc zero) h = refl
 vertical_pixel p x y (suc (suc zero)) h = refl
 vertical_pixel p x y (suc (suc (suc zero))) h = refl
@@ -43,7 +45,7 @@ vertical_pixel p x y (suc (suc (suc (suc (suc (suc (suc (suc n)))))))) h = absur
 
 horizontal_pixel : (p : Raster) (x y k : ℕ) → k < 8 → pixel_at (line_at horizontal p x y) k ≡ pixel p x (y + k)
 unfolding line_at
-horizontal_pixel p x y zero h = ap (λ (n : ℕ). pixel p x n) (let z : y ≡ y + 0 = omega arith in z)
+horizontal_pixel p x y zero h = refl
 horizontal_pixel p x y (suc zero) h = refl
 horizontal_pixel p x y (suc (suc zero)) h = refl
 horizontal_pixel p x y (suc (suc (suc zero))) h = refl
@@ -83,11 +85,40 @@ line_at-same orientation p q x y fits same =
     ∙ (same (column_at orientation x k) (row_at orientation y k) (column_in orientation x k p.width h fits.0) (row_in orientation y k p.height h fits.1) (in_line orientation x y k h)
     ∙ sym (pixel_at-line_at orientation q x y k h)))
 
+-- within a line along a row, or down a column, one of both distances is 0
+one_row : (x y i j : ℕ) → is_in_block x y 8 1 i j ≡ true → i - x ≡ (j - y) + (i - x)
+one_row x y i j e = grind (arith, nat_tests)
+
+one_column_of : (x y i j : ℕ) → is_in_block x y 1 8 i j ≡ true → j - y ≡ (j - y) + (i - x)
+one_column_of x y i j e = grind (arith, nat_tests)
+
+in_row : (x y i j : ℕ) (f : ℕ → ℕ) (old : ℕ) (t : Bool) → is_in_block x y 8 1 i j ≡ t → cond t (f (i - x)) old ≡ cond t (f ((j - y) + (i - x))) old
+in_row x y i j f old true e = ap f (one_row x y i j e)
+in_row x y i j f old false e = refl
+
+in_column : (x y i j : ℕ) (f : ℕ → ℕ) (old : ℕ) (t : Bool) → is_in_block x y 1 8 i j ≡ t → cond t (f (j - y)) old ≡ cond t (f ((j - y) + (i - x))) old
+in_column x y i j f old true e = ap f (one_column_of x y i j e)
+in_column x y i j f old false e = refl
+
 pub pixel-line_step : (orientation : Orientation) (step : LineStep) (x y : ℕ) (p : Raster) (i j : ℕ) → i < p.width → j < p.height
     → pixel (line_step orientation step x y p) i j
     ≡ cond (is_in_block x y (columns_of orientation) (rows_of orientation) i j) (pixel_at (stepped step (line_at orientation p x y)) ((j - y) + (i - x))) (pixel p i j)
-pixel-line_step orientation step x y p i j iin jin =
-    pixel-with_block p x y (columns_of orientation) (rows_of orientation) (λ r c. pixel_at (stepped step (line_at orientation p x y)) (r + c)) i j iin jin
+pixel-line_step vertical step x y p i j iin jin =
+    let l = stepped step (line_at vertical p x y) in
+    pixel-with_block p x y 8 1 (λ r c. pixel_at l c) i j iin jin
+    ∙ in_row x y i j (pixel_at l) (pixel p i j) (is_in_block x y 8 1 i j) refl
+pixel-line_step horizontal step x y p i j iin jin =
+    let l = stepped step (line_at horizontal p x y) in
+    pixel-with_block p x y 1 8 (λ r c. pixel_at l r) i j iin jin
+    ∙ in_column x y i j (pixel_at l) (pixel p i j) (is_in_block x y 1 8 i j) refl
+
+pub width-line_step : (orientation : Orientation) (step : LineStep) (x y : ℕ) (p : Raster) → (line_step orientation step x y p).width ≡ p.width
+width-line_step vertical step x y p = refl
+width-line_step horizontal step x y p = refl
+
+pub height-line_step : (orientation : Orientation) (step : LineStep) (x y : ℕ) (p : Raster) → (line_step orientation step x y p).height ≡ p.height
+height-line_step vertical step x y p = refl
+height-line_step horizontal step x y p = refl
 
 -- ---- lines along a row are written as a run
 
@@ -95,12 +126,12 @@ pub line_step-vertical : (step : LineStep) (x y : ℕ) (p : Raster) → IsWhole 
     → with_run p x y (pixels_of (stepped step (line_at vertical p x y))) ≡ line_step vertical step x y p
 line_step-vertical step x y p whole fits yin =
     let l = stepped step (line_at vertical p x y) in
-    let f = λ (r c : ℕ). pixel_at l (r + c) in
+    let f = λ (r c : ℕ). pixel_at l c in
     let none = with_block_none p x y 8 f whole in
     let start : y + 0 ≡ y = omega arith in
     ap (λ (q : Raster). with_run q x y (pixels_of l)) (sym none)
     ∙ (ap (λ (n : ℕ). with_run (with_block p x y 8 0 f) x n (pixels_of l)) (sym start)
-    ∙ with_block_more p x y 8 0 f (pixels_of l) fits (omega arith) refl (λ c h. ap (pixel_at l) (sym (zero-add c))))
+    ∙ with_block_more p x y 8 0 f (pixels_of l) fits (omega arith) refl (λ c h. refl))
 
 -- ---- the lines of an edge
 
@@ -128,8 +159,8 @@ height-edge_lines vertical step n x y p = over-kept (λ (q : Raster). q.height) 
 height-edge_lines horizontal step n x y p = over-kept (λ (q : Raster). q.height) n (λ j. line_step horizontal step (x + j) y) p (λ k b. refl)
 
 pub IsWhole-line_step : (orientation : Orientation) (step : LineStep) (x y : ℕ) (p : Raster) → IsWhole (line_step orientation step x y p)
-IsWhole-line_step orientation step x y p =
-    IsWhole-with_block p x y (columns_of orientation) (rows_of orientation) (λ r c. pixel_at (stepped step (line_at orientation p x y)) (r + c))
+IsWhole-line_step vertical step x y p = IsWhole-with_block p x y 8 1 (λ r c. pixel_at (stepped step (line_at vertical p x y)) c)
+IsWhole-line_step horizontal step x y p = IsWhole-with_block p x y 1 8 (λ r c. pixel_at (stepped step (line_at horizontal p x y)) r)
 
 -- ---- a line that the mask leaves as it is
 
@@ -167,19 +198,20 @@ macroblock_ends : (high : Bool) (l : Line) → ((macroblock_edge_filtered high l
 macroblock_ends true l = (refl, refl)
 macroblock_ends false l = (refl, refl)
 
-changed_ends : (kind : EdgeKind) (limit interior hev : ℕ) (l : Line) → let step : LineStep = record { kind = kind; limit = limit; interior = interior; hev = hev } in
-    ((filtered_line step l).p3 ≡ l.p3) × ((filtered_line step l).q3 ≡ l.q3)
-changed_ends Simple limit interior hev l = (refl, refl)
-changed_ends Inner limit interior hev l = (refl, refl)
-changed_ends Macroblock limit interior hev l = macroblock_ends (is_high hev l) l
-
 cond_ends : (b : Bool) (l m : Line) → (m.p3 ≡ l.p3) × (m.q3 ≡ l.q3) → ((cond b m l).p3 ≡ l.p3) × ((cond b m l).q3 ≡ l.q3)
 cond_ends true l m same = same
 cond_ends false l m same = (refl, refl)
 
-pub stepped_ends : (step : LineStep) (l : Line) → ((stepped step l).p3 ≡ l.p3) × ((stepped step l).q3 ≡ l.q3)
+ends_by : (kind : EdgeKind) (limit interior hev : ℕ) (l : Line) → let step : LineStep = record { kind = kind; limit = limit; interior = interior; hev = hev } in
+    ((stepped step l).p3 ≡ l.p3) × ((stepped step l).q3 ≡ l.q3)
 unfolding stepped
-stepped_ends step l = cond_ends (is_changed step l) l (filtered_line step l) (changed_ends step.kind step.limit step.interior step.hev l)
+ends_by Simple limit interior hev l = cond_ends (is_small_step limit l) l (common_adjusted true l) (refl, refl)
+ends_by Inner limit interior hev l = cond_ends (is_small_step limit l && is_smooth interior l) l (subblock_edge_filtered (is_high hev l) l) (refl, refl)
+ends_by Macroblock limit interior hev l =
+    cond_ends (is_small_step limit l && is_smooth interior l) l (macroblock_edge_filtered (is_high hev l) l) (macroblock_ends (is_high hev l) l)
+
+pub stepped_ends : (step : LineStep) (l : Line) → ((stepped step l).p3 ≡ l.p3) × ((stepped step l).q3 ≡ l.q3)
+stepped_ends step l = ends_by step.kind step.limit step.interior step.hev l
 
 in_last_row : (x y n h i j : ℕ) → is_in_block x (y + h) n 1 i j ≡ true
     → (j ≡ y + h) × (x ≤ i) × (is_in_block x y n (h + 1) i j ≡ true) × (is_in_block x y n h i j ≡ false)

@@ -11,10 +11,10 @@ use Rattle.vp_loop.specs.declared.lines.Line.{Line}
 use Rattle.vp_loop.specs.declared.lines.LineStep.{LineStep}
 use Rattle.vp_loop.specs.declared.strength.Level.{Level}
 use Rattle.vp_loop.specs.LineSteps.{stepped}
-use Rattle.vp_loop.specs.Edges.{edge_limits, chroma_limits, Orientation, vertical, horizontal, columns_of, rows_of, line_at, pixel_at, line_step, block_filtered}
+use Rattle.vp_loop.specs.Edges.{edge_limits, chroma_limits, Orientation, vertical, horizontal, line_at, pixel_at, line_step, block_filtered}
 use Rattle.vp_loop.specs.Filtered.{macroblock_filtered, row_filtered}
-use Rattle.vp_loop.specs.Laws.{RowKeepsBelow, RowReadsAbove, RowKeepsAbove, RowKeepsSize, RowKeepsAligned, RowKeepsWhole}
-use Rattle.vp_loop.proofs.StepLemmas.{pixel-line_step, line_at-same, pixel_at-line_at, stepped_ends, IsWhole-line_step}
+use Rattle.vp_loop.specs.Laws.{columns_of, rows_of, RowKeepsBelow, RowReadsAbove, RowKeepsAbove, RowKeepsSize, RowKeepsAligned, RowKeepsWhole}
+use Rattle.vp_loop.proofs.StepLemmas.{pixel-line_step, line_at-same, pixel_at-line_at, stepped_ends, width-line_step, height-line_step, IsWhole-line_step}
 use Rattle.vp_loop.proofs.BandLemmas.{reach, IsInBand, holds-over, holds-block}
 use Rattle.vp_loop.proofs.FrameLemmas.{first_macroblocks, row_filtered-all, Sizes, sizes-row_filtered, aligned-sizes}
 
@@ -75,7 +75,7 @@ module _ (w h k : ℕ) where
 
   above-line : (orientation : Orientation) (step : LineStep) (x y : ℕ) → k ≤ h → x + columns_of orientation ≤ w → y + rows_of orientation ≤ k → IsAbove w h k (λ p. line_step orientation step x y p)
   above-line orientation step x y low columns rows = record {
-    sized = λ p s. s;
+    sized = λ p s. (width-line_step orientation step x y p ∙ s.0, height-line_step orientation step x y p ∙ s.1);
     keeps = λ p s i j a b c.
         pixel-line_step orientation step x y p i j (omega arith) (omega arith)
         ∙ ap (λ (t : Bool). cond t (pixel_at (stepped step (line_at orientation p x y)) ((j - y) + (i - x))) (pixel p i j)) (outside_below orientation x y i j rows b);
@@ -122,7 +122,7 @@ line_kept horizontal step x y top p i j begins iin jin above =
 
 from-line : (w h top : ℕ) (orientation : Orientation) (step : LineStep) (x y : ℕ) → top ≤ y + reach orientation → IsFrom w h (top - 3) (λ p. line_step orientation step x y p)
 from-line w h top orientation step x y begins = record {
-  sized = λ p s. s;
+  sized = λ p s. (width-line_step orientation step x y p ∙ s.0, height-line_step orientation step x y p ∙ s.1);
   keeps = λ p s i j a b c. line_kept orientation step x y top p i j begins (omega arith) (omega arith) b;
 }
 

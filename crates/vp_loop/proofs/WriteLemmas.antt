@@ -7,9 +7,9 @@ use Rattle.vp_base.proofs.BlockLemmas.{with_block_none, with_block_more, with_bl
 use Rattle.vp_loop.specs.declared.lines.Line.{Line}
 use Rattle.vp_loop.specs.declared.lines.LineStep.{LineStep}
 use Rattle.vp_loop.specs.LineSteps.{stepped}
-use Rattle.vp_loop.specs.Edges.{vertical, horizontal, line_at, pixels_of, pixel_at, edge_lines, inner_edges}
+use Rattle.vp_loop.specs.Edges.{vertical, horizontal, line_at, pixel_at, edge_lines, inner_edges}
 use Rattle.vp_loop.specs.declared.lanes.Lines.{Lines}
-use Rattle.vp_loop.specs.Lanes.{line_of}
+use Rattle.vp_loop.specs.Lanes.{line_of, pixels_of}
 use Rattle.vp_loop.proofs.TransposeLemmas.{below_eight}
 use Rattle.vp_loop.proofs.LawLemmas.{at_once}
 

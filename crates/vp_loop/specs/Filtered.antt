@@ -2,7 +2,6 @@
 -- level. Pinned by the test `filter_two_macroblocks`, and streams of other encoders in the gate.
 use Rattle.std.specs.Prelude.{ℕ, List, ◌+◌, ◌*◌, slice_index_or}
 use Rattle.vp_base.specs.declared.place.Place.{Place}
-use Rattle.vp_base.specs.Raster.{Raster}
 use Rattle.vp_base.specs.Image.{Image, macroblocks}
 use Rattle.vp_base.specs.Over.{over}
 use Rattle.vp_loop.specs.declared.strength.Level.{Level}

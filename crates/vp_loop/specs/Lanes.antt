@@ -4,7 +4,7 @@ use Rattle.vp_loop.specs.declared.lines.Line.{Line}
 use Rattle.vp_loop.specs.declared.lines.LineStep.{LineStep}
 use Rattle.vp_loop.specs.declared.lanes.Lines.{Lines}
 use Rattle.vp_loop.specs.LineSteps.{stepped}
-use Rattle.vp_loop.specs.Edges.{pixel_at}
+use Rattle.vp_loop.specs.Edges.{line_from, pixel_at}
 
 -- line j
 abbrev pub line_of : Lines → ℕ → Line
@@ -26,16 +26,11 @@ lines_or l (Some m) = m
 
 -- the line of the first eight numbers of a list
 abbrev pub line_in : List ℕ → Line
-line_in r = record {
-  p3 = slice_index r 0;
-  p2 = slice_index r 1;
-  p1 = slice_index r 2;
-  p0 = slice_index r 3;
-  q0 = slice_index r 4;
-  q1 = slice_index r 5;
-  q2 = slice_index r 6;
-  q3 = slice_index r 7;
-}
+line_in r = line_from (slice_index r)
+
+-- the pixels of a line, from p3 to q3
+abbrev pub pixels_of : Line → List ℕ
+pixels_of l = l.p3 ∷ l.p2 ∷ l.p1 ∷ l.p0 ∷ l.q0 ∷ l.q1 ∷ l.q2 ∷ l.q3 ∷ []
 
 -- the step does not change the first n and the last n pixels of a line
 abbrev pub KeepsEnds : ℕ → LineStep → Type 0

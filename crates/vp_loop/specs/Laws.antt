@@ -1,6 +1,6 @@
 -- The laws of the loop filter (RFC 6386, chapter 15.1): which steps commute, which rows a step reads and changes, and
 -- filtering by planes or by edges.
-use Rattle.std.specs.Prelude.{ℕ, ◌≡◌, ◌+◌, ◌-◌, ◌*◌, ◌≤◌, ◌<◌, nat_lt, Bool, ◌&&◌, Option, Some, None}
+use Rattle.std.specs.Prelude.{ℕ, ◌≡◌, ◌+◌, ◌-◌, ◌*◌, ◌≤◌, ◌<◌, Bool, ◌&&◌, Option, Some, None}
 use Rattle.vp_base.specs.declared.place.Place.{Place}
 use Rattle.vp_base.specs.Raster.{Raster}
 use Rattle.vp_base.specs.Block.{is_in_block, with_block, IsWhole}
@@ -12,9 +12,18 @@ use Rattle.vp_loop.specs.declared.limits.FilterKind.{FilterKind}
 use Rattle.vp_loop.specs.declared.limits.FilterKind.TheVariants as filter_is
 use Rattle.vp_loop.specs.declared.strength.Level.{Level}
 use Rattle.vp_loop.specs.LineSteps.{stepped}
-use Rattle.vp_loop.specs.Edges.{Orientation, vertical, horizontal, columns_of, rows_of, line_at, pixel_at, line_step}
-use Rattle.vp_loop.specs.Edges.{edge_lines, edge_limits, outer_step, apply_if, edges_inside, on_plane}
+use Rattle.vp_loop.specs.Edges.{Orientation, vertical, horizontal, line_at, pixel_at, line_step, edge_lines}
+use Rattle.vp_loop.specs.Edges.{edge_limits, outer_step, own_edge, edges_inside, on_plane}
 use Rattle.vp_loop.specs.Filtered.{macroblock_filtered, row_filtered}
+
+-- the number of columns and rows of a line
+abbrev pub columns_of : Orientation → ℕ
+columns_of vertical = 8
+columns_of horizontal = 1
+
+abbrev pub rows_of : Orientation → ℕ
+rows_of vertical = 1
+rows_of horizontal = 8
 
 -- a line of a plane: the orientation of the edge that it crosses, and the column and row at which it begins
 pub record PlaneLine : Type 0 where
@@ -86,11 +95,6 @@ PlanesCommute =
     (j k : ℕ) (f g : Raster → Raster) (p : Image) → j < 3 → k < 3 → ¬ (j ≡ k)
     → on_plane j f (on_plane k g p) ≡ on_plane k g (on_plane j f p)
 
--- the left or top edge of a macroblock, unless the plane begins there
-abbrev pub own_edge : Orientation → EdgeLimits → ℕ → ℕ → ℕ → Raster → Raster
-own_edge vertical limits size x y = apply_if (nat_lt 0 x) (edge_lines vertical (outer_step limits) size (x - 4) y)
-own_edge horizontal limits size x y = apply_if (nat_lt 0 y) (edge_lines horizontal (outer_step limits) size x (y - 4))
-
 -- f applied to a macroblock's luma and, except in the simple filter, to both chroma planes
 abbrev pub in_planes : FilterKind → (ℕ → ℕ → ℕ → Raster → Raster) → ℕ → ℕ → Image → Image
 in_planes filter_is.Simple f column row p = record p { luma = f 16 (16 * column) (16 * row) p.luma }
@@ -106,9 +110,9 @@ abbrev pub filtered_by_edges : Option EdgeLimits → ℕ → ℕ → Image → I
 filtered_by_edges None column row p = p
 filtered_by_edges (Some limits) column row p =
     in_planes limits.kind (edges_inside horizontal limits) column row
-    (in_planes limits.kind (own_edge horizontal limits) column row
+    (in_planes limits.kind (own_edge horizontal (outer_step limits)) column row
     (in_planes limits.kind (edges_inside vertical limits) column row
-    (in_planes limits.kind (own_edge vertical limits) column row p)))
+    (in_planes limits.kind (own_edge vertical (outer_step limits)) column row p)))
 
 -- Filtering edge by edge gives the same result as plane by plane.
 abbrev pub EdgeByEdge : Type 0

@@ -23,10 +23,9 @@ signed_at xs i = slice_index_or xs i (pos 0)
 -- the level of the frame or, with segmentation, of the segment: absolute, or added to the frame's (chapter 9.3)
 abbrev pub segment_level : Header → ℕ → ℕ
 segment_level header segment =
-    if header.segmentation.enabled
-    then clamped_level (if header.segmentation.values.absolute
-    then signed_at header.segmentation.values.levels segment
-    else pos header.filter.level +ℤ signed_at header.segmentation.values.levels segment)
+    let values = header.segmentation.values in
+    let value = signed_at values.levels segment in
+    if header.segmentation.enabled then clamped_level (if values.absolute then value else pos header.filter.level +ℤ value)
     else header.filter.level
 
 -- the delta of the reference frame (chapter 9.4)
@@ -68,13 +67,8 @@ variance_threshold key level =
 
 -- whether the edges between subblocks are filtered: some block has a token, or the mode is B_PRED or SPLITMV
 abbrev pub has_inner_edges : MacroblockKind → Bool
-has_inner_edges kind = kind.coded || elim kind.prediction [
-  | Whole ↦ Bool.false
-  | Subblocks ↦ Bool.true
-  | Zero ↦ Bool.false
-  | Moved ↦ Bool.false
-  | Split ↦ Bool.true
-]
+has_inner_edges kind =
+    kind.coded || elim kind.prediction [ Subblocks ↦ Bool.true | Split ↦ Bool.true | class ↦ Bool.false ]
 
 -- the filter parameters of a macroblock that isn't filtered
 abbrev pub no_level : Level

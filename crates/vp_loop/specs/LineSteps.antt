@@ -77,22 +77,14 @@ macroblock_edge_filtered high l = cond high (common_adjusted Bool.true l) (recor
   q2 = pixel_from (signed l.q2 -ℤ weighted_filter_value (pos 9) l);
 })
 
--- the filter mask: whether this line is filtered
-abbrev pub is_changed : LineStep → Line → Bool
-is_changed step l = elim step.kind [
-  | Simple ↦ is_small_step step.limit l
-  | Inner ↦ is_small_step step.limit l && is_smooth step.interior l
-  | Macroblock ↦ is_small_step step.limit l && is_smooth step.interior l
-]
-
--- the filtered line, if the mask includes it
-abbrev pub filtered_line : LineStep → Line → Line
-filtered_line step l = elim step.kind [
-  | Simple ↦ common_adjusted Bool.true l
-  | Inner ↦ subblock_edge_filtered (is_high step.hev l) l
-  | Macroblock ↦ macroblock_edge_filtered (is_high step.hev l) l
-]
-
 -- the line step; filter mask and high edge variance are those of this line
 unfoldable pub stepped : LineStep → Line → Line
-stepped step l = cond (is_changed step l) (filtered_line step l) l
+stepped step l =
+    let small = is_small_step step.limit l in
+    let smooth = small && is_smooth step.interior l in
+    let high = is_high step.hev l in
+    elim step.kind [
+      | Simple ↦ cond small (common_adjusted Bool.true l) l
+      | Inner ↦ cond smooth (subblock_edge_filtered high l) l
+      | Macroblock ↦ cond smooth (macroblock_edge_filtered high l) l
+    ]

@@ -6,8 +6,7 @@ ghost use Rattle.std.specs.Int.{abs_diff};
 ghost use lib.Signed.{shr_z as floor_div};
 ghost use Rattle.vp_loop.specs.LineSteps.{clamp8, signed, pixel_from, filter_value, eighth, common_adjusted};
 ghost use Rattle.vp_loop.specs.LineSteps.{outer_tap_adjustment, subblock_edge_filtered, weighted_filter_value};
-ghost use Rattle.vp_loop.specs.LineSteps.{macroblock_edge_filtered, is_small_step, is_smooth, is_high, is_changed};
-ghost use Rattle.vp_loop.specs.LineSteps.{filtered_line, stepped};
+ghost use Rattle.vp_loop.specs.LineSteps.{macroblock_edge_filtered, is_small_step, is_smooth, is_high, stepped};
 
 /// Eight pixels across an edge: `p3` to `p0` before it, `q0` to `q3` after it.
 #[derive(Clone, Copy, Debug, PartialEq, Eq)]
@@ -242,38 +241,19 @@ fn is_high(threshold: u8, line: Line) -> bool
 }
 
 impl LineStep {
-    /// Whether the filter mask includes this line.
-    pub(crate) fn is_changed(self, line: Line) -> bool
-        ensures { result ≡ is_changed self line }
-    {
-        let small = is_small_step(self.limit, line);
-        match self.kind {
-            EdgeKind::Simple => small,
-            EdgeKind::Inner => small && is_smooth(self.interior, line),
-            EdgeKind::Macroblock => small && is_smooth(self.interior, line),
-        }
-    }
-
-    /// The filtered line, for a line that the filter mask includes.
-    pub(crate) fn changed(self, line: Line) -> Line
-        ensures { result ≡ filtered_line self line }
-    {
-        match self.kind {
-            EdgeKind::Simple => common_adjust(true, line),
-            EdgeKind::Inner => subblock_filter(is_high(self.hev, line), line),
-            EdgeKind::Macroblock => macroblock_filter(is_high(self.hev, line), line),
-        }
-    }
-
     /// Filters one line. A line that the filter mask excludes is unchanged.
     #[tactic(auto, unfolding(crate::specs::LineSteps::stepped))]
     pub fn apply(self, line: Line) -> Line
         ensures { result ≡ stepped self line }
     {
-        if self.is_changed(line) {
-            self.changed(line)
-        } else {
-            line
+        let small = is_small_step(self.limit, line);
+        let smooth = small && is_smooth(self.interior, line);
+        let high = is_high(self.hev, line);
+        match self.kind {
+            EdgeKind::Simple if small => common_adjust(true, line),
+            EdgeKind::Inner if smooth => subblock_filter(high, line),
+            EdgeKind::Macroblock if smooth => macroblock_filter(high, line),
+            _ => line,
         }
     }
 }

@@ -1,14 +1,14 @@
-use Rattle.std.proofs.Common.{◌≡◌, ◌∙◌, ◌+◌, ◌<◌, ℕ, List, [], get_or, ap, ap₂, subst, arith, length, rules, length-drop, sym}
+use Rattle.std.proofs.Common.{◌≡◌, ◌∙◌, ◌+◌, ◌<◌, ℕ, List, [], get_or, ap, ap₂, subst, arith, length, rules, length-drop}
 use Rattle.std.specs.List.{slice_range}
 use Rattle.std.proofs.lemmas.List.{length-take, places}
 use Rattle.vp_base.specs.Raster.{Raster}
 use Rattle.vp_base.specs.Image.{Image}
 use Rattle.vp_base.specs.Block.{with_block, IsWhole}
 use Rattle.vp_loop.specs.LineSteps.{stepped}
-use Rattle.vp_loop.specs.Lanes.{line_of, middle_of}
-use Rattle.vp_loop.specs.Edges.{vertical, edge_lines, line_at, pixels_of}
+use Rattle.vp_loop.specs.Lanes.{line_of, middle_of, pixels_of}
+use Rattle.vp_loop.specs.Edges.{vertical, edge_lines, line_at}
 use Rattle.vp_loop.proofs.StepLemmas.{width-edge_lines, height-edge_lines}
-use Rattle.vp_loop.proofs.WriteLemmas.{rows_vertical, turned_line, inner_vertical}
+use Rattle.vp_loop.proofs.WriteLemmas.{rows_vertical, turned_line}
 use Rattle.vp_loop.proofs.StillLemmas.{still_vertical, still_line}
 use Rattle.vp_loop.proofs.KeptLemmas.{middles_vertical, is_set}
 use Rattle.vp_loop.proofs.edges.filter_vertical_chroma_edge.Goals as goal

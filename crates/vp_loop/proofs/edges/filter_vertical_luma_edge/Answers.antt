@@ -3,8 +3,8 @@ use Rattle.vp_base.specs.Raster.{Raster}
 use Rattle.vp_base.specs.Image.{Image}
 use Rattle.vp_base.specs.Block.{IsWhole}
 use Rattle.vp_loop.specs.LineSteps.{stepped}
-use Rattle.vp_loop.specs.Lanes.{line_of, middle_of}
-use Rattle.vp_loop.specs.Edges.{vertical, line_at, pixels_of}
+use Rattle.vp_loop.specs.Lanes.{line_of, middle_of, pixels_of}
+use Rattle.vp_loop.specs.Edges.{vertical, line_at}
 use Rattle.vp_loop.proofs.StepLemmas.{width-edge_lines, height-edge_lines}
 use Rattle.vp_loop.proofs.WriteLemmas.{rows_vertical, turned_line}
 use Rattle.vp_loop.proofs.StillLemmas.{still_vertical, still_line}
