@@ -113,21 +113,22 @@ def key_sub_probabilities(above_, left_): return T.KEY_SUB_PROBABILITIES[SUB_NUM
 # ---- vp_head/specs/Rows.antt
 def flag(s): return read(128, s)
 def magnitude(n, s): return literal(n, s) * (-1 if flag(s) else 1)
-def optional_signed(n, otherwise, s): return magnitude(n, s) if flag(s) else otherwise
-def renewed(p, otherwise, s): return literal(8, s) if read(p, s) else otherwise
-def three(row, s): return [row(s) for _ in range(3)]
-def four(row, s): return [row(s) for _ in range(4)]
-def four_signed(n, old, s): return [optional_signed(n, x, s) for x in old]
+def flagged(p, m, otherwise, s): return m(s) if read(p, s) else otherwise
+def optional_signed(n, otherwise, s): return flagged(128, lambda s: magnitude(n, s), otherwise, s)
+def renewed(p, otherwise, s): return flagged(p, lambda s: literal(8, s), otherwise, s)
+def list_of(n, row, s): return [row(i, s) for i in range(n)]
+def four_signed(n, old, s): return list_of(4, lambda i, s: optional_signed(n, old[i], s), s)
 # ---- vp_head/specs/Probabilities.antt
-def context_rows(table, old, s): return each(11, lambda i, x, s: renewed(table[i], x, s), old, s)
-def band_rows(table, old, s): return each(3, lambda i, x, s: context_rows(table[i], x, s), old, s)
-def type_rows(table, old, s): return each(8, lambda i, x, s: band_rows(table[i], x, s), old, s)
-def token_probability_updates(old, s): return each(4, lambda i, x, s: type_rows(T.COEFFICIENT_UPDATES[i], x, s), old, s)
-def luma_mode_probabilities(old, s): return four(lambda s: literal(8, s), s) if flag(s) else old
-def chroma(old, s): return three(lambda s: literal(8, s), s) if flag(s) else old
-def vector_renewed(p, old, s): return (2 * literal(7, s) or 1) if read(p, s) else old
-def component_rows(table, old, s): return each(19, lambda i, x, s: vector_renewed(table[i], x, s), old, s)
-def vectors(old, s): return each(2, lambda i, x, s: component_rows(T.VECTOR_UPDATES[i], x, s), old, s)
+def token_probability_updates(old, s):
+    update = lambda type_, band, context, entry, x, s: renewed(T.COEFFICIENT_UPDATES[type_][band][context][entry], x, s)
+    return each(4, lambda t, x, s: each(8, lambda b, x, s: each(3, lambda c, x, s: each(
+        11, lambda e, x, s: update(t, b, c, e, x, s), x, s), x, s), x, s), old, s)
+def luma_mode_probabilities(old, s): return flagged(128, lambda s: list_of(4, lambda i, s: literal(8, s), s), old, s)
+def chroma(old, s): return flagged(128, lambda s: list_of(3, lambda i, s: literal(8, s), s), old, s)
+def seven_bits(s): return 2 * literal(7, s) or 1
+def vector_renewed(p, old, s): return flagged(p, seven_bits, old, s)
+def vectors(old, s):
+    return each(2, lambda i, x, s: each(19, lambda e, x, s: vector_renewed(T.VECTOR_UPDATES[i][e], x, s), x, s), old, s)
 # ---- vp_head/specs/Saved.antt
 FOUR_ZEROS = [0, 0, 0, 0]
 DEFAULTS = R(
@@ -140,9 +141,9 @@ def kept_after(kept, h):
     return R(probabilities=probabilities, segments=h.segmentation.values, deltas=h.deltas, biases=h.biases)
 # ---- vp_head/specs/Header.antt. Python too evaluates the fields of a record in the order in which they are written.
 def segment_values(s):
-    return R(absolute=flag(s), quantisers=four(lambda s: optional_signed(7, 0, s), s),
-             levels=four(lambda s: optional_signed(6, 0, s), s))
-def tree_probabilities(s): return three(lambda s: renewed(128, 255, s), s)
+    return R(absolute=flag(s), quantisers=list_of(4, lambda i, s: optional_signed(7, 0, s), s),
+             levels=list_of(4, lambda i, s: optional_signed(6, 0, s), s))
+def tree_probabilities(s): return list_of(3, lambda i, s: renewed(128, 255, s), s)
 def segmentation(kept, s):
     enabled = flag(s)
     update_map, update_data = (flag(s), flag(s)) if enabled else (False, False)
@@ -167,7 +168,7 @@ def refreshes(key, kept, s):
     entropy = flag(s)
     h.refresh_last = True if key else flag(s)
     return h, biases, entropy
-def skip(s): return literal(8, s) if flag(s) else None
+def skip(s): return flagged(128, lambda s: literal(8, s), None, s)
 def reference_probabilities(s): return R(intra=literal(8, s), last=literal(8, s), golden=literal(8, s))
 def frame(key, kept, s):
     h, old = R(key=key), kept.probabilities
@@ -581,15 +582,16 @@ def macroblock_edge_filtered(high, l):
     a = filter_value(True, l)
     w9, w18, w27 = (clamp8(a * k + 63 >> 7) for k in (9, 18, 27))  # weighted_filter_value
     return [pixel_from(signed(n) + w) for n, w in zip(l, (0, w9, w18, w27, -w27, -w18, -w9, 0))]
-def is_changed(step_, l):
-    return is_small_step(step_.limit, l) and (step_.kind == "Simple" or is_smooth(step_.interior, l))
-def filtered_line(step_, l):
-    if step_.kind == "Simple": return common_adjusted(True, l)
-    return (subblock_edge_filtered if step_.kind == "Inner" else macroblock_edge_filtered)(is_high(step_.hev, l), l)
+def stepped(step_, l):
+    small = is_small_step(step_.limit, l)
+    smooth = small and (step_.kind == "Simple" or is_smooth(step_.interior, l))
+    if step_.kind == "Simple": return common_adjusted(True, l) if small else l
+    if step_.kind == "Inner": return subblock_edge_filtered(is_high(step_.hev, l), l) if smooth else l
+    return macroblock_edge_filtered(is_high(step_.hev, l), l) if smooth else l
 # ---- vp_loop/specs/Edges.antt
 def line_step(step_, across, i, p):  # i is the index of p3, and across the distance to p2
     line = p.pixels[i : i + 7 * across + 1 : across]
-    if is_changed(step_, line): p.pixels[i : i + 7 * across + 1 : across] = bytes(filtered_line(step_, line))
+    if (new := stepped(step_, line)) is not line: p.pixels[i : i + 7 * across + 1 : across] = bytes(new)
 def edge_lines(orientation, step_, n, x, y, p):
     across, along = (1, p.width) if orientation == "vertical" else (p.width, 1)
     for j in range(n): line_step(step_, across, pixel_index(p, x, y) + j * along, p)
@@ -602,14 +604,16 @@ STEP_KINDS = {"Simple": ("Simple", "Simple"), "Normal": ("Macroblock", "Inner")}
 def outer_step(limits):
     return R(kind=STEP_KINDS[limits.kind][0], limit=limits.outer, interior=limits.interior, hev=limits.hev)
 def inner_step(limits, limit): return but(outer_step(limits), limit=limit, kind=STEP_KINDS[limits.kind][1])
+def own_edge(orientation, step_, size_, x, y, p):
+    if orientation == "vertical" and x > 0: edge_lines(orientation, step_, size_, x - 4, y, p)
+    if orientation == "horizontal" and y > 0: edge_lines(orientation, step_, size_, x, y - 4, p)
 def inner_edges(orientation, step_, size_, x, y, p):
     for i in range(0, size_ - 4, 4):
         edge_lines(orientation, step_, size_, *((x + i, y) if orientation == "vertical" else (x, y + i)), p)
 def edges_inside(orientation, limits, size_, x, y, p):
     if limits.inner is not None: inner_edges(orientation, inner_step(limits, limits.inner), size_, x, y, p)
 def block_edges(orientation, size_, limits, x, y, p):
-    if orientation == "vertical" and x > 0: edge_lines(orientation, outer_step(limits), size_, x - 4, y, p)
-    if orientation == "horizontal" and y > 0: edge_lines(orientation, outer_step(limits), size_, x, y - 4, p)
+    own_edge(orientation, outer_step(limits), size_, x, y, p)
     edges_inside(orientation, limits, size_, x, y, p)
 def block_filtered(size_, limits, x, y, p):
     for orientation in ("vertical", "horizontal") if limits else []: block_edges(orientation, size_, limits, x, y, p)

@@ -33,15 +33,12 @@ by_four_signed n old = search (by_parts, by_optional_signed) depth 12
 -- ---- probabilities
 
 by_context_rows : (table row : List ℕ) → ReadsBools (context_rows table row)
-unfolding context_rows
 by_context_rows table row = by_each _ 11 (entry_at table) row (λ i x. by_renewed _ x)
 
 by_band_rows : (table row : List (List ℕ)) → ReadsBools (band_rows table row)
-unfolding band_rows
 by_band_rows table row = by_each _ 3 (context_at table) row (λ i x. by_context_rows _ x)
 
 by_type_rows : (table row : List (List (List ℕ))) → ReadsBools (type_rows table row)
-unfolding type_rows
 by_type_rows table row = by_each _ 8 (band_at table) row (λ i x. by_band_rows _ x)
 
 by_token_probability_updates : (row : List (List (List (List ℕ)))) → ReadsBools (token_probability_updates row)
@@ -61,7 +58,6 @@ unfolding vector_renewed
 by_vector_renewed p old = search by_parts
 
 by_component_rows : (table row : List ℕ) → ReadsBools (component_rows table row)
-unfolding component_rows
 by_component_rows table row = by_each _ 19 (vector_entry_at table) row (λ i x. by_vector_renewed _ x)
 
 by_vectors : (row : List (List ℕ)) → ReadsBools (vectors row)

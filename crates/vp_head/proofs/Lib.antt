@@ -7,3 +7,4 @@ pub mod Mixed
 pub mod Halves
 pub mod TailLemmas
 pub mod SpelledLemmas
+pub mod Restated

@@ -1,6 +1,25 @@
--- Short lists, item by item, and a list that is replaced from the front.
+-- Short lists, item by item, also as they are written, and a list that is replaced from the front.
 use Rattle.std.proofs.Common.{◌≡◌, ℕ, ℤ, pos, zero, suc, ◌<◌, List, [], ◌∷◌, length, refl, ap, arith}
 use Rattle.std.specs.Prelude.{slice_index_or, slice_set}
+use Rattle.vp_bool.specs.Reader.{Reader}
+use Rattle.vp_bool.specs.Intervals.{Interval}
+use Rattle.vp_bool.specs.Writing.{Writes}
+use Rattle.vp_bool.proofs.WritingLemmas.{Writes-then, Continues-none}
+use Rattle.vp_head.specs.Rows.{list_of}
+
+-- a list whose items were written in order
+list_written : {A : Type 0} (n : ℕ) (row : ℕ → Reader A) {old mid new : Interval} {a : A} {xs : List A}
+    → Writes (row 0) old mid a → Writes (list_of n (λ i. row (suc i))) mid new xs → Writes (list_of (suc n) row) old new (a ∷ xs)
+list_written n row first others = Writes-then _ first (Writes-then _ others (Continues-none _ _))
+
+pub three_written : {A : Type 0} (row : ℕ → Reader A) {i j k l : Interval} {a b c : A} → Writes (row 0) i j a → Writes (row 1) j k b → Writes (row 2) k l c
+    → Writes (list_of 3 row) i l (a ∷ b ∷ c ∷ [])
+three_written row x y z =
+    list_written 2 row x (list_written 1 (λ i. row (suc i)) y (list_written 0 (λ i. row (suc (suc i))) z (Continues-none _ _)))
+
+pub four_written : {A : Type 0} (row : ℕ → Reader A) {i j k l m : Interval} {a b c e : A} → Writes (row 0) i j a → Writes (row 1) j k b → Writes (row 2) k l c → Writes (row 3) l m e
+    → Writes (list_of 4 row) i m (a ∷ b ∷ c ∷ e ∷ [])
+four_written row w x y z = list_written 3 row w (three_written (λ i. row (suc i)) x y z)
 
 pub three_are : (xs : List ℕ) → length xs ≡ 3 → slice_index_or xs 0 0 ∷ slice_index_or xs 1 0 ∷ slice_index_or xs 2 0 ∷ [] ≡ xs
 three_are [] h = absurd (omega arith)

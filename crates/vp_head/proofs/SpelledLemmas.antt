@@ -6,7 +6,7 @@ use Rattle.vp_bool.specs.Bools.{State, read, literal}
 use Rattle.vp_bool.specs.Reader.{Reader, bind, when, each}
 use Rattle.vp_head.specs.Rows.{magnitude, optional_signed, four_signed}
 use Rattle.vp_head.specs.Saved.{defaults}
-use Rattle.vp_head.specs.Probabilities.{vector_renewed, vector_entry_at, component_rows, component_at, vectors, seven_bits, luma_mode_probabilities, chroma}
+use Rattle.vp_head.specs.Probabilities.{vector_renewed, vector_entry_at, component_at, vectors, seven_bits, luma_mode_probabilities, chroma}
 use Rattle.vp_head.specs.Header.{segment_values, tree_probabilities, segmentation, filter, all_deltas, level_deltas, quantiser_indices, copy, refreshes, reference_probabilities, no_references, frame, frame_and_kept, header}
 use Rattle.vp_head.specs.Spelled.{IsSigned, AreSigned, AreSegmentValues, IsSegmentation, IsFilter, AreDeltas, IsQuantiser, AreUpdates, IsVectorProbability, AreVectorProbabilities, IsWritableHeader, IsWritableInPacket}
 use Rattle.vp_head.specs.declared.fields.SegmentValues.{SegmentValues}
@@ -185,7 +185,6 @@ abbrev AreComponents : List ℕ → List ℕ → Type 0
 AreComponents old new = (j : ℕ) → IsVectorProbability (slice_index old j) (slice_index new j)
 
 component-spelled : (table : List (List ℕ)) (i : ℕ) (old : List ℕ) (s : State) → AreComponents old (component_at table i old s).0
-unfolding component_rows
 component-spelled table i old s =
     let row = slice_index_or table i [] in
     each-all 0 IsVectorProbability (vector_entry_at row) stays (vector_entry-spelled row) 19 old s

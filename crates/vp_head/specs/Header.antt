@@ -4,7 +4,7 @@ use Rattle.std.specs.Prelude.{ℕ, zero, suc, pos, Bool, true, false, not, List,
 use Rattle.std.specs.Prelude.{if◌then◌else◌}
 use Rattle.vp_bool.specs.Bools.{literal}
 use Rattle.vp_bool.specs.Reader.{Reader, ◌>>=◌, give, when}
-use Rattle.vp_head.specs.Rows.{flag, optional_signed, renewed, three, four, four_signed}
+use Rattle.vp_head.specs.Rows.{flag, flagged, list_of, optional_signed, renewed, four_signed}
 use Rattle.vp_head.specs.Probabilities.{token_probability_updates, luma_mode_probabilities, chroma, vectors}
 use Rattle.vp_head.specs.Saved.{defaults, kept_after}
 use Rattle.vp_head.specs.declared.fields.Tag.{Tag}
@@ -28,13 +28,13 @@ use Rattle.vp_head.specs.declared.rows.Refreshes.{Refreshes}
 unfoldable pub segment_values : Reader SegmentValues
 segment_values = do
   absolute ← flag
-  quantisers ← four (optional_signed 7 (pos 0))
-  levels ← four (optional_signed 6 (pos 0))
+  quantisers ← list_of 4 (λ i. optional_signed 7 (pos 0))
+  levels ← list_of 4 (λ i. optional_signed 6 (pos 0))
   give (record { absolute = absolute; quantisers = quantisers; levels = levels })
 
 -- three times `segment_prob`
 unfoldable pub tree_probabilities : Reader (List ℕ)
-tree_probabilities = three (renewed 128 255)
+tree_probabilities = list_of 3 (λ i. renewed 128 255)
 
 -- `segmentation_enabled`, `update_mb_segmentation_map`, `update_segment_feature_data`
 unfoldable pub segmentation : SegmentValues → Reader Segmentation
@@ -89,16 +89,11 @@ quantiser_indices = do
 
 -- the reference that a code of two bits copies: 1 is last, and 2 is the other one of golden and altref
 abbrev pub copy_of : ℕ → ReferenceCopy
-copy_of zero = Nothing
-copy_of (suc zero) = Last
-copy_of (suc (suc zero)) = Other
-copy_of (suc (suc (suc n))) = Unused
+copy_of number = elim number [ zero ↦ Nothing | suc zero ↦ Last | suc (suc zero) ↦ Other | n ↦ Unused ]
 
 -- `copy_buffer_to_golden`, `copy_buffer_to_alternate`
 unfoldable pub copy : Reader ReferenceCopy
-copy = do
-  number ← literal 2
-  give (copy_of number)
+copy = literal 2 >>= λ number. give (copy_of number)
 
 -- the updates of reference frames, sign biases and probabilities: `refresh_golden_frame`, `refresh_alternate_frame`,
 -- the copies, `sign_bias_golden`, `sign_bias_alternate`, `refresh_entropy_probs`, `refresh_last`
@@ -112,28 +107,24 @@ refreshes key kept = do
   bias_alt ← when (not key) flag kept.alt
   entropy ← flag
   refresh_last ← when (not key) flag true
-  give (
-      record {
-        updates = record {
-          refresh_golden = refresh_golden;
-          refresh_alt = refresh_alt;
-          copy_to_golden = copy_to_golden;
-          copy_to_alt = copy_to_alt;
-          refresh_last = refresh_last;
-        };
-        biases = record { golden = bias_golden; alt = bias_alt };
-        entropy = entropy;
-      }
-      )
+  give (record {
+    updates = record {
+      refresh_golden = refresh_golden;
+      refresh_alt = refresh_alt;
+      copy_to_golden = copy_to_golden;
+      copy_to_alt = copy_to_alt;
+      refresh_last = refresh_last;
+    };
+    biases = record { golden = bias_golden; alt = bias_alt };
+    entropy = entropy;
+  })
 
 -- ---- skipping (chapters 9.10, 9.11)
 
 -- the probability that a macroblock is not skipped (`prob_skip_false`); None if skipping is not coded
 -- (`mb_no_coeff_skip`)
 unfoldable pub skip : Reader (Option ℕ)
-skip = do
-  coded ← flag
-  when coded (literal 8 >>= λ p. give (Some p)) None
+skip = flagged 128 (literal 8 >>= λ p. give (Some p)) None
 
 -- ---- probabilities of inter frames (chapters 9.10, 16.1, 17.2)
 
@@ -168,31 +159,27 @@ frame key kept = do
   luma ← when (not key) (luma_mode_probabilities kept.probabilities.luma) kept.probabilities.luma
   chroma ← when (not key) (chroma kept.probabilities.chroma) kept.probabilities.chroma
   vectors ← when (not key) (vectors kept.probabilities.vectors) kept.probabilities.vectors
-  give (
-      record {
-        key = key;
-        color_space = color_space;
-        clamping_type = clamping_type;
-        segmentation = segmentation;
-        filter = filter;
-        deltas_enabled = deltas.0;
-        deltas = deltas.1;
-        log2_partitions = log2_partitions;
-        quantiser = quantiser;
-        updates = refreshes.updates;
-        biases = refreshes.biases;
-        refresh_entropy = refreshes.entropy;
-        probabilities = record { coefficients = coefficients; vectors = vectors; luma = luma; chroma = chroma };
-        skip = skip;
-        references = references;
-      }
-      )
+  give (record {
+    key = key;
+    color_space = color_space;
+    clamping_type = clamping_type;
+    segmentation = segmentation;
+    filter = filter;
+    deltas_enabled = deltas.0;
+    deltas = deltas.1;
+    log2_partitions = log2_partitions;
+    quantiser = quantiser;
+    updates = refreshes.updates;
+    biases = refreshes.biases;
+    refresh_entropy = refreshes.entropy;
+    probabilities = record { coefficients = coefficients; vectors = vectors; luma = luma; chroma = chroma };
+    skip = skip;
+    references = references;
+  })
 
 -- the header, and the saved state after it
 unfoldable pub frame_and_kept : Bool → Saved → Reader (Header × Saved)
-frame_and_kept key kept = do
-  h ← frame key kept
-  give (h, kept_after kept h)
+frame_and_kept key kept = frame key kept >>= λ h. give (h, kept_after kept h)
 
 -- the header of a packet with this tag, and the saved state after it; a key frame starts from the defaults
 unfoldable pub header : Saved → Tag → Reader (Header × Saved)

@@ -6,6 +6,4 @@ use Rattle.vp_head.specs.declared.fields.Reference.TheVariants as reference_is
 -- whether the macroblock is predicted from its own frame
 abbrev pub is_intra : Reference → Bool
 is_intra reference_is.Intra = true
-is_intra reference_is.Last = false
-is_intra reference_is.Golden = false
-is_intra reference_is.Alt = false
+is_intra reference = false

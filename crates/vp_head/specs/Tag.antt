@@ -1,6 +1,6 @@
 -- The frame tag and the key frame's start code and size, with the faults in their order (RFC 6386, chapters 9.1 and
 -- 19.1). Pinned by the tests `packet_faults`, `size_limits` and `truncated_before_start_code`.
-use Rattle.std.specs.Prelude.{◌≡◌, ℕ, zero, suc, ◌+◌, ◌*◌, ◌/◌, ◌%◌, ◌^◌, ◌≤◌, ◌==◌, ◌&&◌, Bool, nat_lt, List, length}
+use Rattle.std.specs.Prelude.{◌≡◌, ℕ, suc, ◌+◌, ◌*◌, ◌/◌, ◌%◌, ◌^◌, ◌≤◌, ◌==◌, ◌&&◌, Bool, nat_lt, List, length}
 use Rattle.std.specs.Prelude.{slice_index, Option, Some, None, Result, Ok, Err, if◌then◌else◌}
 use Rattle.vp_base.specs.declared.limits.Dim.{Dim}
 use Rattle.vp_base.specs.declared.limits.Limits.{Limits}
@@ -28,9 +28,8 @@ has_start_code packet = slice_index packet 3 == 0x9d && slice_index packet 4 == 
 
 -- the size of two sides of at most 14 bits; None if one is 0 (p and q are proofs of the range, which `Dim` has too)
 abbrev pub dim_of : (w h : ℕ) → w ≤ 16383 → h ≤ 16383 → Option Dim
-dim_of zero h p q = None
-dim_of (suc w) zero p q = None
 dim_of (suc w) (suc h) p q = Some (record { w = suc w; h = suc h; w_in_range = is_side w p; h_in_range = is_side h q })
+dim_of w h p q = None
 
 -- a size if it is valid and within the limits
 abbrev pub dim_within_limits : Limits → Option Dim → Result Dim PacketFault
@@ -45,11 +44,8 @@ tag_dim width height = dim_of (bit_field 0 14 width) (bit_field 0 14 height) (is
 -- the size, and the upscaling codes in the top two bits of both words (`horizontal_size_code`, `vertical_size_code`)
 abbrev pub key_with : ℕ → ℕ → Result Dim PacketFault → Result KeyTag PacketFault
 key_with width height (Err fault) = Err fault
-key_with width height (Ok dim) = Ok (record {
-  dim = dim;
-  horizontal_scale = bit_field 14 2 width;
-  vertical_scale = bit_field 14 2 height;
-})
+key_with width height (Ok dim) =
+    Ok (record { dim = dim; horizontal_scale = bit_field 14 2 width; vertical_scale = bit_field 14 2 height })
 
 -- the further fields of a key packet
 unfoldable pub key_of : Limits → List ℕ → Result KeyTag PacketFault
@@ -83,9 +79,7 @@ tag_of_word limits word packet =
 
 -- the tag of a packet, or its first fault
 unfoldable pub tag_of : Limits → List ℕ → Result Tag PacketFault
-tag_of limits packet =
-    if nat_lt (length packet) 3 then Err Truncated
-    else tag_of_word limits (tag_word packet) packet
+tag_of limits packet = if nat_lt (length packet) 3 then Err Truncated else tag_of_word limits (tag_word packet) packet
 
 -- ---- which packets are key packets
 

@@ -1,6 +1,6 @@
 use Rattle.std.proofs.Common.{◌≡◌, ◌∙◌, arith, length-set}
 use Rattle.vp_bool.proofs.ReaderLemmas.{each-more, each-none, gives}
-use Rattle.vp_head.specs.Probabilities.{vector_entry_at, component_rows}
+use Rattle.vp_head.specs.Probabilities.{vector_entry_at}
 use Rattle.vp_head.proofs.probabilities.read_component.Goals as goal
 
 pub loop-i-init : goal.loop-i-init
@@ -13,7 +13,6 @@ loop-i-preserved c = record {
 }
 
 pub returns : goal.returns
-unfolding component_rows
 returns c =
     let e : c.loop-i.i ≡ 19 = omega arith in
     let h = gives _ _ _ (rw e at c.loop-i.invariant.so_far) in

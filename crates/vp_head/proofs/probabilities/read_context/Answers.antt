@@ -1,18 +1,14 @@
-use Rattle.std.proofs.Common.{◌≡◌, ◌∙◌, ap, sym}
-use Rattle.vp_bool.specs.Reader.{each}
 use Rattle.vp_bool.proofs.ReaderLemmas.{each-none, gives, Gives}
-use Rattle.vp_head.specs.Probabilities.{entry_at, context_rows}
+use Rattle.vp_head.specs.Probabilities.{context_rows}
 use Rattle.vp_head.proofs.probabilities.read_context.Goals as goal
 use Rattle.vp_head.proofs.probabilities.read_context.Goals.{After-read_entries-then-not-pass_tail, Else-not-pass_tail}
 
 one_by_one : (c : After-read_entries-then-not-pass_tail) → Gives (context_rows c.args.table.now c.args.old.now c.args.d.now) c.read_entries-then-not-pass_tail.new.old c.read_entries-then-not-pass_tail.new.d
-unfolding context_rows
 one_by_one c =
     let first = c.read_entries.ensures c.args.old.now c.args.d.now (rw (c.copy-own.ensures) (each-none _ _ _ _)) in
     gives _ _ _ (c.read_entries-then-not-pass_tail.ensures c.args.old.now c.args.d.now (rw (c.pass_tail.ensures.kept c.if-not-pass_tail.true) first))
 
 at_once : (c : Else-not-pass_tail) → Gives (context_rows c.args.table.now c.args.old.now c.args.d.now) c.read_entries.new.old c.pass_tail.new.d
-unfolding context_rows
 at_once c =
     let first = c.read_entries.ensures c.args.old.now c.args.d.now (rw (c.copy-own.ensures) (each-none _ _ _ _)) in
     gives _ _ _ (c.pass_tail.ensures.passed c.if-not-pass_tail.false c.args.old.now _ c.args.d.now first)

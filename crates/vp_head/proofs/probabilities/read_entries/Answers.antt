@@ -1,5 +1,4 @@
 use Rattle.std.proofs.Common.{◌≡◌, ◌∙◌, arith, length-set}
-use Rattle.vp_bool.specs.Reader.{each}
 use Rattle.vp_bool.proofs.ReaderLemmas.{each-more}
 use Rattle.vp_head.specs.Probabilities.{entry_at}
 use Rattle.vp_head.proofs.probabilities.read_entries.Goals as goal

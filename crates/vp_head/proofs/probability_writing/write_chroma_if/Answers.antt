@@ -1,8 +1,9 @@
 use Rattle.std.proofs.Common.{◌≡◌, sym}
 use Rattle.std.specs.Cmp.Lexicographic.{same_text}
-use Rattle.vp_bool.proofs.WritingLemmas.{Writes-then, Continues-given}
+use Rattle.vp_bool.specs.Bools.{literal}
+use Rattle.vp_bool.proofs.WritingLemmas.{Writes-then, Continues-then, Continues-given}
 use Rattle.vp_head.specs.Probabilities.{chroma}
-use Rattle.vp_head.proofs.Mixed.{three_are}
+use Rattle.vp_head.proofs.Mixed.{three_are, three_written}
 use Rattle.vp_head.proofs.Signs.{yes_of}
 use Rattle.vp_head.proofs.probability_writing.write_chroma_if.Goals as goal
 
@@ -22,7 +23,5 @@ returns c =
     let w = rw c.if-not-update.false at c.in_ok-write.ensures.reads in
     rw c.if-not-asked.false
     (Writes-then _ w
-    (Writes-then _ c.in_ok-literal.ensures.reads
-    (Writes-then _ c.in_ok-literal-2.ensures.reads
-    (Writes-then _ c.in_ok-literal-3.ensures.reads
-    (Continues-given (three_are c.args.new.now c.told-new) _)))))
+    (Continues-then (three_written (λ i. literal 8) c.in_ok-literal.ensures.reads c.in_ok-literal-2.ensures.reads c.in_ok-literal-3.ensures.reads)
+    (Continues-given (three_are c.args.new.now c.told-new) _)))

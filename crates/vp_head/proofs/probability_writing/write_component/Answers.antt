@@ -1,6 +1,6 @@
 use Rattle.std.proofs.Common.{◌≡◌, arith, add-one, get_or}
 use Rattle.vp_bool.proofs.WritingLemmas.{each-written, each-unwritten}
-use Rattle.vp_head.specs.Probabilities.{vector_entry_at, component_rows}
+use Rattle.vp_head.specs.Probabilities.{vector_entry_at}
 use Rattle.vp_head.proofs.Mixed.{mixed-at, mixed-more, mixed-all}
 use Rattle.vp_head.proofs.probability_writing.write_component.Goals as goal
 
@@ -14,7 +14,6 @@ loop-i-preserved c =
     each-written 0 c.loop-i.i (vector_entry_at c.args.table.now) c.args.old.now _ _ (get_or c.args.new.now c.loop-i.i 0) c.loop-i.invariant (rw at c.in_ok-write_vector_renewed.ensures) (rw add-one more)
 
 pub returns : goal.returns
-unfolding component_rows
 returns c =
     let e : c.loop-i.i ≡ 19 = omega arith in
     let all = mixed-all 19 c.args.new.now c.args.old.now c.told-new c.told-old in

@@ -1,6 +1,6 @@
 use Rattle.std.proofs.Common.{◌≡◌, [], arith, add-one, get_or}
 use Rattle.vp_bool.proofs.WritingLemmas.{each-written, each-unwritten}
-use Rattle.vp_head.specs.Probabilities.{band_at, type_rows}
+use Rattle.vp_head.specs.Probabilities.{band_at}
 use Rattle.vp_head.proofs.Mixed.{mixed-at, mixed-more, mixed-all}
 use Rattle.vp_head.proofs.probability_writing.write_type.Goals as goal
 
@@ -14,7 +14,6 @@ loop-i-preserved c =
     each-written [] c.loop-i.i (band_at c.args.table.now) c.args.old.now _ _ (get_or c.args.new.now c.loop-i.i []) c.loop-i.invariant (rw at c.in_ok-write_band.ensures) (rw add-one more)
 
 pub returns : goal.returns
-unfolding type_rows
 returns c =
     let e : c.loop-i.i ≡ 8 = omega arith in
     let all = mixed-all 8 c.args.new.now c.args.old.now c.told-new c.told-old in

@@ -1,9 +1,9 @@
 use Rattle.std.proofs.Common.{get_or, pos, rules}
 use mir.Syntax.{w8}
 use mir.Val.{SFits}
-use Rattle.vp_bool.proofs.WritingLemmas.{Writes-then, Continues-given}
-use Rattle.vp_head.specs.Rows.{four_signed}
-use Rattle.vp_head.proofs.Mixed.{four_signed_are}
+use Rattle.vp_bool.proofs.WritingLemmas.{Continues-then, Continues-given}
+use Rattle.vp_head.specs.Rows.{optional_signed, four_signed}
+use Rattle.vp_head.proofs.Mixed.{four_signed_are, four_written}
 use Rattle.vp_head.proofs.Signs.{read}
 use Rattle.vp_head.proofs.row_writing.write_four_signed.Goals as goal
 
@@ -24,5 +24,5 @@ returns c =
     let w1 = rw (read (get_or o 1 (pos 0)) f1) at c.in_ok-write_signed-2.ensures in
     let w2 = rw (read (get_or o 2 (pos 0)) f2) at c.in_ok-write_signed-3.ensures in
     let w3 = rw (read (get_or o 3 (pos 0)) f3) at c.in_ok-write_signed-4.ensures in
-    Writes-then _ w0
-    (Writes-then _ w1 (Writes-then _ w2 (Writes-then _ w3 (Continues-given (four_signed_are n _ _ _ _ c.told-new (read _ g0) (read _ g1) (read _ g2) (read _ g3)) _))))
+    Continues-then (four_written (λ i. optional_signed c.args.bits (get_or o i (pos 0))) w0 w1 w2 w3)
+    (Continues-given (four_signed_are n _ _ _ _ c.told-new (read _ g0) (read _ g1) (read _ g2) (read _ g3)) _)
