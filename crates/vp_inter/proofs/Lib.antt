@@ -8,3 +8,4 @@ pub mod LongLanes
 pub mod WideLemmas
 pub mod FilteredLemmas
 pub mod ShortLemmas
+pub mod StripLemmas

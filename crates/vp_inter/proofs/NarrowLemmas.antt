@@ -72,22 +72,6 @@ whole_fits weights a b c d e f g pa pb pc pd pe pf =
     let rf = raised_in f (weight weights 5) pf g.6.0 in
     (omega (arith, ints), omega (arith, ints))
 
--- pixels side by side, by twos
-pub near_fits : (weights : List ℤ) (a b c d e f : ℕ) → SumsFitI16 weights → a < 256 → b < 256 → c < 256 → d < 256 → e < 256 → f < 256
-    → IsShort (pair b c (weight weights 1) (weight weights 2) -ℤ pos 16320) × IsShort (pair b c (weight weights 1) (weight weights 2) -ℤ pos 16320 +ℤ pair d e (weight weights 3) (weight weights 4))
-    × IsShort (pair a b (weight weights 0) (pos 0) +ℤ pair e f (pos 0) (weight weights 5)) × IsShort (pair b c (weight weights 1) (weight weights 2) -ℤ pos 16320 +ℤ pair d e (weight weights 3) (weight weights 4) +ℤ (pair a b (weight weights 0) (pos 0) +ℤ pair e f (pos 0) (weight weights 5)))
-near_fits weights a b c d e f g pa pb pc pd pe pf =
-    let ra = raised_in a (weight weights 0) pa g.0.0 in
-    let rb = lowered_in b (weight weights 1) pb g.1.1 in
-    let rc = raised_in c (weight weights 2) pc g.2.0 in
-    let rd = raised_in d (weight weights 3) pd g.3.0 in
-    let re = lowered_in e (weight weights 4) pe g.5.1 in
-    let rf = raised_in f (weight weights 5) pf g.6.0 in
-    ((omega (arith, ints), omega (arith, ints)), (omega (arith, ints), omega (arith, ints)), (omega (arith, ints), omega (arith, ints)), (omega (arith, ints), omega (arith, ints)))
-
-pub near_is : (weights : List ℤ) (pixel : ℕ → ℕ) → pair (pixel 1) (pixel 2) (weight weights 1) (weight weights 2) -ℤ pos 16320 +ℤ pair (pixel 3) (pixel 4) (weight weights 3) (weight weights 4) +ℤ (pair (pixel 0) (pixel 1) (weight weights 0) (pos 0) +ℤ pair (pixel 4) (pixel 5) (pos 0) (weight weights 5)) ≡ sum_of_six weights pixel
-near_is weights pixel = omega (arith, ints)
-
 -- rows three apart, by twos
 pub far_fits : (weights : List ℤ) (a b c d e f : ℕ) → SumsFitI16 weights → a < 256 → b < 256 → c < 256 → d < 256 → e < 256 → f < 256
     → IsShort (pair a d (weight weights 0) (weight weights 3) -ℤ pos 16320) × IsShort (pair a d (weight weights 0) (weight weights 3) -ℤ pos 16320 +ℤ pair b e (weight weights 1) (weight weights 4))

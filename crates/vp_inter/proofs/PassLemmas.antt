@@ -10,6 +10,22 @@ use Rattle.vp_inter.specs.Filter.{taps, filter_six}
 use Rattle.vp_inter.specs.Inter.{reference_pixel, horizontal_pass, inter_pixel}
 use Rattle.vp_inter.proofs.FilterLemmas.{filter_six-whole_pixels, filtered_bound}
 
+-- one row more, of which the pixels are known
+pub row_more : (n i : ℕ) (old new : List ℕ) (value : ℕ → ℕ → ℕ)
+    → ((k c : ℕ) → k < i → c < n → get_or old (k * n + c) 0 ≡ value k c)
+    → ((c : ℕ) → c < n → get_or new (i * n + c) 0 ≡ value i c)
+    → ((j : ℕ) → j < i * n → get_or new j 0 ≡ get_or old j 0)
+    → (k c : ℕ) → k < i + 1 → c < n → get_or new (k * n + c) 0 ≡ value k c
+row_more n i old new value done here before k c kin cin =
+    elim (cases_lt k i) [
+      | inl less ↦
+          let room : k * n + n ≤ i * n = row_fits k n i n less (omega arith) in
+          before (k * n + c) (omega arith) ∙ done k c less cin
+      | inr same ↦
+          let e : k ≡ i = omega arith in
+          ap (λ (j : ℕ). get_or new (j * n + c) 0) e ∙ here c cin ∙ ap (λ (j : ℕ). value j c) (sym e)
+    ]
+
 -- one row more of a block of rows of n
 pub rows_more : (n i : ℕ) (old new row : List ℕ) (value : ℕ → ℕ → ℕ)
     → ((k c : ℕ) → k < i → c < n → get_or old (k * n + c) 0 ≡ value k c)
@@ -17,15 +33,7 @@ pub rows_more : (n i : ℕ) (old new row : List ℕ) (value : ℕ → ℕ → �
     → ((j : ℕ) → j < i * n → get_or new j 0 ≡ get_or old j 0)
     → ((c : ℕ) → c < n → get_or row c 0 ≡ value i c)
     → (k c : ℕ) → k < i + 1 → c < n → get_or new (k * n + c) 0 ≡ value k c
-rows_more n i old new row value done here before last k c kin cin =
-    elim (cases_lt k i) [
-      | inl less ↦
-          let room : k * n + n ≤ i * n = row_fits k n i n less (omega arith) in
-          before (k * n + c) (omega arith) ∙ done k c less cin
-      | inr same ↦
-          let e : k ≡ i = omega arith in
-          ap (λ (j : ℕ). get_or new (j * n + c) 0) e ∙ here c cin ∙ last c cin ∙ ap (λ (j : ℕ). value j c) (sym e)
-    ]
+rows_more n i old new row value done here before last = row_more n i old new value done (λ c cin. here c cin ∙ last c cin) before
 
 -- both passes, of weights and places that are as they should be
 pub inter_passes : (version : ℕ) (p : Raster) (x y : ℕ) (v : PlaneVector) (r c : ℕ)

@@ -4,3 +4,4 @@ pub mod Narrow
 pub mod Inter
 pub mod Turns
 pub mod Filtered
+pub mod Strips

@@ -1,21 +1,13 @@
 -- Private to the crate: six filter weights in vectors of two alternating weights.
-use Rattle.std.specs.Prelude.{◌≡◌, ◌+◌, ◌*◌, ◌/◌, ◌%◌, ◌<◌, ℕ, zero, suc, ℤ, pos, List, slice_index}
+use Rattle.std.specs.Prelude.{◌≡◌, ◌+◌, ◌*◌, ◌<◌, ℕ, zero, suc, ℤ, List, slice_index}
 use Rattle.vp_lanes.specs.Lane.{lane}
 use Rattle.vp_inter.specs.Narrow.{weight}
-use Rattle.vp_inter.specs.declared.six_tap_1d.RowWeights.{RowWeights}
 use Rattle.vp_inter.specs.declared.six_tap_1d.ColumnWeights.{ColumnWeights}
-use Rattle.vp_inter.specs.declared.six_tap_2d.Pair.{Pair}
 use Rattle.vp_inter.specs.declared.short_rows.RowFilter.{RowFilter}
 
 -- sixteen lanes with two alternating weights
 abbrev pub AreByTurns : List ℤ → ℤ → ℤ → Type 0
 AreByTurns lanes even odd = (j : ℕ) → j < 8 → (lane lanes (2 * j) ≡ even) × (lane lanes (2 * j + 1) ≡ odd)
-
--- the weight vectors for adjacent pixels
-abbrev pub AreNear : List ℤ → RowWeights → Type 0
-AreNear weights near =
-    AreByTurns near.first (weight weights 0) (pos 0) × AreByTurns near.left (weight weights 1) (weight weights 2)
-    × AreByTurns near.right (weight weights 3) (weight weights 4) × AreByTurns near.last (pos 0) (weight weights 5)
 
 -- the weight vectors for rows, in pairs three apart
 abbrev pub AreFar : List ℤ → ColumnWeights → Type 0
@@ -24,32 +16,11 @@ AreFar weights far =
     × AreByTurns far.second (weight weights 1) (weight weights 4)
     × AreByTurns far.third (weight weights 2) (weight weights 5)
 
--- the index of column c in a row whose even columns are first
-abbrev pub half_place : ℕ → ℕ
-half_place c = 8 * (c % 2) + c / 2
-
--- the index of column c of the first (0) or second (1) of two such rows that are interleaved
-abbrev pub pair_place : ℕ → ℕ → ℕ
-pair_place c t = 16 * (c % 2) + 2 * (c / 2) + t
-
 -- vector k of three
 abbrev pub one_of_three : List ℕ → List ℕ → List ℕ → ℕ → List ℕ
 one_of_three a b c zero = a
 one_of_three a b c (suc zero) = b
 one_of_three a b c (suc (suc _)) = c
-
--- A run of pairs after an unused entry: pair e interleaves row 3 e + from with the row three below.
-abbrev pub HoldsPairs : List ℕ → (ℕ → ℕ → ℕ) → ℕ → ℕ → Type 0
-HoldsPairs run pixel from count =
-    (e c t : ℕ) → e < count → c < 16 → t < 2 → slice_index run (32 * (e + 1) + pair_place c t)
-    ≡ pixel (3 * e + from + 3 * t) c
-
--- row r interleaved with the row three below: even columns, and odd ones
-abbrev pub IsPair : Pair → (ℕ → ℕ → ℕ) → ℕ → Type 0
-IsPair pair pixel r =
-    (j t : ℕ) → j < 8 → t < 2
-    → (slice_index pair.even (2 * j + t) ≡ pixel (r + 3 * t) (2 * j))
-    × (slice_index pair.odd (2 * j + t) ≡ pixel (r + 3 * t) (2 * j + 1))
 
 -- the places of a row filter are lanes of a vector of sixteen
 abbrev pub AreLanes : RowFilter → Type 0

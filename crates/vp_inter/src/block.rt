@@ -1,8 +1,7 @@
 //! Inter prediction of square blocks (RFC 6386, chapter 18).
 
-ghost use Rattle.std.specs.Prelude.{◌≡◌, ℕ, ℤ, pos, ◌+◌, ◌*◌, ◌%◌, ◌<◌, ◌≤◌, ◌+ℤ◌, length, slice_index};
-ghost use Rattle.std.specs.Prelude.{IsTrue};
-ghost use Rattle.vp_base.specs.Raster.{pixel};
+ghost use Rattle.std.specs.Prelude.{◌≡◌, ℕ, ℤ, pos, ◌+◌, ◌*◌, ◌%◌, ◌<◌, ◌≤◌, ◌+ℤ◌, length};
+ghost use Rattle.std.specs.Prelude.{slice_index, IsTrue};
 ghost use Rattle.vp_inter.specs.Filter.{filter_six};
 ghost use Rattle.vp_inter.specs.Narrow.{IsNear, OuterWeightsAreZero, SumsFitI16};
 ghost use Rattle.vp_inter.specs.Inter.{reference_pixel, horizontal_pass, inter_pixel, IsInside};
@@ -10,8 +9,9 @@ ghost use Rattle.vp_inter.specs.Inter.{reference_pixel, horizontal_pass, inter_p
 use crate::filter::{ends_are_zero, pass, seconds_are_zero, taps};
 use crate::reference::{Flat, lies_inside, pixels_are_bytes, plain_row, reference_line};
 use crate::short_rows::short_rows;
-use crate::six_tap_1d::{has_six_taps, horizontal_six_tap_16};
-use crate::six_tap_2d::six_tap_2d_block;
+use crate::six_tap_1d::has_six_taps;
+use crate::six_tap_2d::{filter_columns_of_16, filter_wide_rows, six_tap_2d_block};
+use crate::strip::filter_columns_of_8;
 use crate::vector::{PlaneVector, first_tap, fraction};
 use std::simd::prelude::*;
 use vp_base::Plane;
@@ -120,7 +120,7 @@ fn predict<const N: usize, const W: usize, const L: usize, const M: usize>(
     block
 }
 
-/// The vertical pass alone. A block of at least eight columns inside the plane is read directly from it.
+/// The vertical pass alone. A block of eight or sixteen columns inside the plane is read directly from it.
 fn pass_down<const N: usize, const W: usize, const L: usize, const M: usize>(
     pixels: &mut [u8],
     plane: &Plane,
@@ -142,66 +142,16 @@ fn pass_down<const N: usize, const W: usize, const L: usize, const M: usize>(
     ensures { (r c : ℕ) → r < N → c < N → slice_index pixels.new (r * N + c) ≡ filter_six weights.now
         (λ k. reference_pixel plane.now (left +ℤ pos c) (top +ℤ pos (r + k))) }
 {
-    if N >= 8 && lies_inside(plane, left, top, N, W) {
-        plane_columns::<N>(pixels, plane, left as usize, top as usize, weights);
+    if N == 8 && lies_inside(plane, left, top, N, W) {
+        filter_columns_of_8(pixels, plane, left as usize, top as usize, weights);
+        return;
+    }
+    if N == 16 && has_six_taps(weights) && lies_inside(plane, left, top, N, W) {
+        filter_columns_of_16(pixels, plane, left as usize, top as usize, weights);
         return;
     }
     let rows = copied_rows::<N, L>(plane, left, top, W);
     pass_columns::<N, M>(pixels, &rows, weights);
-}
-
-/// The vertical pass over the pixels of a plane, of which the first is at column `left` of row `top`.
-#[inline(never)]
-fn plane_columns<const N: usize>(
-    pixels: &mut [u8],
-    plane: &Plane,
-    left: usize,
-    top: usize,
-    weights: &[i16; 6],
-)
-    requires size { N ≤ 16 }
-    requires whole { length pixels.old ≡ N * N }
-    requires columns { left + N ≤ plane.now.width }
-    requires rows { top + N + 5 ≤ plane.now.height }
-    requires gentle { SumsFitI16 weights.now }
-    ensures { (r c : ℕ) → r < N → c < N → slice_index pixels.new (r * N + c)
-        ≡ filter_six weights.now (λ k. pixel plane.now (left + c) (top + (r + k))) }
-{
-    if !ends_are_zero(weights) {
-        plane_columns_by_taps::<N, 6>(pixels, plane, left, top, weights);
-    } else if !seconds_are_zero(weights) {
-        plane_columns_by_taps::<N, 4>(pixels, plane, left, top, weights);
-    } else {
-        plane_columns_by_taps::<N, 2>(pixels, plane, left, top, weights);
-    }
-}
-
-/// That pass with `COUNT` nonzero weights, of which the loop reads a local copy, as `horizontal_rows` does.
-#[inline(always)]
-fn plane_columns_by_taps<const N: usize, const COUNT: usize>(
-    pixels: &mut [u8],
-    plane: &Plane,
-    left: usize,
-    top: usize,
-    weights: &[i16; 6],
-)
-    requires size { N ≤ 16 }
-    requires whole { length pixels.old ≡ N * N }
-    requires columns { left + N ≤ plane.now.width }
-    requires rows { top + N + 5 ≤ plane.now.height }
-    requires gentle { SumsFitI16 weights.now }
-    requires few { OuterWeightsAreZero weights.now COUNT }
-    ensures { (r c : ℕ) → r < N → c < N → slice_index pixels.new (r * N + c)
-        ≡ filter_six weights.now (λ k. pixel plane.now (left + c) (top + (r + k))) }
-{
-    let own = *weights;
-    let width = plane.width();
-    let _known = plane.height();
-    let from = plane.pixels();
-    for r in 0..N {
-        let row = pass::<N, COUNT>(from, (top + r) * width + left, width, &own);
-        put_lanes(pixels, r, row);
-    }
 }
 
 /// Both passes, with `W` rows of `N` pixels, `L` in all, between them. A 16x16 block with six nonzero weights in both
@@ -229,7 +179,7 @@ fn pass_both<const N: usize, const W: usize, const L: usize, const M: usize>(
     ensures { (r c : ℕ) → r < N → c < N → slice_index pixels.new (r * N + c)
         ≡ filter_six column_weights.now (λ k. horizontal_pass row_weights.now plane.now left top (r + k) c) }
 {
-    if N == 16 && has_six_taps(row_weights) && has_six_taps(column_weights) {
+    if N == 16 && plane.width() >= 16 && has_six_taps(row_weights) {
         six_tap_2d_block(pixels, plane, left, top, row_weights, column_weights);
         return;
     }
@@ -298,7 +248,7 @@ fn pass_rows<const N: usize, const W: usize>(
 /// The horizontal pass over long rows, and over rows of narrow planes. Whether the block is inside the plane, and how
 /// many weights are nonzero, is tested before the loop over the rows.
 #[inline(never)]
-fn other_rows<const N: usize, const W: usize>(
+pub(crate) fn other_rows<const N: usize, const W: usize>(
     pixels: &mut [u8],
     plane: &Plane,
     left: i32,
@@ -308,7 +258,7 @@ fn other_rows<const N: usize, const W: usize>(
 )
     requires size { N ≤ 16 }
     requires line { W ≡ N + 5 }
-    requires rows { rows ≤ 21 }
+    requires rows { rows ≤ 22 }
     requires all { length pixels.old ≡ rows * N }
     requires gentle { SumsFitI16 weights.now }
     requires columns { 0 < plane.now.width }
@@ -318,10 +268,9 @@ fn other_rows<const N: usize, const W: usize>(
     ensures { (i c : ℕ) → i < rows → c < N → slice_index pixels.new (i * N + c)
         ≡ horizontal_pass weights.now plane.now left top i c }
 {
-    let inside = lies_inside(plane, left, top, W, rows);
-    if N == 16 && has_six_taps(weights) {
-        horizontal_six_tap_16(pixels, plane, left, top, weights, rows, inside);
-    } else if inside {
+    if N == 16 && plane.width() >= 16 && has_six_taps(weights) {
+        filter_wide_rows(pixels, plane, left, top, weights, rows);
+    } else if lies_inside(plane, left, top, W, rows) {
         horizontal_by_taps::<N, W, true>(pixels, plane, left, top, weights, rows);
     } else {
         horizontal_by_taps::<N, W, false>(pixels, plane, left, top, weights, rows);
@@ -340,7 +289,7 @@ fn horizontal_by_taps<const N: usize, const W: usize, const INSIDE: bool>(
 )
     requires size { N ≤ 16 }
     requires line { W ≡ N + 5 }
-    requires rows { rows ≤ 21 }
+    requires rows { rows ≤ 22 }
     requires all { length pixels.old ≡ rows * N }
     requires gentle { SumsFitI16 weights.now }
     requires inside { IsTrue INSIDE → IsInside plane.now left top W rows }
@@ -373,7 +322,7 @@ fn horizontal_rows<const N: usize, const W: usize, const INSIDE: bool, const COU
 )
     requires size { N ≤ 16 }
     requires line { W ≡ N + 5 }
-    requires rows { rows ≤ 21 }
+    requires rows { rows ≤ 22 }
     requires all { length pixels.old ≡ rows * N }
     requires gentle { SumsFitI16 weights.now }
     requires inside { IsTrue INSIDE → IsInside plane.now left top W rows }

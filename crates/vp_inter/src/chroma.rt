@@ -10,12 +10,12 @@ ghost use Rattle.vp_inter.specs.Narrow.{IsNear, SumsFitI16};
 ghost use Rattle.vp_inter.specs.Turns.{AreFar, AreLanes, SelectsPairs};
 ghost use Rattle.vp_inter.specs.Vectors.{fraction};
 
-use crate::block::pass_columns;
 use crate::filter::taps;
 use crate::into::{predict_into8, whole_place};
-use crate::short_rows::{RowFilter, row_filter, rows_by_filter};
+use crate::short_rows::{row_filter, rows_by_filter};
+use crate::strip::{empty_strip, filter_chroma_rows, filter_strip, strip_filter};
 use crate::vector::{PlaneVector, first_tap, fraction};
-use vp_base::{Picture, Plane};
+use vp_base::Picture;
 
 /// Predicts the 8x8 blocks of both chroma planes at column `x` of row `y`, as `predict_into8` does each.
 pub fn predict_into_chroma(
@@ -149,36 +149,13 @@ fn filter_into_chroma(
     let rows = taps(version, fraction(vector.column));
     let columns = taps(version, fraction(vector.row));
     let filter = row_filter(u.width(), first_tap(x, vector.column), rows);
-    let block = filtered_block(u, top, &filter, rows, columns);
-    picture.write_block::<8>(1, x, y, &block);
-    let block = filtered_block(v, top, &filter, rows, columns);
-    picture.write_block::<8>(2, x, y, &block);
-}
-
-/// Filters an 8x8 block of a plane by both passes.
-#[inline(always)]
-fn filtered_block(
-    plane: &Plane,
-    top: i32,
-    filter: &RowFilter,
-    row_weights: &[i16; 6],
-    column_weights: &[i16; 6],
-) -> [u8; 64]
-    requires room { filter.now.start + 16 ≤ plane.now.width }
-    requires height { 0 < plane.now.height }
-    requires lanes { AreLanes filter.now }
-    requires rows { SumsFitI16 row_weights.now }
-    requires columns { SumsFitI16 column_weights.now }
-    requires turns { AreFar row_weights.now filter.now.weights }
-    requires beside { IsNear top }
-    ensures len { length result ≡ 64 }
-    ensures value { (left : ℤ) → SelectsPairs filter.now (λ c. nearest plane.now.width (left +ℤ pos c)) → (r c : ℕ)
-        → r < 8 → c < 8 → slice_index result (r * 8 + c)
-        ≡ filter_six column_weights.now (λ k. horizontal_pass row_weights.now plane.now left top (r + k) c) }
-{
-    let mut rows = [0; 104];
-    rows_by_filter::<8>(&mut rows, plane, top, filter, row_weights, 13);
+    let down = strip_filter(columns);
+    let mut u_strip = empty_strip();
+    let mut v_strip = empty_strip();
+    filter_chroma_rows(&mut u_strip, &mut v_strip, u, v, top, &filter, rows);
     let mut block = [0; 64];
-    pass_columns::<8, 64>(&mut block, &rows, column_weights);
-    block
+    filter_strip(&mut block, &u_strip, columns, &down);
+    picture.write_block::<8>(1, x, y, &block);
+    filter_strip(&mut block, &v_strip, columns, &down);
+    picture.write_block::<8>(2, x, y, &block);
 }

@@ -6,12 +6,11 @@ ghost use Rattle.vp_inter.specs.Inter.{reference_pixel, horizontal_pass};
 ghost use Rattle.vp_inter.specs.Narrow.{IsNear, SumsFitI16};
 ghost use Rattle.vp_inter.specs.Filtered.{AreRows, AreFiltered};
 
-use crate::block::put_lanes;
+use crate::block::{other_rows, put_lanes};
 use crate::filter::taps;
 use crate::reference::{Flat, lies_inside, pixels_are_bytes, plain_row};
 use crate::six_tap_1d::{
-    ColumnWeights, horizontal_six_tap_16, pair_rows, paired_column_weights, vertical_sixteen,
-    wide_columns,
+    ColumnWeights, pair_rows, paired_column_weights, vertical_sixteen, wide_columns,
 };
 use crate::vector::{PlaneVector, first_tap, fraction};
 use std::marker::Model;
@@ -141,8 +140,7 @@ fn filter_rows(rows: &mut [u8], plane: &Plane, left: i32, top: i32, eighths: usi
         pixels_are_bytes(plane);
         copy_rows(rows, plane, left + 2, top);
     } else {
-        let inside = lies_inside(plane, left, top, 21, 22);
-        horizontal_six_tap_16(rows, plane, left, top, taps(0, eighths), 22, inside);
+        other_rows::<16, 21>(rows, plane, left, top, taps(0, eighths), 22);
     }
 }
 

@@ -12,6 +12,7 @@ mod reference;
 mod short_rows;
 mod six_tap_1d;
 mod six_tap_2d;
+mod strip;
 mod vector;
 
 pub use block::{predict_block4, predict_block8, predict_block16};

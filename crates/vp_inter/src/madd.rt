@@ -1,13 +1,12 @@
 //! Multiply-add of bytes: products of bytes and weights, added in pairs. The compiler turns this form, with weights
 //! that it loads from memory, into one instruction for eight sums.
 
-ghost use Rattle.std.specs.Prelude.{◌≡◌, ℕ, pos, negsuc, ◌+◌, ◌*◌, ◌<◌, ◌≤◌, ◌+ℤ◌, ◌*ℤ◌, length, slice_index};
+ghost use Rattle.std.specs.Prelude.{◌≡◌, ℕ, pos, negsuc, ◌+◌, ◌*◌, ◌<◌, ◌≤◌, ◌+ℤ◌, ◌*ℤ◌, slice_index};
 ghost use Rattle.std.specs.Int.{int_max, int_min};
 ghost use Rattle.vp_lanes.specs.Lane.{lane};
 ghost use Rattle.vp_inter.specs.Narrow.{IsFrom, IsShort, pair, ArePairable};
 ghost use Rattle.vp_inter.specs.Turns.{AreByTurns};
 
-use crate::filter::load;
 use std::simd::prelude::*;
 
 /// Two weights in alternating lanes.
@@ -88,15 +87,4 @@ pub(crate) fn alternating_madd(a: u8x16, w: i8x16, even: i16, odd: i16) -> i16x8
     ensures { (j : ℕ) → j < 8 → lane result j ≡ pair (slice_index a (2 * j)) (slice_index a (2 * j + 1)) even odd }
 {
     pair_sums(a, w)
-}
-
-/// Multiplies sixteen bytes from index `at` on by two alternating weights, and adds the products in pairs.
-pub(crate) fn load_alternating_madd(s: &[u8], at: usize, w: i8x16, even: i16, odd: i16) -> i16x8
-    requires room { at + 16 ≤ length s.now }
-    requires turns { AreByTurns w even odd }
-    requires fits { ArePairable even odd }
-    ensures { (j : ℕ) → j < 8 → lane result j ≡ pair (slice_index s.now (at + 2 * j))
-        (slice_index s.now (at + (2 * j + 1))) even odd }
-{
-    pair_sums(load::<16>(s, at), w)
 }

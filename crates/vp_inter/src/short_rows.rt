@@ -1,7 +1,7 @@
 //! The horizontal pass over rows of four and eight pixels (RFC 6386, chapter 18.3), by multiply-add of bytes.
 
-ghost use Rattle.std.specs.Prelude.{◌≡◌, ℕ, ℤ, pos, ◌+◌, ◌*◌, ◌<◌, ◌≤◌, ◌+ℤ◌, ◌≤ℤ◌, ◌⊎◌, length, slice_index};
-ghost use Rattle.std.specs.Prelude.{◌<ℤ◌, IsTrue};
+ghost use Rattle.std.specs.Prelude.{◌≡◌, ℕ, ℤ, pos, negsuc, ◌+◌, ◌*◌, ◌<◌, ◌≤◌, ◌+ℤ◌, ◌≤ℤ◌, ◌⊎◌, length};
+ghost use Rattle.std.specs.Prelude.{◌<ℤ◌, IsTrue, slice_index};
 ghost use Rattle.vp_inter.specs.Filter.{filter_six};
 ghost use Rattle.vp_inter.specs.Inter.{nearest, horizontal_pass, IsInside};
 ghost use Rattle.vp_inter.specs.Narrow.{IsNear, SumsFitI16};
@@ -24,7 +24,7 @@ pub(crate) struct RowFilter {
     first: u8x16,
     second: u8x16,
     third: u8x16,
-    weights: ColumnWeights,
+    pub(crate) weights: ColumnWeights,
 }
 
 /// Each of eight lanes from lane 0 on, and the one three after it.
@@ -54,7 +54,7 @@ fn third_pairs(places: u8x16) -> u8x16
 /// The filter for rows of `size` columns, from column `left` on.
 pub(crate) fn row_filter(size: usize, left: i32, weights: &[i16; 6]) -> RowFilter
     requires some { 16 ≤ size }
-    requires near { IsNear left }
+    requires near { (negsuc 400000000 ≤ℤ left) × (left ≤ℤ pos 400000008) }
     requires gentle { SumsFitI16 weights.now }
     ensures room { result.start + 16 ≤ size }
     ensures turns { AreFar weights.now result.weights }
@@ -118,7 +118,7 @@ fn four_of_each(pair: u8x16) -> u8x8
 
 /// Writes the first `N` of each eight pixels as rows `2 * i` and `2 * i + 1` of a block of `N` columns.
 #[inline(always)]
-fn put_two<const N: usize>(pixels: &mut [u8], i: usize, pair: u8x16)
+pub(crate) fn put_two<const N: usize>(pixels: &mut [u8], i: usize, pair: u8x16)
     requires size { (N ≡ 4) ⊎ (N ≡ 8) }
     requires room { (2 * i + 1) * N + N ≤ length pixels.old }
     ensures first { (c : ℕ) → c < N → slice_index pixels.new (2 * i * N + c) ≡ slice_index pair c }
@@ -156,7 +156,7 @@ fn put_short<const N: usize>(pixels: &mut [u8], r: usize, row: u8x8)
 
 /// Filters eight pixels of the row that is `i` rows below `top`. If `INSIDE`, it is inside the plane.
 #[inline(always)]
-fn filtered_row<const INSIDE: bool>(
+pub(crate) fn filtered_row<const INSIDE: bool>(
     plane: &Flat,
     top: i32,
     i: usize,

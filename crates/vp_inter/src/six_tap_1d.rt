@@ -1,33 +1,19 @@
 //! The six-tap filter on rows of sixteen pixels (RFC 6386, chapter 18.3), by multiply-add of bytes.
 
-ghost use Rattle.std.specs.Prelude.{◌≡◌, ℕ, ℤ, pos, ◌+◌, ◌*◌, ◌/◌, ◌%◌, ◌<◌, ◌≤◌, ◌+ℤ◌, ◌-ℤ◌, length};
-ghost use Rattle.std.specs.Prelude.{slice_index, IsTrue};
+ghost use Rattle.std.specs.Prelude.{◌≡◌, ℕ, pos, ◌+◌, ◌*◌, ◌/◌, ◌%◌, ◌<◌, ◌≤◌, ◌+ℤ◌, ◌-ℤ◌, length, slice_index};
 ghost use Rattle.vp_lanes.specs.Lane.{lane};
 ghost use Rattle.vp_inter.specs.Filter.{filter_six};
-ghost use Rattle.vp_inter.specs.Inter.{reference_pixel, horizontal_pass, IsInside};
-ghost use Rattle.vp_inter.specs.Narrow.{IsNear, IsShort, SumsFitI16, sum_of_six};
-ghost use Rattle.vp_inter.specs.Turns.{AreNear, AreFar, one_of_three, half_place};
+ghost use Rattle.vp_inter.specs.Narrow.{IsShort, SumsFitI16, sum_of_six};
+ghost use Rattle.vp_inter.specs.Turns.{AreFar, one_of_three};
 
 use crate::block::put_lanes;
 use crate::filter::{load, rounded_pixels};
-use crate::madd::{alternating_madd, interleaved_pairs, load_alternating_madd};
-use crate::reference::{Flat, reference_line};
+use crate::madd::{alternating_madd, interleaved_pairs};
 use std::simd::prelude::*;
-use vp_base::Plane;
 
 /// Whether the first and the last weight are above 0. This only chooses a path: each gives the same pixels.
 pub(crate) fn has_six_taps(weights: &[i16; 6]) -> bool {
     weights[0] > 0 && weights[5] > 0
-}
-
-/// The weights of six adjacent pixels, each vector with two alternating weights: of pixel 0, of 1 and 2, of 3 and 4,
-/// and of 5.
-#[derive(Clone, Copy)]
-pub(crate) struct RowWeights {
-    first: i8x16,
-    left: i8x16,
-    right: i8x16,
-    last: i8x16,
 }
 
 /// The weights of six rows, each vector with two alternating weights: of rows 0 and 3, of 1 and 4, and of 2 and 5.
@@ -36,19 +22,6 @@ pub(crate) struct ColumnWeights {
     first: i8x16,
     second: i8x16,
     third: i8x16,
-}
-
-/// The weights in alternating lanes, for adjacent pixels.
-pub(crate) fn paired_row_weights(weights: &[i16; 6]) -> RowWeights
-    requires { SumsFitI16 weights.now }
-    ensures { AreNear weights.now result }
-{
-    RowWeights {
-        first: interleaved_pairs(weights[0], 0),
-        left: interleaved_pairs(weights[1], weights[2]),
-        right: interleaved_pairs(weights[3], weights[4]),
-        last: interleaved_pairs(0, weights[5]),
-    }
 }
 
 /// The weights in alternating lanes, for rows.
@@ -61,14 +34,6 @@ pub(crate) fn paired_column_weights(weights: &[i16; 6]) -> ColumnWeights
         second: interleaved_pairs(weights[1], weights[4]),
         third: interleaved_pairs(weights[2], weights[5]),
     }
-}
-
-/// Adds the lanes of both.
-fn sum_of_both(a: i16x8, b: i16x8) -> i16x8
-    requires { (j : ℕ) → j < 8 → IsShort (lane a j +ℤ lane b j) }
-    ensures { (j : ℕ) → j < 8 → lane result j ≡ lane a j +ℤ lane b j }
-{
-    a + b
 }
 
 /// Adds the lanes of all three, plus 64 for rounding, minus 16384.
@@ -97,23 +62,6 @@ pub(crate) fn joined(front: u8x8, back: u8x8) -> u8x16
     front.shuffle::<16>(back, [0, 1, 2, 3, 4, 5, 6, 7, 8, 9, 10, 11, 12, 13, 14, 15])
 }
 
-/// The weighted sums of six adjacent pixels, which begin at index `at`, `at + 2`, `at + 4` and so on.
-fn horizontal_sums(s: &[u8], at: usize, weights: &[i16; 6], near: &RowWeights) -> i16x8
-    requires room { at + 20 ≤ length s.now }
-    requires gentle { SumsFitI16 weights.now }
-    requires turns { AreNear weights.now near.now }
-    ensures { (j : ℕ) → j < 8 → lane result j ≡ sum_of_six weights.now (λ k. slice_index s.now (at + 2 * j + k)) }
-{
-    sum_of_three(
-        load_alternating_madd(s, at + 1, near.left, weights[1], weights[2]),
-        load_alternating_madd(s, at + 3, near.right, weights[3], weights[4]),
-        sum_of_both(
-            load_alternating_madd(s, at, near.first, weights[0], 0),
-            load_alternating_madd(s, at + 4, near.last, 0, weights[5]),
-        ),
-    )
-}
-
 /// The weighted sums of six rows. Each vector interleaves two rows that are three apart.
 fn vertical_sums(a: u8x16, b: u8x16, c: u8x16, weights: &[i16; 6], far: &ColumnWeights) -> i16x8
     requires gentle { SumsFitI16 weights.now }
@@ -126,17 +74,6 @@ fn vertical_sums(a: u8x16, b: u8x16, c: u8x16, weights: &[i16; 6], far: &ColumnW
         alternating_madd(b, far.second, weights[1], weights[4]),
         alternating_madd(c, far.third, weights[2], weights[5]),
     )
-}
-
-/// Filters eight pixels horizontally. They begin at index `at`, `at + 2`, `at + 4` and so on.
-fn horizontal_eight(s: &[u8], at: usize, weights: &[i16; 6], near: &RowWeights) -> u8x8
-    requires room { at + 20 ≤ length s.now }
-    requires gentle { SumsFitI16 weights.now }
-    requires turns { AreNear weights.now near.now }
-    ensures { (j : ℕ) → j < 8 → slice_index result j ≡ filter_six weights.now
-        (λ k. slice_index s.now (at + 2 * j + k)) }
-{
-    rounded_pixels::<8>(horizontal_sums(s, at, weights, near))
 }
 
 /// Filters eight pixels vertically. Each vector interleaves two rows that are three apart.
@@ -153,20 +90,6 @@ pub(crate) fn vertical_eight(
         (λ k. slice_index (one_of_three a b c (k % 3)) (2 * j + k / 3)) }
 {
     rounded_pixels::<8>(vertical_sums(a, b, c, weights, far))
-}
-
-/// Filters sixteen adjacent pixels horizontally: even columns first, then odd ones.
-fn horizontal_halves(s: &[u8], at: usize, weights: &[i16; 6], near: &RowWeights) -> u8x16
-    requires room { at + 21 ≤ length s.now }
-    requires gentle { SumsFitI16 weights.now }
-    requires turns { AreNear weights.now near.now }
-    ensures { (c : ℕ) → c < 16 → slice_index result (half_place c)
-        ≡ filter_six weights.now (λ k. slice_index s.now (at + c + k)) }
-{
-    joined(
-        horizontal_eight(s, at, weights, near),
-        horizontal_eight(s, at + 1, weights, near),
-    )
 }
 
 /// Filters sixteen pixels vertically, from interleaved rows that are three apart.
@@ -197,100 +120,6 @@ pub(crate) fn vertical_sixteen(
         far,
     );
     joined(front, back)
-}
-
-/// Filters one row of the reference horizontally: even columns first, then odd ones. If `INSIDE`, it reads directly
-/// from the plane.
-#[inline(always)]
-pub(crate) fn halves_row<const INSIDE: bool>(
-    plane: &Flat,
-    left: i32,
-    row: i32,
-    weights: &[i16; 6],
-    near: &RowWeights,
-) -> u8x16
-    requires inside { IsTrue INSIDE → IsInside plane.now left row 21 1 }
-    requires gentle { SumsFitI16 weights.now }
-    requires turns { AreNear weights.now near.now }
-    requires columns { 0 < plane.now.width }
-    requires height { 0 < plane.now.height }
-    requires near { IsNear left }
-    ensures { (c : ℕ) → c < 16 → slice_index result (half_place c)
-        ≡ filter_six weights.now (λ k. reference_pixel plane.now (left +ℤ pos (c + k)) row) }
-{
-    if INSIDE {
-        return horizontal_halves(plane.row(row as usize), left as usize, weights, near);
-    }
-    let line = reference_line(plane, left, row);
-    horizontal_halves(&line, 0, weights, near)
-}
-
-/// Restores the order of sixteen pixels whose even columns are first.
-pub(crate) fn in_order(halves: u8x16) -> u8x16
-    ensures { (c : ℕ) → c < 16 → slice_index result c ≡ slice_index halves (half_place c) }
-{
-    halves.swizzle::<16>([0, 8, 1, 9, 2, 10, 3, 11, 4, 12, 5, 13, 6, 14, 7, 15])
-}
-
-/// The horizontal pass over `rows` rows of the reference. The loop reloads the weights from memory: with weights in
-/// registers the compiler doesn't select the multiply-add instruction.
-#[inline(never)]
-fn wide_rows<const INSIDE: bool>(
-    pixels: &mut [u8],
-    plane: &Plane,
-    left: i32,
-    top: i32,
-    weights: &[i16; 6],
-    near: &RowWeights,
-    rows: usize,
-)
-    requires rows { rows ≤ 22 }
-    requires all { length pixels.old ≡ rows * 16 }
-    requires inside { IsTrue INSIDE → IsInside plane.now left top 21 rows }
-    requires gentle { SumsFitI16 weights.now }
-    requires turns { AreNear weights.now near.now }
-    requires columns { 0 < plane.now.width }
-    requires height { 0 < plane.now.height }
-    requires near { IsNear left }
-    requires beside { IsNear top }
-    ensures { (i c : ℕ) → i < rows → c < 16 → slice_index pixels.new (i * 16 + c)
-        ≡ horizontal_pass weights.now plane.now left top i c }
-{
-    let flat = Flat::of(plane);
-    for i in 0..rows {
-        let halves = halves_row::<INSIDE>(&flat, left, top + i as i32, weights, near);
-        put_lanes::<16>(pixels, i, in_order(halves));
-    }
-}
-
-/// The horizontal pass with six weights over `rows` rows of the reference. If `inside`, all of them are inside the
-/// plane.
-pub(crate) fn horizontal_six_tap_16(
-    pixels: &mut [u8],
-    plane: &Plane,
-    left: i32,
-    top: i32,
-    weights: &[i16; 6],
-    rows: usize,
-    inside: bool,
-)
-    requires rows { rows ≤ 22 }
-    requires all { length pixels.old ≡ rows * 16 }
-    requires inside { IsTrue inside → IsInside plane.now left top 21 rows }
-    requires gentle { SumsFitI16 weights.now }
-    requires columns { 0 < plane.now.width }
-    requires height { 0 < plane.now.height }
-    requires near { IsNear left }
-    requires beside { IsNear top }
-    ensures { (i c : ℕ) → i < rows → c < 16 → slice_index pixels.new (i * 16 + c)
-        ≡ horizontal_pass weights.now plane.now left top i c }
-{
-    let near = paired_row_weights(weights);
-    if inside {
-        wide_rows::<true>(pixels, plane, left, top, weights, &near, rows);
-    } else {
-        wide_rows::<false>(pixels, plane, left, top, weights, &near, rows);
-    }
 }
 
 /// Interleaves `ROWS` rows of sixteen pixels, each with the row three below.

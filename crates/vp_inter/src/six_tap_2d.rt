@@ -1,19 +1,22 @@
-//! Both passes with six weights over a 16x16 block (RFC 6386, chapter 18.3). The horizontal pass writes its rows
-//! interleaved, as the vertical pass multiplies them. Each pass processes three rows per iteration.
+//! Passes over 16x16 blocks, in two strips of eight columns (RFC 6386, chapter 18.3). The vertical pass processes three
+//! rows in each iteration.
 
-ghost use Rattle.std.specs.Prelude.{◌≡◌, ℕ, ℤ, pos, negsuc, ◌+◌, ◌*◌, ◌<◌, ◌≤◌, ◌+ℤ◌, ◌≤ℤ◌, length, slice_index};
+ghost use Rattle.std.specs.Prelude.{◌≡◌, ℕ, ℤ, pos, ◌+◌, ◌*◌, ◌<◌, ◌≤◌, ◌+ℤ◌, ◌<ℤ◌, ◌≤ℤ◌, length, slice_index};
 ghost use Rattle.std.specs.Prelude.{IsTrue};
+ghost use Rattle.vp_base.specs.Raster.{pixel};
 ghost use Rattle.vp_inter.specs.Filter.{filter_six};
 ghost use Rattle.vp_inter.specs.Inter.{horizontal_pass, IsInside};
 ghost use Rattle.vp_inter.specs.Narrow.{IsNear, SumsFitI16};
-ghost use Rattle.vp_inter.specs.Turns.{AreNear, AreFar, HoldsPairs, IsPair, half_place, pair_place};
+ghost use Rattle.vp_inter.specs.Strips.{AreStrips, HoldsRows, Interleave, IsPair, SelectsWide};
+ghost use Rattle.vp_inter.specs.Turns.{AreFar, AreLanes};
 
 use crate::block::put_lanes;
 use crate::filter::load;
 use crate::reference::{Flat, lies_inside};
-use crate::six_tap_1d::{
-    ColumnWeights, RowWeights, halves_row, interleave, paired_column_weights, paired_row_weights,
-    vertical_eight,
+use crate::short_rows::{RowFilter, filtered_row, row_filter};
+use crate::six_tap_1d::{ColumnWeights, joined};
+use crate::strip::{
+    Strip, StripFilter, empty_strip, filtered_pairs, pair_of, put_halves, strip_filter,
 };
 use std::simd::prelude::*;
 use vp_base::Plane;
@@ -26,170 +29,233 @@ struct Three {
     third: u8x16,
 }
 
-/// A row interleaved with the row three below: even columns, and odd ones.
+/// A row interleaved with the row three below: the left eight columns, and the right eight.
 #[derive(Clone, Copy)]
-struct Pair {
-    even: u8x16,
-    odd: u8x16,
+pub(crate) struct Pair {
+    pub(crate) left: u8x16,
+    pub(crate) right: u8x16,
 }
 
-/// The part of the reference that a block is filtered from. Its first row and column can lie outside the plane.
-#[derive(Clone, Copy)]
-struct Window<'a> {
-    plane: &'a Plane,
-    left: i32,
-    top: i32,
-}
-
-/// Filters three rows of the reference horizontally: even columns first, then odd ones.
-fn three_rows<const INSIDE: bool>(
-    plane: &Flat,
-    left: i32,
-    top: i32,
-    weights: &[i16; 6],
-    near: &RowWeights,
-) -> Three
-    requires inside { IsTrue INSIDE → IsInside plane.now left top 21 3 }
-    requires gentle { SumsFitI16 weights.now }
-    requires turns { AreNear weights.now near.now }
-    requires columns { 0 < plane.now.width }
-    requires height { 0 < plane.now.height }
-    requires near { IsNear left }
-    requires beside { (negsuc 400000000 ≤ℤ top) × (top ≤ℤ pos 400000018) }
-    ensures first { (c : ℕ) → c < 16 → slice_index result.first (half_place c)
-        ≡ horizontal_pass weights.now plane.now left top 0 c }
-    ensures second { (c : ℕ) → c < 16 → slice_index result.second (half_place c)
-        ≡ horizontal_pass weights.now plane.now left top 1 c }
-    ensures third { (c : ℕ) → c < 16 → slice_index result.third (half_place c)
-        ≡ horizontal_pass weights.now plane.now left top 2 c }
+/// Loads sixteen pixels of a row, from column `left` on.
+#[inline(always)]
+fn sixteen_at(plane: &Flat, left: usize, row: usize) -> u8x16
+    requires column { left + 16 ≤ plane.now.width }
+    requires row { row < plane.now.height }
+    ensures { (c : ℕ) → c < 16 → slice_index result c ≡ pixel plane.now (left + c) row }
 {
-    Three {
-        first: halves_row::<INSIDE>(plane, left, top, weights, near),
-        second: halves_row::<INSIDE>(plane, left, top + 1, weights, near),
-        third: halves_row::<INSIDE>(plane, left, top + 2, weights, near),
+    load::<16>(plane.row(row), left)
+}
+
+/// Copies 21 rows of a plane to two strips. The left one begins at column `column` of row `top`.
+#[inline(never)]
+fn copy_strips(left: &mut Strip, right: &mut Strip, plane: &Plane, column: usize, top: usize)
+    requires columns { column + 16 ≤ plane.now.width }
+    requires rows { top + 21 ≤ plane.now.height }
+    ensures { AreStrips left.new right.new (λ r c. pixel plane.now (column + c) (top + r)) }
+{
+    let flat = Flat::of(plane);
+    for e in 0..7 {
+        let first = sixteen_at(&flat, column, top + 3 * e);
+        let second = sixteen_at(&flat, column, top + 3 * e + 1);
+        let third = sixteen_at(&flat, column, top + 3 * e + 2);
+        put_halves(&mut left.first, &mut right.first, e, first);
+        put_halves(&mut left.second, &mut right.second, e, second);
+        put_halves(&mut left.third, &mut right.third, e, third);
     }
 }
 
-/// Interleaves the low eight bytes of each.
-fn interleave_lo(a: u8x16, b: u8x16) -> u8x16
-    ensures even { (j : ℕ) → j < 8 → slice_index result (2 * j) ≡ slice_index a j }
-    ensures odd { (j : ℕ) → j < 8 → slice_index result (2 * j + 1) ≡ slice_index b j }
-{
-    a.shuffle::<16>(b, [0, 16, 1, 17, 2, 18, 3, 19, 4, 20, 5, 21, 6, 22, 7, 23])
+/// The filters of the left and the right half of rows of sixteen pixels.
+#[derive(Clone, Copy)]
+pub(crate) struct WideFilter {
+    pub(crate) left: RowFilter,
+    pub(crate) right: RowFilter,
 }
 
-/// Interleaves the high eight bytes of each.
-fn interleave_hi(a: u8x16, b: u8x16) -> u8x16
-    ensures even { (j : ℕ) → j < 8 → slice_index result (2 * j) ≡ slice_index a (8 + j) }
-    ensures odd { (j : ℕ) → j < 8 → slice_index result (2 * j + 1) ≡ slice_index b (8 + j) }
+/// The filter for rows of `size` columns, from column `left` on.
+#[inline(always)]
+fn wide_filter(size: usize, left: i32, weights: &[i16; 6]) -> WideFilter
+    requires some { 16 ≤ size }
+    requires near { IsNear left }
+    requires gentle { SumsFitI16 weights.now }
+    ensures room { result.left.start + 16 ≤ size }
+    ensures beside { result.right.start + 16 ≤ size }
+    ensures lanes { AreLanes result.left × AreLanes result.right }
+    ensures turns { AreFar weights.now result.left.weights }
+    ensures places { SelectsWide result size left }
 {
-    a.shuffle::<16>(
-        b,
-        [8, 24, 9, 25, 10, 26, 11, 27, 12, 28, 13, 29, 14, 30, 15, 31],
+    WideFilter {
+        left: row_filter(size, left, weights),
+        right: row_filter(size, left + 8, weights),
+    }
+}
+
+/// Filters sixteen pixels of the row that is `i` rows below `top` horizontally. If `INSIDE`, it is inside the plane.
+#[inline(always)]
+fn wide_row<const INSIDE: bool>(
+    plane: &Flat,
+    top: i32,
+    i: usize,
+    filter: &WideFilter,
+    weights: &[i16; 6],
+    far: &ColumnWeights,
+) -> u8x16
+    requires some { 0 < plane.now.height }
+    requires near { i ≤ 21 }
+    requires beside { IsNear top }
+    requires inside { IsTrue INSIDE → (pos 0 ≤ℤ top) × ((top +ℤ pos i) <ℤ pos plane.now.height) }
+    requires room { filter.now.left.start + 16 ≤ plane.now.width }
+    requires right { filter.now.right.start + 16 ≤ plane.now.width }
+    requires lanes { AreLanes filter.now.left × AreLanes filter.now.right }
+    requires gentle { SumsFitI16 weights.now }
+    requires turns { AreFar weights.now far.now }
+    ensures { (left : ℤ) → SelectsWide filter.now plane.now.width left → (c : ℕ) → c < 16
+        → slice_index result c ≡ horizontal_pass weights.now plane.now left top i c }
+{
+    joined(
+        filtered_row::<INSIDE>(plane, top, i, &filter.left, weights, far),
+        filtered_row::<INSIDE>(plane, top, i, &filter.right, weights, far),
     )
 }
 
-/// Writes two interleaved rows at entry `i` of a run of pairs.
-fn put_pair(run: &mut [u8], i: usize, a: u8x16, b: u8x16)
-    requires { 32 * i + 32 ≤ length run.old }
-    ensures first { (c : ℕ) → c < 16 → slice_index run.new (32 * i + pair_place c 0) ≡ slice_index a (half_place c) }
-    ensures second { (c : ℕ) → c < 16 → slice_index run.new (32 * i + pair_place c 1) ≡ slice_index b (half_place c) }
-    ensures before { (k : ℕ) → k < 32 * i → slice_index run.new k ≡ slice_index run.old k }
-{
-    put_lanes::<16>(run, 2 * i, interleave_lo(a, b));
-    put_lanes::<16>(run, 2 * i + 1, interleave_hi(a, b));
-}
-
-/// The horizontal pass, to three runs of pairs; each has every third row. The loop reloads the weights from memory:
-/// with weights in registers the compiler doesn't select the multiply-add instruction.
+/// The horizontal pass over 21 rows of the reference, to two strips. If `INSIDE`, they are inside the plane. The loop
+/// reads three rows before it writes them, since it reloads the weights after a write.
 #[inline(never)]
-fn paired_rows<const INSIDE: bool>(
-    first: &mut [u8],
-    second: &mut [u8],
-    third: &mut [u8],
-    window: Window,
+fn rows_to_strips<const INSIDE: bool>(
+    left: &mut Strip,
+    right: &mut Strip,
+    plane: &Plane,
+    top: i32,
+    filter: &WideFilter,
     weights: &[i16; 6],
-    near: &RowWeights,
 )
-    requires one { length first.old ≡ 224 }
-    requires two { length second.old ≡ 224 }
-    requires three { length third.old ≡ 224 }
-    requires inside { IsTrue INSIDE → IsInside window.plane.now window.left window.top 21 21 }
+    requires height { 0 < plane.now.height }
+    requires inside { IsTrue INSIDE → IsInside plane.now (pos 0) top 0 21 }
+    requires room { filter.now.left.start + 16 ≤ plane.now.width }
+    requires right { filter.now.right.start + 16 ≤ plane.now.width }
+    requires lanes { AreLanes filter.now.left × AreLanes filter.now.right }
+    requires turns { AreFar weights.now filter.now.left.weights }
     requires gentle { SumsFitI16 weights.now }
-    requires turns { AreNear weights.now near.now }
-    requires columns { 0 < window.plane.now.width }
-    requires height { 0 < window.plane.now.height }
-    requires near { IsNear window.left }
-    requires beside { IsNear window.top }
-    ensures first { HoldsPairs first.new
-        (horizontal_pass weights.now window.entry.plane.now window.entry.left window.entry.top) 0 6 }
-    ensures second { HoldsPairs second.new
-        (horizontal_pass weights.now window.entry.plane.now window.entry.left window.entry.top) 1 6 }
-    ensures third { HoldsPairs third.new
-        (horizontal_pass weights.now window.entry.plane.now window.entry.left window.entry.top) 2 6 }
+    requires beside { IsNear top }
+    ensures { (column : ℤ) → SelectsWide filter.now plane.now.width column
+        → AreStrips left.new right.new (horizontal_pass weights.now plane.now column top) }
 {
-    let Window { plane, left, top } = window;
     let flat = Flat::of(plane);
-    let none = u8x16::splat(0);
-    let mut above = Three {
-        first: none,
-        second: none,
-        third: none,
-    };
-    for i in 0..7 {
-        let rows = three_rows::<INSIDE>(&flat, left, top + 3 * i as i32, weights, near);
-        put_pair(first, i, above.first, rows.first);
-        put_pair(second, i, above.second, rows.second);
-        put_pair(third, i, above.third, rows.third);
-        above = rows;
+    let own = *filter;
+    for e in 0..7 {
+        let first = wide_row::<INSIDE>(&flat, top, 3 * e, &own, weights, &filter.left.weights);
+        let second = wide_row::<INSIDE>(&flat, top, 3 * e + 1, &own, weights, &filter.left.weights);
+        let third = wide_row::<INSIDE>(&flat, top, 3 * e + 2, &own, weights, &filter.left.weights);
+        put_halves(&mut left.first, &mut right.first, e, first);
+        put_halves(&mut left.second, &mut right.second, e, second);
+        put_halves(&mut left.third, &mut right.third, e, third);
     }
 }
 
-/// The horizontal pass, to three runs of pairs. It reads directly from the plane if all rows are inside.
-fn all_rows(
-    first: &mut [u8],
-    second: &mut [u8],
-    third: &mut [u8],
-    window: Window,
+/// The horizontal pass over 21 rows of the reference, to two strips. It reads directly from the plane if all rows are
+/// inside.
+#[inline(always)]
+fn filter_rows_of_16(
+    left: &mut Strip,
+    right: &mut Strip,
+    plane: &Plane,
+    top: i32,
+    filter: &WideFilter,
     weights: &[i16; 6],
 )
-    requires one { length first.old ≡ 224 }
-    requires two { length second.old ≡ 224 }
-    requires three { length third.old ≡ 224 }
+    requires height { 0 < plane.now.height }
+    requires room { filter.now.left.start + 16 ≤ plane.now.width }
+    requires right { filter.now.right.start + 16 ≤ plane.now.width }
+    requires lanes { AreLanes filter.now.left × AreLanes filter.now.right }
+    requires turns { AreFar weights.now filter.now.left.weights }
     requires gentle { SumsFitI16 weights.now }
-    requires columns { 0 < window.plane.now.width }
-    requires height { 0 < window.plane.now.height }
-    requires near { IsNear window.left }
-    requires beside { IsNear window.top }
-    ensures first { HoldsPairs first.new
-        (horizontal_pass weights.now window.entry.plane.now window.entry.left window.entry.top) 0 6 }
-    ensures second { HoldsPairs second.new
-        (horizontal_pass weights.now window.entry.plane.now window.entry.left window.entry.top) 1 6 }
-    ensures third { HoldsPairs third.new
-        (horizontal_pass weights.now window.entry.plane.now window.entry.left window.entry.top) 2 6 }
+    requires beside { IsNear top }
+    ensures { (column : ℤ) → SelectsWide filter.now plane.now.width column
+        → AreStrips left.new right.new (horizontal_pass weights.now plane.now column top) }
 {
-    let near = paired_row_weights(weights);
-    let plane = window.plane;
-    if lies_inside(plane, window.left, window.top, 21, 21) {
-        paired_rows::<true>(first, second, third, window, weights, &near);
+    if lies_inside(plane, 0, top, 0, 21) {
+        rows_to_strips::<true>(left, right, plane, top, filter, weights);
     } else {
-        paired_rows::<false>(first, second, third, window, weights, &near);
+        rows_to_strips::<false>(left, right, plane, top, filter, weights);
     }
 }
 
-/// Pair `e` of a run. Entry 0 of a run is unused.
-fn pair_at(run: &[u8], e: usize) -> Pair
-    requires size { length run.now ≡ 224 }
+/// The horizontal pass over `rows` rows of the reference. If `INSIDE`, they are inside the plane.
+#[inline(never)]
+fn rows_to_block<const INSIDE: bool>(
+    pixels: &mut [u8],
+    plane: &Plane,
+    top: i32,
+    filter: &WideFilter,
+    weights: &[i16; 6],
+    rows: usize,
+)
+    requires rows { rows ≤ 22 }
+    requires all { length pixels.old ≡ rows * 16 }
+    requires height { 0 < plane.now.height }
+    requires inside { IsTrue INSIDE → IsInside plane.now (pos 0) top 0 rows }
+    requires room { filter.now.left.start + 16 ≤ plane.now.width }
+    requires right { filter.now.right.start + 16 ≤ plane.now.width }
+    requires lanes { AreLanes filter.now.left × AreLanes filter.now.right }
+    requires turns { AreFar weights.now filter.now.left.weights }
+    requires gentle { SumsFitI16 weights.now }
+    requires beside { IsNear top }
+    ensures { (left : ℤ) → SelectsWide filter.now plane.now.width left → (i c : ℕ) → i < rows → c < 16
+        → slice_index pixels.new (i * 16 + c) ≡ horizontal_pass weights.now plane.now left top i c }
+{
+    let flat = Flat::of(plane);
+    let own = *filter;
+    for i in 0..rows {
+        let row = wide_row::<INSIDE>(&flat, top, i, &own, weights, &filter.left.weights);
+        put_lanes::<16>(pixels, i, row);
+    }
+}
+
+/// The horizontal pass over `rows` rows of the reference, which has at least sixteen columns. It takes the columns
+/// beyond the plane like any others.
+pub(crate) fn filter_wide_rows(
+    pixels: &mut [u8],
+    plane: &Plane,
+    left: i32,
+    top: i32,
+    weights: &[i16; 6],
+    rows: usize,
+)
+    requires rows { rows ≤ 22 }
+    requires all { length pixels.old ≡ rows * 16 }
+    requires gentle { SumsFitI16 weights.now }
+    requires columns { 16 ≤ plane.now.width }
+    requires height { 0 < plane.now.height }
+    requires near { IsNear left }
+    requires beside { IsNear top }
+    ensures { (i c : ℕ) → i < rows → c < 16 → slice_index pixels.new (i * 16 + c)
+        ≡ horizontal_pass weights.now plane.now left top i c }
+{
+    let filter = wide_filter(plane.width(), left, weights);
+    if lies_inside(plane, 0, top, 0, rows) {
+        rows_to_block::<true>(pixels, plane, top, &filter, weights, rows);
+    } else {
+        rows_to_block::<false>(pixels, plane, top, &filter, weights, rows);
+    }
+}
+
+/// Row `e` of two chains and the next, interleaved.
+#[inline(always)]
+fn pair_at(left: &[u8], right: &[u8], e: usize, places: u8x16) -> Pair
+    requires left { length left.now ≡ 56 }
+    requires right { length right.now ≡ 56 }
     requires place { e < 6 }
-    ensures { (pixel : ℕ → ℕ → ℕ) → (from : ℕ) → HoldsPairs run.now pixel from 6 → IsPair result pixel (3 * e + from) }
+    requires places { Interleave places }
+    ensures { (pixel : ℕ → ℕ → ℕ) → (from : ℕ) → HoldsRows left.now pixel from 7
+        → HoldsRows right.now (λ r c. pixel r (8 + c)) from 7 → IsPair result pixel (3 * e + from) }
 {
     Pair {
-        even: load(run, 32 * e + 32),
-        odd: load(run, 32 * e + 48),
+        left: pair_of(left, e, places),
+        right: pair_of(right, e, places),
     }
 }
 
 /// Filters one row vertically, from three consecutive pairs of rows.
+#[inline(always)]
 fn vertical_row(a: &Pair, b: &Pair, c: &Pair, weights: &[i16; 6], far: &ColumnWeights) -> u8x16
     requires gentle { SumsFitI16 weights.now }
     requires turns { AreFar weights.now far.now }
@@ -197,82 +263,99 @@ fn vertical_row(a: &Pair, b: &Pair, c: &Pair, weights: &[i16; 6], far: &ColumnWe
         → IsPair c.now pixel (r + 2) → (x : ℕ) → x < 16 → slice_index result x
         ≡ filter_six weights.now (λ k. pixel (r + k) x) }
 {
-    interleave(
-        vertical_eight(a.even, b.even, c.even, weights, far),
-        vertical_eight(a.odd, b.odd, c.odd, weights, far),
+    joined(
+        filtered_pairs(a.left, b.left, c.left, weights, far),
+        filtered_pairs(a.right, b.right, c.right, weights, far),
     )
 }
 
-/// Filters three rows vertically, from five consecutive pairs of the three runs, beginning with pair `e` of the first.
+/// Filters three rows vertically, from five consecutive pairs of rows, of which the first is in row `e` of the first
+/// chains.
+#[inline(always)]
 fn vertical_three_rows(
-    first: &[u8],
-    second: &[u8],
-    third: &[u8],
+    left: &Strip,
+    right: &Strip,
     e: usize,
+    places: u8x16,
     weights: &[i16; 6],
     far: &ColumnWeights,
 ) -> Three
-    requires one { length first.now ≡ 224 }
-    requires two { length second.now ≡ 224 }
-    requires three { length third.now ≡ 224 }
     requires place { e < 5 }
+    requires places { Interleave places }
     requires gentle { SumsFitI16 weights.now }
     requires turns { AreFar weights.now far.now }
-    ensures first { (pixel : ℕ → ℕ → ℕ) → HoldsPairs first.now pixel 0 6 → HoldsPairs second.now pixel 1 6
-        → HoldsPairs third.now pixel 2 6 → (x : ℕ) → x < 16 → slice_index result.first x
-        ≡ filter_six weights.now (λ k. pixel (3 * e + k) x) }
-    ensures second { (pixel : ℕ → ℕ → ℕ) → HoldsPairs first.now pixel 0 6 → HoldsPairs second.now pixel 1 6
-        → HoldsPairs third.now pixel 2 6 → (x : ℕ) → x < 16 → slice_index result.second x
-        ≡ filter_six weights.now (λ k. pixel (3 * e + 1 + k) x) }
-    ensures third { (pixel : ℕ → ℕ → ℕ) → HoldsPairs first.now pixel 0 6 → HoldsPairs second.now pixel 1 6
-        → HoldsPairs third.now pixel 2 6 → (x : ℕ) → x < 16 → slice_index result.third x
-        ≡ filter_six weights.now (λ k. pixel (3 * e + 2 + k) x) }
+    ensures first { (pixel : ℕ → ℕ → ℕ) → AreStrips left.now right.now pixel → (x : ℕ) → x < 16
+        → slice_index result.first x ≡ filter_six weights.now (λ k. pixel (3 * e + k) x) }
+    ensures second { (pixel : ℕ → ℕ → ℕ) → AreStrips left.now right.now pixel → (x : ℕ) → x < 16
+        → slice_index result.second x ≡ filter_six weights.now (λ k. pixel (3 * e + 1 + k) x) }
+    ensures third { (pixel : ℕ → ℕ → ℕ) → AreStrips left.now right.now pixel → (x : ℕ) → x < 16
+        → slice_index result.third x ≡ filter_six weights.now (λ k. pixel (3 * e + 2 + k) x) }
 {
-    let a = pair_at(first, e);
-    let b = pair_at(second, e);
-    let c = pair_at(third, e);
-    let d = pair_at(first, e + 1);
+    let a = pair_at(&left.first, &right.first, e, places);
+    let b = pair_at(&left.second, &right.second, e, places);
+    let c = pair_at(&left.third, &right.third, e, places);
+    let d = pair_at(&left.first, &right.first, e + 1, places);
+    let f = pair_at(&left.second, &right.second, e + 1, places);
     Three {
         first: vertical_row(&a, &b, &c, weights, far),
         second: vertical_row(&b, &c, &d, weights, far),
-        third: vertical_row(&c, &d, &pair_at(second, e + 1), weights, far),
+        third: vertical_row(&c, &d, &f, weights, far),
     }
 }
 
-/// The vertical pass over the pairs of three runs.
+/// The vertical pass to a 16x16 block, over two strips.
 #[inline(never)]
-fn paired_columns(
+fn filter_strips(
     pixels: &mut [u8],
-    first: &[u8],
-    second: &[u8],
-    third: &[u8],
+    left: &Strip,
+    right: &Strip,
     weights: &[i16; 6],
-    far: &ColumnWeights,
+    filter: &StripFilter,
 )
     requires whole { length pixels.old ≡ 256 }
-    requires one { length first.now ≡ 224 }
-    requires two { length second.now ≡ 224 }
-    requires three { length third.now ≡ 224 }
     requires gentle { SumsFitI16 weights.now }
-    requires turns { AreFar weights.now far.now }
-    ensures { (pixel : ℕ → ℕ → ℕ) → HoldsPairs first.now pixel 0 6 → HoldsPairs second.now pixel 1 6
-        → HoldsPairs third.now pixel 2 6 → (r c : ℕ) → r < 16 → c < 16
+    requires turns { AreFar weights.now filter.now.weights }
+    requires places { Interleave filter.now.places }
+    ensures { (pixel : ℕ → ℕ → ℕ) → AreStrips left.now right.now pixel → (r c : ℕ) → r < 16 → c < 16
         → slice_index pixels.new (r * 16 + c) ≡ filter_six weights.now (λ k. pixel (r + k) c) }
 {
+    let places = filter.places;
     for i in 0..5 {
-        let rows = vertical_three_rows(first, second, third, i, weights, far);
+        let rows = vertical_three_rows(left, right, i, places, weights, &filter.weights);
         put_lanes::<16>(pixels, 3 * i, rows.first);
         put_lanes::<16>(pixels, 3 * i + 1, rows.second);
         put_lanes::<16>(pixels, 3 * i + 2, rows.third);
     }
-    let a = pair_at(first, 5);
-    let b = pair_at(second, 5);
-    let last = vertical_row(&a, &b, &pair_at(third, 5), weights, far);
+    let a = pair_at(&left.first, &right.first, 5, places);
+    let b = pair_at(&left.second, &right.second, 5, places);
+    let c = pair_at(&left.third, &right.third, 5, places);
+    let last = vertical_row(&a, &b, &c, weights, &filter.weights);
     put_lanes::<16>(pixels, 15, last);
 }
 
-/// Both passes with six weights over a block of the reference. Three small runs are cleared inline; one buffer for all
-/// would be cleared by a call.
+/// The vertical pass to a 16x16 block, over the pixels of a plane, of which the first is at column `left` of row `top`.
+pub(crate) fn filter_columns_of_16(
+    pixels: &mut [u8],
+    plane: &Plane,
+    left: usize,
+    top: usize,
+    weights: &[i16; 6],
+)
+    requires whole { length pixels.old ≡ 256 }
+    requires columns { left + 16 ≤ plane.now.width }
+    requires rows { top + 21 ≤ plane.now.height }
+    requires gentle { SumsFitI16 weights.now }
+    ensures { (r c : ℕ) → r < 16 → c < 16 → slice_index pixels.new (r * 16 + c)
+        ≡ filter_six weights.now (λ k. pixel plane.now (left + c) (top + (r + k))) }
+{
+    let mut left_strip = empty_strip();
+    let mut right_strip = empty_strip();
+    copy_strips(&mut left_strip, &mut right_strip, plane, left, top);
+    let filter = strip_filter(weights);
+    filter_strips(pixels, &left_strip, &right_strip, weights, &filter);
+}
+
+/// Both passes over a block of the reference, which has at least sixteen columns.
 pub(crate) fn six_tap_2d_block(
     pixels: &mut [u8],
     plane: &Plane,
@@ -284,18 +367,24 @@ pub(crate) fn six_tap_2d_block(
     requires whole { length pixels.old ≡ 256 }
     requires rows { SumsFitI16 row_weights.now }
     requires columns { SumsFitI16 column_weights.now }
-    requires width { 0 < plane.now.width }
+    requires width { 16 ≤ plane.now.width }
     requires height { 0 < plane.now.height }
     requires near { IsNear left }
     requires beside { IsNear top }
     ensures { (r c : ℕ) → r < 16 → c < 16 → slice_index pixels.new (r * 16 + c)
         ≡ filter_six column_weights.now (λ k. horizontal_pass row_weights.now plane.now left top (r + k) c) }
 {
-    let mut first = [0; 224];
-    let mut second = [0; 224];
-    let mut third = [0; 224];
-    let window = Window { plane, left, top };
-    all_rows(&mut first, &mut second, &mut third, window, row_weights);
-    let far = paired_column_weights(column_weights);
-    paired_columns(pixels, &first, &second, &third, column_weights, &far);
+    let filter = wide_filter(plane.width(), left, row_weights);
+    let mut left_strip = empty_strip();
+    let mut right_strip = empty_strip();
+    filter_rows_of_16(
+        &mut left_strip,
+        &mut right_strip,
+        plane,
+        top,
+        &filter,
+        row_weights,
+    );
+    let down = strip_filter(column_weights);
+    filter_strips(pixels, &left_strip, &right_strip, column_weights, &down);
 }

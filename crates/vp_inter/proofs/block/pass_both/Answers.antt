@@ -5,8 +5,8 @@ use Rattle.vp_inter.specs.Inter.{horizontal_pass}
 use Rattle.vp_inter.proofs.FilterLemmas.{filter_six-same}
 use Rattle.vp_inter.proofs.block.pass_both.Goals as goal
 
-pub returns-then-has_six_taps-2 : goal.returns-then-has_six_taps-2
-returns-then-has_six_taps-2 g c r k rin kin =
+pub returns-then-has_six_taps : goal.returns-then-has_six_taps
+returns-then-has_six_taps g c r k rin kin =
     let sixteen : g.row.N ≡ 16 = c.if-this-eq16.true in
     ap (λ (n : ℕ). get_or c.six_tap_2d_block.new.pixels (r * n + k) 0) sixteen
     ∙ c.six_tap_2d_block.ensures r k (let h : r < 16 = omega arith in h) (let h : k < 16 = omega arith in h)

@@ -38,7 +38,24 @@ returns-then-lies_inside g c r k rin kin =
     let inside = c.if-lies_inside.ensures refl in
     let el : same c.args.left ≡ c.args.left = to_z-of_z w32 c.args.left c.ranges.left in
     let et : same c.args.top ≡ c.args.top = to_z-of_z w32 c.args.top c.ranges.top in
-    c.plane_columns.ensures r k rin kin
+    let size : g.row.N ≡ 8 = c.if-this-eq8.true in
+    ap (λ (n : ℕ). get_or c.filter_columns_of_8.new.pixels (r * n + k) 0) size
+    ∙ c.filter_columns_of_8.ensures r k (let h : r < 8 = omega arith in h) (let h : k < 8 = omega arith in h)
+    ∙ filter_six-same c.args.weights.now (λ j. pixel p (left + k) (top + (r + j))) (λ j. reference_pixel p (c.args.left +ℤ pos k) (c.args.top +ℤ pos (r + j)))
+    (λ j jin. within p left top k (r + j) g.row.N g.row.W (same c.args.left) (same c.args.top) (natural (same c.args.left) inside.0) (natural (same c.args.top) inside.2) inside kin (let h : r + j < g.row.W = omega arith in h)
+    ∙ moved p (same c.args.left) (same c.args.top) c.args.left c.args.top (r + j) k el et)
+
+pub returns-then-lies_inside-2 : goal.returns-then-lies_inside-2
+returns-then-lies_inside-2 g c r k rin kin =
+    let p : Raster = c.args.plane.now in
+    let left : ℕ = nat_abs (same c.args.left) in
+    let top : ℕ = nat_abs (same c.args.top) in
+    let inside = c.if-lies_inside-2.ensures refl in
+    let el : same c.args.left ≡ c.args.left = to_z-of_z w32 c.args.left c.ranges.left in
+    let et : same c.args.top ≡ c.args.top = to_z-of_z w32 c.args.top c.ranges.top in
+    let size : g.row.N ≡ 16 = c.if-this-eq16.true in
+    ap (λ (n : ℕ). get_or c.filter_columns_of_16.new.pixels (r * n + k) 0) size
+    ∙ c.filter_columns_of_16.ensures r k (let h : r < 16 = omega arith in h) (let h : k < 16 = omega arith in h)
     ∙ filter_six-same c.args.weights.now (λ j. pixel p (left + k) (top + (r + j))) (λ j. reference_pixel p (c.args.left +ℤ pos k) (c.args.top +ℤ pos (r + j)))
     (λ j jin. within p left top k (r + j) g.row.N g.row.W (same c.args.left) (same c.args.top) (natural (same c.args.left) inside.0) (natural (same c.args.top) inside.2) inside kin (let h : r + j < g.row.W = omega arith in h)
     ∙ moved p (same c.args.left) (same c.args.top) c.args.left c.args.top (r + j) k el et)

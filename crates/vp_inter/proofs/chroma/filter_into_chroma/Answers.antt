@@ -59,9 +59,9 @@ returns c =
     λ n e. subst (λ (m : ℕ). SelectsPairs c.row_filter-filter.result (λ j. nearest m (left +ℤ pos j))) e c.row_filter-filter.ensures.places in
     let block = filtered c.args.version x y v c.taps-rows.result.now c.taps-columns.result.now left (same c.first_tap-top.result) el et er ec in
     let first = c.write_block.ensures
-    ∙ ap (with_plane p 1) (block c.plane-u.result.now ref.u p.u c.filtered_block-block.result c.plane-u.ensures
-    (c.filtered_block-block.ensures.value left (selects c.plane-u.result.now.width c.width-2.ensures.value))) in
+    ∙ ap (with_plane p 1) (block c.plane-u.result.now ref.u p.u c.filter_strip.new.pixels c.plane-u.ensures
+    (c.filter_strip.ensures (horizontal_pass c.taps-rows.result.now c.plane-u.result.now left (same c.first_tap-top.result)) (c.filter_chroma_rows.ensures.u left (selects c.plane-u.result.now.width c.width-2.ensures.value)))) in
     c.write_block-2.ensures
-    ∙ ap (with_plane now 2) (block c.plane-v.result.now ref.v (plane_of now 2) c.filtered_block-block-2.result c.plane-v.ensures
-    (c.filtered_block-block-2.ensures.value left (selects c.plane-v.result.now.width wide_v)))
+    ∙ ap (with_plane now 2) (block c.plane-v.result.now ref.v (plane_of now 2) c.filter_strip-2.new.pixels c.plane-v.ensures
+    (c.filter_strip-2.ensures (horizontal_pass c.taps-rows.result.now c.plane-v.result.now left (same c.first_tap-top.result)) (c.filter_chroma_rows.ensures.v left (selects c.plane-v.result.now.width wide_v))))
     ∙ ap (λ (i : Image). with_plane i 2 (with_block (plane_of i 2) x y 8 8 (inter_pixel c.args.version ref.v x y v))) first

@@ -22,7 +22,7 @@ returns-then-eighths-eq0 c i k iin kin =
 pub returns-else-eighths-eq0 : goal.returns-else-eighths-eq0
 returns-else-eighths-eq0 c i k iin kin =
     let p : Raster = c.args.plane.now in
-    c.horizontal_six_tap_16.ensures i k iin kin
+    c.other_rows.ensures i k iin kin
     ∙ ap (λ (weights : List ℤ). horizontal_pass weights p (to_z w32 (of_z w32 c.args.left)) (to_z w32 (of_z w32 c.args.top)) i k) c.taps.ensures.value
     ∙ ap (λ (z : ℤ). horizontal_pass (taps 0 c.args.eighths) p z (to_z w32 (of_z w32 c.args.top)) i k) (to_z-of_z w32 c.args.left c.ranges.left)
     ∙ ap (λ (z : ℤ). horizontal_pass (taps 0 c.args.eighths) p c.args.left z i k) (to_z-of_z w32 c.args.top c.ranges.top)
