@@ -14,19 +14,11 @@ chunk-at xs x j h = search (rules, places)
 pub lane_at : (q b : List ℕ) (y y' : ℕ) → q ≡ chunk y 16 b → y ≡ y' → (j : ℕ) → j < 16 → get_or q j 0 ≡ get_or b (y' + j) 0
 lane_at q b y y' eq ey j h = ap (λ (l : List ℕ). get_or l j 0) eq ∙ chunk-at b y j h ∙ ap (λ k. get_or b (k + j) 0) ey
 
--- a lane of a row's differences
-pub lane_is_pixel : (p q d a b : List ℕ) (x y x' y' : ℕ) → p ≡ chunk x 16 a → q ≡ chunk y 16 b → x ≡ x' → y ≡ y'
-    → ((j : ℕ) → j < 16 → get_or d j 0 ≡ abs_diff (get_or p j 0) (get_or q j 0))
-    → (j : ℕ) → j < 16 → get_or d j 0 ≡ abs_diff (get_or a (x' + j) 0) (get_or b (y' + j) 0)
-lane_is_pixel p q d a b x y x' y' ep eq ex ey all j h =
-    all j h ∙ ap₂ abs_diff (lane_at p a x x' ep ex j h) (lane_at q b y y' eq ey j h)
-
--- .. with a row that is in lanes already
-pub lane_beside : (p q d a : List ℕ) (x x' : ℕ) (row : ℕ → ℕ) → p ≡ chunk x 16 a → x ≡ x'
-    → ((j : ℕ) → j < 16 → get_or d j 0 ≡ abs_diff (get_or p j 0) (get_or q j 0)) → ((j : ℕ) → j < 16 → get_or q j 0 ≡ row j)
-    → (j : ℕ) → j < 16 → get_or d j 0 ≡ abs_diff (get_or a (x' + j) 0) (row j)
-lane_beside p q d a x x' row ep ex all is j h =
-    all j h ∙ ap₂ abs_diff (lane_at p a x x' ep ex j h) (is j h)
+-- a lane of the differences of two rows
+pub lane_beside : (p q d : List ℕ) (f g : ℕ → ℕ) → ((j : ℕ) → j < 16 → get_or d j 0 ≡ abs_diff (get_or p j 0) (get_or q j 0))
+    → ((j : ℕ) → j < 16 → get_or p j 0 ≡ f j) → ((j : ℕ) → j < 16 → get_or q j 0 ≡ g j)
+    → (j : ℕ) → j < 16 → get_or d j 0 ≡ abs_diff (f j) (g j)
+lane_beside p q d f g all a b j h = all j h ∙ ap₂ abs_diff (a j h) (b j h)
 
 -- lanes that hold the sums of four rows
 pub four_sums : (row : ℕ → ℕ → ℕ) (e : List ℕ) → ((j : ℕ) → j < 16 → get_or e j 0 ≡ (row 0 j + row 1 j) + (row 2 j + row 3 j))

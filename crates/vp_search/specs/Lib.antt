@@ -1,5 +1,6 @@
 pub mod Sums
 pub mod Differences
+pub mod Rows
 pub mod Vectors
 pub mod Blocks
 pub mod Least

@@ -7,14 +7,15 @@ ghost use Rattle.vp_search.specs.Differences.{sum_of_differences, block16};
 ghost use Rattle.vp_search.specs.Blocks.{quarter_cost};
 ghost use Rattle.vp_search.specs.Columns.{IsWithin, IsColumn, filtered};
 
-use crate::difference::sad_within;
-use crate::kernel::four_lanes;
+use crate::difference::sad_up_to;
+use crate::kernel::{FourRows, four_differences, load_rows};
+use crate::rows::Block;
 use vp_base::Place;
 use vp_inter::{ColumnFilter, FilteredRows};
 
 /// The cost of the vector `down` quarter pixels below that whose rows these are, which has a row of whole pixels. If it
 /// is above `limit`, returns some number above `limit`.
-pub(crate) fn cost_of_row(block: &[u8; 256], rows: &FilteredRows, down: usize, limit: u32) -> u32
+pub(crate) fn cost_of_row(block: &Block, rows: &FilteredRows, down: usize, limit: u32) -> u32
     requires { down < 8 }
     ensures { (p : Raster) (place : Place) (whole column : ℤ) → IsColumn p place whole column rows.now
         → IsWithin limit result (quarter_cost (block16 block.now) p place
@@ -23,7 +24,7 @@ pub(crate) fn cost_of_row(block: &[u8; 256], rows: &FilteredRows, down: usize, l
     let skip = down / 4;
     let eighths = 2 * (down % 4);
     if eighths == 0 {
-        return sad_within(block, rows.rows(), 16 * (skip + 2), 16, limit);
+        return sad_up_to(block, rows.rows(), 16 * (skip + 2), 16, limit);
     }
     let mut sum = 0;
     add_cost(
@@ -39,7 +40,7 @@ pub(crate) fn cost_of_row(block: &[u8; 256], rows: &FilteredRows, down: usize, l
 
 /// The costs of the vectors two and six quarter pixels below that whose rows these are, by one vertical pass.
 pub(crate) fn costs_of_halves(
-    block: &[u8; 256],
+    block: &Block,
     rows: &FilteredRows,
     half: &ColumnFilter,
     limit: u32,
@@ -54,8 +55,8 @@ pub(crate) fn costs_of_halves(
 {
     let both = rows.filtered_rows(half);
     [
-        sad_within(block, &both, 0, 16, limit),
-        sad_within(block, &both, 16, 16, limit),
+        sad_up_to(block, &both, 0, 16, limit),
+        sad_up_to(block, &both, 16, 16, limit),
     ]
 }
 
@@ -65,7 +66,7 @@ pub(crate) fn costs_of_halves(
 #[inline(never)]
 fn add_cost(
     sum: &mut u32,
-    block: &[u8; 256],
+    block: &Block,
     rows: &FilteredRows,
     filter: &ColumnFilter,
     skip: usize,
@@ -87,7 +88,7 @@ fn add_cost(
 /// The sum of absolute differences of rows `4 * i` to `4 * i + 3` of a block and of its prediction.
 #[inline(always)]
 fn four_filtered(
-    block: &[u8; 256],
+    block: &Block,
     rows: &FilteredRows,
     filter: &ColumnFilter,
     skip: usize,
@@ -100,12 +101,11 @@ fn four_filtered(
     ensures bound { result ≤ 4 * 16 * 255 }
 {
     let r = skip + 4 * i;
-    four_lanes(
-        block,
-        64 * i,
-        rows.filtered_row(filter, r),
-        rows.filtered_row(filter, r + 1),
-        rows.filtered_row(filter, r + 2),
-        rows.filtered_row(filter, r + 3),
-    )
+    let predicted = FourRows {
+        first: rows.filtered_row(filter, r),
+        second: rows.filtered_row(filter, r + 1),
+        third: rows.filtered_row(filter, r + 2),
+        fourth: rows.filtered_row(filter, r + 3),
+    };
+    four_differences(load_rows(block.pixels(), 64 * i, 16), predicted)
 }

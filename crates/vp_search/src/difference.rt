@@ -1,72 +1,118 @@
 //! Sums of absolute differences of 16x16 blocks.
 
-ghost use Rattle.std.specs.Prelude.{◌≡◌, ◌+◌, ◌*◌, ◌<◌, ◌≤◌, length, slice_index};
+ghost use Rattle.std.specs.Prelude.{◌≡◌, ◌+◌, ◌*◌, ◌<◌, ◌≤◌, length, slice_index, IfSome, None};
 ghost use Rattle.vp_search.specs.Differences.{sum_of_differences, strided_block, block16};
+ghost use Rattle.vp_search.specs.Columns.{IsWithin};
 
-use crate::kernel::four_rows;
+use crate::kernel::{four_differences, load_rows};
+use crate::rows::Block;
 
 /// The sum of absolute differences of two 16x16 blocks in raster order.
 pub fn sad16(a: &[u8; 256], b: &[u8; 256]) -> u32
     ensures value { result ≡ sum_of_differences 16 16 (block16 a.now) (block16 b.now) }
     ensures bound { result ≤ 65280 }
 {
-    sad_within(a, b, 0, 16, u32::MAX)
+    sad(&Block::of(a), b, 0, 16)
+}
+
+/// The sum of absolute differences of rows `4 * i` to `4 * i + 3` of a block and four rows of a window that are `stride`
+/// apart, from index `at` on.
+fn four_rows(block: &Block, i: usize, window: &[u8], at: usize, stride: usize) -> u32
+    requires i { i < 4 }
+    requires window { at + 3 * stride + 16 ≤ length window.now }
+    ensures value { result ≡ sum_of_differences 4 16 (strided_block block.now (64 * i) 16)
+        (strided_block window.now at stride) }
+    ensures bound { result ≤ 4 * 16 * 255 }
+{
+    four_differences(block.rows(i), load_rows(window, at, stride))
 }
 
 /// The sum of absolute differences of the first four rows of a block and of the one at index `at` of a window with rows
 /// of `stride` pixels.
-pub(crate) fn first_rows(block: &[u8], window: &[u8], at: usize, stride: usize) -> u32
-    requires block { 256 ≤ length block.now }
-    requires window { at + 3 * stride + 16 ≤ length window.now }
+pub(crate) fn first_rows(block: &Block, window: &[u8], at: usize, stride: usize) -> u32
+    requires { at + 3 * stride + 16 ≤ length window.now }
     ensures value { result ≡ sum_of_differences 4 16 (strided_block block.now 0 16)
         (strided_block window.now at stride) }
     ensures bound { result ≤ 4 * 16 * 255 }
 {
-    four_rows(block, window, 0, at, stride)
+    four_rows(block, 0, window, at, stride)
 }
 
-/// The sum of absolute differences of a block and the one at index `at` of a window with rows of `stride` pixels. If
-/// the sum is above `limit`, returns some number above `limit`.
-pub(crate) fn sad_within(block: &[u8], window: &[u8], at: usize, stride: usize, limit: u32) -> u32
-    requires block { 256 ≤ length block.now }
-    requires window { at + 15 * stride + 16 ≤ length window.now }
-    ensures exact { result ≤ limit → result ≡ sum_of_differences 16 16 (strided_block block.now 0 16)
-        (strided_block window.now at stride) }
-    ensures over { limit < result → limit < sum_of_differences 16 16 (strided_block block.now 0 16)
+/// The sum of absolute differences of a block and the one at index `at` of a window with rows of `stride` pixels.
+pub(crate) fn sad(block: &Block, window: &[u8], at: usize, stride: usize) -> u32
+    requires { at + 15 * stride + 16 ≤ length window.now }
+    ensures value { result ≡ sum_of_differences 16 16 (strided_block block.now 0 16)
         (strided_block window.now at stride) }
     ensures bound { result ≤ 16 * 16 * 255 }
+{
+    first_rows(block, window, at, stride)
+        + four_rows(block, 1, window, at + 4 * stride, stride)
+        + four_rows(block, 2, window, at + 8 * stride, stride)
+        + four_rows(block, 3, window, at + 12 * stride, stride)
+}
+
+/// As `sad`, if the sum is at most `limit`; else None.
+pub(crate) fn sad_within(
+    block: &Block,
+    window: &[u8],
+    at: usize,
+    stride: usize,
+    limit: u32,
+) -> Option<u32>
+    requires { at + 15 * stride + 16 ≤ length window.now }
+    ensures within { IfSome result (λ sum. sum ≤ limit) }
+    ensures value { IfSome result (λ sum. sum ≡ sum_of_differences 16 16 (strided_block block.now 0 16)
+        (strided_block window.now at stride)) }
+    ensures over { result ≡ None → limit < sum_of_differences 16 16 (strided_block block.now 0 16)
+        (strided_block window.now at stride) }
 {
     let first = first_rows(block, window, at, stride);
     rest_within(block, window, at, stride, first, limit)
 }
 
-/// As `sad_within`, where the sum of the first four rows is known.
+/// As `sad_within`, where the sum of the first four rows is known. It is compared with the limit after twelve rows:
+/// after eight few vectors are above it.
 pub(crate) fn rest_within(
-    block: &[u8],
+    block: &Block,
     window: &[u8],
     at: usize,
     stride: usize,
     first: u32,
     limit: u32,
-) -> u32
-    requires block { 256 ≤ length block.now }
+) -> Option<u32>
     requires window { at + 15 * stride + 16 ≤ length window.now }
     requires first { first ≡ sum_of_differences 4 16 (strided_block block.now 0 16)
         (strided_block window.now at stride) }
     requires bound { first ≤ 4 * 16 * 255 }
-    ensures exact { result ≤ limit → result ≡ sum_of_differences 16 16 (strided_block block.now 0 16)
+    ensures within { IfSome result (λ sum. sum ≤ limit) }
+    ensures value { IfSome result (λ sum. sum ≡ sum_of_differences 16 16 (strided_block block.now 0 16)
+        (strided_block window.now at stride)) }
+    ensures over { result ≡ None → limit < sum_of_differences 16 16 (strided_block block.now 0 16)
         (strided_block window.now at stride) }
-    ensures over { limit < result → limit < sum_of_differences 16 16 (strided_block block.now 0 16)
-        (strided_block window.now at stride) }
-    ensures bound { result ≤ 16 * 16 * 255 }
 {
-    let second = first + four_rows(block, window, 4 * 16, at + 4 * stride, stride);
-    if second > limit {
-        return second;
-    }
-    let third = second + four_rows(block, window, 8 * 16, at + 8 * stride, stride);
+    let second = first + four_rows(block, 1, window, at + 4 * stride, stride);
+    let third = second + four_rows(block, 2, window, at + 8 * stride, stride);
     if third > limit {
-        return third;
+        return None;
     }
-    third + four_rows(block, window, 12 * 16, at + 12 * stride, stride)
+    let all = third + four_rows(block, 3, window, at + 12 * stride, stride);
+    if all > limit {
+        return None;
+    }
+    Some(all)
+}
+
+/// As `sad`; if the sum is above `limit`, returns some number above `limit`.
+pub(crate) fn sad_up_to(block: &Block, window: &[u8], at: usize, stride: usize, limit: u32) -> u32
+    requires { at + 15 * stride + 16 ≤ length window.now }
+    ensures { IsWithin limit result (sum_of_differences 16 16 (strided_block block.now 0 16)
+        (strided_block window.now at stride)) }
+{
+    let most = first_rows(block, window, at, stride)
+        + four_rows(block, 1, window, at + 4 * stride, stride)
+        + four_rows(block, 2, window, at + 8 * stride, stride);
+    if most > limit {
+        return most;
+    }
+    most + four_rows(block, 3, window, at + 12 * stride, stride)
 }

@@ -5,6 +5,7 @@ ghost use Rattle.std.specs.Prelude.{◌≡◌, ℕ, ◌+◌, ◌*◌, ◌<◌, �
 ghost use Rattle.vp_search.specs.Window.{first_rows, all_rows};
 
 use crate::difference::{first_rows, sad_within};
+use crate::rows::Block;
 use crate::window::WINDOW_WIDTH;
 
 /// Two blocks of a row of a window, of which the second begins a pixel after the first: how many pairs are before them,
@@ -21,14 +22,13 @@ pub(crate) struct Pair {
 /// jump for each costs up to a third more time. The place of the next pair does not depend on a comparison, so that the
 /// processor can begin with it before.
 pub(crate) fn next_pair(
-    block: &[u8],
+    block: &Block,
     window: &[u8],
     begin: usize,
     from: usize,
     end: usize,
     limit: u32,
 ) -> Option<Pair>
-    requires block { 256 ≤ length block.now }
     requires window { begin + 2 * end + 3 * WINDOW_WIDTH + 15 ≤ length window.now }
     requires end { from ≤ end }
     ensures place { IfSome result (λ pair. (from ≤ pair.number) × (pair.number < end)) }
@@ -59,16 +59,15 @@ pub(crate) struct Within {
 }
 
 /// The first of the vectors from column `from` to `end`, without `end`, of a row that begins at index `begin`, that
-/// costs at most `limit`. The loop stores nothing, so that eight rows of `block` stay in registers.
+/// costs at most `limit`. The loop stores nothing, so that twelve rows of `block` stay in registers.
 pub(crate) fn next_within_limit(
-    block: &[u8],
+    block: &Block,
     window: &[u8],
     begin: usize,
     from: usize,
     end: usize,
     limit: u32,
 ) -> Option<Within>
-    requires block { 256 ≤ length block.now }
     requires window { begin + end + 15 * WINDOW_WIDTH + 15 ≤ length window.now }
     requires end { from ≤ end }
     ensures place { IfSome result (λ found. (from ≤ found.column) × (found.column < end)) }
@@ -79,8 +78,7 @@ pub(crate) fn next_within_limit(
         → limit < all_rows block.now window.now k }
 {
     for column in from..end {
-        let cost = sad_within(block, window, begin + column, WINDOW_WIDTH, limit);
-        if cost <= limit {
+        if let Some(cost) = sad_within(block, window, begin + column, WINDOW_WIDTH, limit) {
             return Some(Within { column, cost });
         }
     }

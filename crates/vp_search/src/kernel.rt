@@ -4,6 +4,7 @@ ghost use Rattle.std.specs.Prelude.{◌≡◌, ℕ, ◌+◌, ◌*◌, ◌<◌, �
 ghost use Rattle.std.specs.Int.{abs_diff};
 ghost use Rattle.vp_search.specs.Sums.{sum_below};
 ghost use Rattle.vp_search.specs.Differences.{sum_of_differences, strided_block, squared_difference};
+ghost use Rattle.vp_search.specs.Rows.{HasRows};
 
 use std::simd::prelude::*;
 use vp_lanes::load16;
@@ -43,50 +44,36 @@ fn total(a: u32x16) -> u32
     a.strict_reduce_sum()
 }
 
-/// The sum of absolute differences of four rows of a block, from index `from` on, and four others.
-pub(crate) fn four_lanes(
-    block: &[u8],
-    from: usize,
-    first: u8x16,
-    second: u8x16,
-    third: u8x16,
-    fourth: u8x16,
-) -> u32
-    requires { from + 64 ≤ length block.now }
-    ensures value { (row : ℕ → ℕ → ℕ) → ((j : ℕ) → j < 16 → slice_index first j ≡ row 0 j)
-        → ((j : ℕ) → j < 16 → slice_index second j ≡ row 1 j)
-        → ((j : ℕ) → j < 16 → slice_index third j ≡ row 2 j)
-        → ((j : ℕ) → j < 16 → slice_index fourth j ≡ row 3 j)
-        → result ≡ sum_of_differences 4 16 (strided_block block.now from 16) row }
-    ensures bound { result ≤ 4 * 16 * 255 }
-{
-    let upper = both(
-        apart(load16(block, from), first),
-        apart(load16(block, from + 16), second),
-    );
-    let lower = both(
-        apart(load16(block, from + 32), third),
-        apart(load16(block, from + 48), fourth),
-    );
-    total(both(upper, lower))
+/// Four rows of sixteen pixels, in lanes.
+#[derive(Clone, Copy)]
+pub(crate) struct FourRows {
+    pub(crate) first: u8x16,
+    pub(crate) second: u8x16,
+    pub(crate) third: u8x16,
+    pub(crate) fourth: u8x16,
 }
 
-/// The sum of absolute differences of four rows of a block, from index `from` on, and four rows of `b` that are `step`
-/// apart, from index `at` on.
-pub(crate) fn four_rows(block: &[u8], b: &[u8], from: usize, at: usize, step: usize) -> u32
-    requires block { from + 64 ≤ length block.now }
-    requires room { at + 3 * step + 16 ≤ length b.now }
-    ensures value { result ≡ sum_of_differences 4 16 (strided_block block.now from 16) (strided_block b.now at step) }
+/// Loads four rows that are `step` apart, from index `at` on.
+pub(crate) fn load_rows(s: &[u8], at: usize, step: usize) -> FourRows
+    requires { at + 3 * step + 16 ≤ length s.now }
+    ensures { HasRows (strided_block s.now at step) result }
+{
+    FourRows {
+        first: load16(s, at),
+        second: load16(s, at + step),
+        third: load16(s, at + 2 * step),
+        fourth: load16(s, at + 3 * step),
+    }
+}
+
+/// The sum of absolute differences of four rows and four others.
+pub(crate) fn four_differences(a: FourRows, b: FourRows) -> u32
+    ensures value { (f g : ℕ → ℕ → ℕ) → HasRows f a → HasRows g b → result ≡ sum_of_differences 4 16 f g }
     ensures bound { result ≤ 4 * 16 * 255 }
 {
-    four_lanes(
-        block,
-        from,
-        load16(b, at),
-        load16(b, at + step),
-        load16(b, at + 2 * step),
-        load16(b, at + 3 * step),
-    )
+    let upper = both(apart(a.first, b.first), apart(a.second, b.second));
+    let lower = both(apart(a.third, b.third), apart(a.fourth, b.fourth));
+    total(both(upper, lower))
 }
 
 /// The sum of squared differences of sixteen numbers.

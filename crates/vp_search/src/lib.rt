@@ -13,6 +13,7 @@ mod least;
 mod outward;
 mod reference;
 mod refinement;
+mod rows;
 mod search;
 mod searcher;
 mod squares;

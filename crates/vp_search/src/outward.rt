@@ -4,7 +4,8 @@
 //! exclude less than half, as in noise and in fine texture, rows are searched without them. Once a vector
 //! costs nothing, as in a repeated pattern, rows further away than it is long are left out.
 
-ghost use Rattle.std.specs.Prelude.{◌≡◌, ℕ, ◌+◌, ◌*◌, ◌<◌, ◌≤◌, ◌⊎◌, ◌≢◌, true, length, slice_index, unsigned_abs};
+ghost use Rattle.std.specs.Prelude.{◌≡◌, ℕ, ◌+◌, ◌*◌, ◌<◌, ◌≤◌, ◌⊎◌, ◌≢◌, true, false, length, slice_index};
+ghost use Rattle.std.specs.Prelude.{unsigned_abs};
 ghost use Rattle.std.specs.Int.{bit_at};
 ghost use Rattle.vp_search.specs.declared.vector.WholeVector.{WholeVector};
 ghost use Rattle.vp_search.specs.Vectors.{vector_length, IsNear};
@@ -14,8 +15,9 @@ ghost use Rattle.vp_search.specs.Window.{IsBestBelow};
 ghost use Rattle.vp_search.specs.Bounds.{IsBound};
 ghost use Rattle.vp_search.specs.Summed.{IsSummedSearch};
 
-use crate::difference::{first_rows, rest_within, sad_within};
+use crate::difference::{first_rows, rest_within, sad};
 use crate::early::{Pair, next_pair, next_within_limit};
+use crate::rows::Block;
 use crate::summed::SquareSums;
 use crate::sums::{bounds_at, next_within, within};
 use crate::vector::{Found, Scope, vector_at, vector_length};
@@ -32,7 +34,13 @@ pub(crate) struct Spot {
 /// The better of a known vector and the one at `place`. Always inlined: with a call for each vector, a search takes a
 /// third more instructions.
 #[inline(always)]
-pub(crate) fn consider(block: &[u8], window: &[u8], scope: Scope, best: Found, place: Spot) -> Found
+pub(crate) fn consider(
+    block: &Block,
+    window: &[u8],
+    scope: Scope,
+    best: Found,
+    place: Spot,
+) -> Found
     requires search { IsSearchable block.now window.now scope.range }
     requires row { place.row ≤ 2 * scope.range }
     requires column { place.column ≤ 2 * scope.range }
@@ -51,7 +59,7 @@ pub(crate) fn consider(block: &[u8], window: &[u8], scope: Scope, best: Found, p
 /// The better of a known vector and the one at `place`, of whose block the first four rows differ by `first`.
 #[inline(always)]
 fn consider_rest(
-    block: &[u8],
+    block: &Block,
     window: &[u8],
     scope: Scope,
     best: Found,
@@ -71,10 +79,9 @@ fn consider_rest(
         (vector_at scope.range place.row place.column) }
 {
     let at = place.row * WINDOW_WIDTH + place.column;
-    let cost = rest_within(block, window, at, WINDOW_WIDTH, first, best.cost);
-    if cost > best.cost {
+    let Some(cost) = rest_within(block, window, at, WINDOW_WIDTH, first, best.cost) else {
         return best;
-    }
+    };
     lesser(
         best,
         Found {
@@ -84,7 +91,27 @@ fn consider_rest(
     )
 }
 
-/// The better of two vectors: by cost, then length, then row, then column.
+/// Whether a vector is better than another: by cost, then length, then row, then column.
+fn is_better(new: Found, old: Found) -> bool
+    requires new { IsNear 64 new.vector }
+    requires old { IsNear 64 old.vector }
+    ensures yes { result ≡ true → IsNoWorse new.cost new.vector old.cost old.vector }
+    ensures no { result ≡ false → IsNoWorse old.cost old.vector new.cost new.vector }
+{
+    if new.cost != old.cost {
+        return new.cost < old.cost;
+    }
+    let (new_size, old_size) = (vector_length(new.vector), vector_length(old.vector));
+    if new_size != old_size {
+        return new_size < old_size;
+    }
+    if new.vector.row != old.vector.row {
+        return new.vector.row < old.vector.row;
+    }
+    new.vector.column < old.vector.column
+}
+
+/// The better of two vectors. With `if .. { new } else { old }` the best would be kept in memory.
 fn lesser(old: Found, new: Found) -> Found
     requires old { IsNear 64 old.vector }
     requires new { IsNear 64 new.vector }
@@ -92,30 +119,16 @@ fn lesser(old: Found, new: Found) -> Found
     ensures new { IsNoWorse result.cost result.vector new.cost new.vector }
     ensures one { (result ≡ old) ⊎ (result ≡ new) }
 {
-    if new.cost != old.cost {
-        return if new.cost < old.cost { new } else { old };
+    let mut found = old;
+    if is_better(new, old) {
+        found = new;
     }
-    let (new_size, old_size) = (vector_length(new.vector), vector_length(old.vector));
-    if new_size != old_size {
-        return if new_size < old_size { new } else { old };
-    }
-    if new.vector.row != old.vector.row {
-        return if new.vector.row < old.vector.row {
-            new
-        } else {
-            old
-        };
-    }
-    if new.vector.column < old.vector.column {
-        new
-    } else {
-        old
-    }
+    found
 }
 
 /// The better of a known vector and the one at `place`, whose cost is at least `bound`, if it is within the range.
 fn consider_bounded(
-    block: &[u8],
+    block: &Block,
     window: &[u8],
     scope: Scope,
     best: Found,
@@ -133,12 +146,14 @@ fn consider_bounded(
         (window_cost block.now window.now scope.range (vector_at scope.range place.row place.column))
         (vector_at scope.range place.row place.column) }
 {
-    if place.column > 2 * usize::from(scope.range) || bound > best.cost {
+    if place.column > 2 * usize::from(scope.range) {
         return best;
     }
-    let vector = vector_at(place.row, place.column, scope.range);
-    if bound == best.cost && vector_length(vector) > vector_length(best.vector) {
-        return best;
+    if bound >= best.cost {
+        let vector = vector_at(place.row, place.column, scope.range);
+        if bound > best.cost || vector_length(vector) > vector_length(best.vector) {
+            return best;
+        }
     }
     consider(block, window, scope, best, place)
 }
@@ -155,41 +170,40 @@ fn take_first(places: u64) -> (usize, u64)
     (first, places & !(1 << first))
 }
 
-/// The best of a known vector and those of eight in a row that are within the range. Their costs are at least `bounds`.
-/// Not inlined: the loop over the bounds needs the registers.
+/// Replaces a known vector by the best of it and of eight in a row that are within the range. Their costs are at least
+/// `bounds`. Not inlined: the loop over the bounds needs the registers.
 #[inline(never)]
 fn consider_eight(
-    block: &[u8],
+    block: &Block,
     window: &[u8],
     scope: Scope,
-    best: Found,
+    best: &mut Found,
     spot: Spot,
     bounds: u16x8,
-) -> Found
+)
     requires search { IsSearchable block.now window.now scope.range }
     requires row { spot.row ≤ 2 * scope.range }
     requires column { spot.column ≤ 2 * scope.range + 8 }
     requires bounds { IsBound block.now window.now scope.range spot.row spot.column bounds }
-    requires best { IsFoundInWindow scope (window_cost block.now window.now scope.range) best }
-    ensures kept { IsFoundInWindow scope (window_cost block.now window.now scope.range) result }
-    ensures old { IsNoWorse result.cost result.vector best.cost best.vector }
-    ensures here { (t : ℕ) → t < 8 → spot.column + t ≤ 2 * scope.range → IsNoWorse result.cost result.vector
+    requires best { IsFoundInWindow scope (window_cost block.now window.now scope.range) best.old }
+    ensures kept { IsFoundInWindow scope (window_cost block.now window.now scope.range) best.new }
+    ensures old { IsNoWorse best.new.cost best.new.vector best.old.cost best.old.vector }
+    ensures here { (t : ℕ) → t < 8 → spot.column + t ≤ 2 * scope.range → IsNoWorse best.new.cost best.new.vector
         (window_cost block.now window.now scope.range (vector_at scope.range spot.row (spot.column + t)))
         (vector_at scope.range spot.row (spot.column + t)) }
 {
     let each = bounds.to_array();
     let mut left = within(bounds, best.cost);
-    let mut found = best;
     while left != 0 {
         let (t, others) = take_first(left);
         let place = Spot {
             row: spot.row,
             column: spot.column + t,
         };
-        found = consider_bounded(block, window, scope, found, place, u32::from(each[t]));
+        let next = consider_bounded(block, window, scope, *best, place, u32::from(each[t]));
+        *best = next;
         left = others;
     }
-    found
 }
 
 /// The rows, or the macroblocks, that are searched next without bounds.
@@ -257,7 +271,7 @@ fn most_pass(sums: SquareSums, range: u8, cost: u32, i: usize) -> bool
 
 /// Whether at least half of the vectors of row `i` cost more than `limit` by their first four rows of pixels, by the
 /// eight that begin at its middle. If fewer do, as in noise, comparing there costs more than it saves.
-fn half_leave_early(block: &[u8], window: &[u8], range: u8, limit: u32, i: usize) -> bool
+fn half_leave_early(block: &Block, window: &[u8], range: u8, limit: u32, i: usize) -> bool
     requires search { IsSearchable block.now window.now range }
     requires i { i ≤ 2 * range }
 {
@@ -273,7 +287,7 @@ fn half_leave_early(block: &[u8], window: &[u8], range: u8, limit: u32, i: usize
 
 /// The rows that are searched without bounds after row `i`: some if `pass`, most of its bounds being below `cost`.
 fn unbounded_after(
-    block: &[u8],
+    block: &Block,
     window: &[u8],
     range: u8,
     cost: u32,
@@ -296,7 +310,7 @@ fn unbounded_after(
 /// range: 7 of 24 at range 8.
 #[inline(always)]
 fn consider_bounded_row(
-    block: &[u8],
+    block: &Block,
     window: &[u8],
     sums: SquareSums,
     scope: Scope,
@@ -316,15 +330,14 @@ fn consider_bounded_row(
     let mut found = best;
     let mut g = 0;
     let mut passed = 0;
-    while g < groups {
-        let (next, bounds) = next_within(sums, i * WINDOW_WIDTH, g, groups, found.cost);
+    while let Some(next) = next_within(sums, i * WINDOW_WIDTH, g, groups, found.cost) {
         let spot = Spot {
             row: i,
-            column: 8 * next,
+            column: 8 * next.number,
         };
-        passed += below_best(bounds, found.cost);
-        found = consider_eight(block, window, scope, found, spot, bounds);
-        g = next + 1;
+        passed += below_best(next.bounds, found.cost);
+        consider_eight(block, window, scope, &mut found, spot, next.bounds);
+        g = next.number + 1;
     }
     Progress {
         best: found,
@@ -343,7 +356,7 @@ fn consider_bounded_row(
 /// prepares the block's sums for it takes about as long as the bounds of a short row.
 #[inline(always)]
 fn consider_next(
-    block: &[u8],
+    block: &Block,
     window: &[u8],
     sums: SquareSums,
     scope: Scope,
@@ -378,7 +391,7 @@ fn consider_next(
 }
 
 /// The zero vector, whose block is at the centre of the window, with its cost.
-pub(crate) fn centre_of(block: &[u8], window: &[u8], range: u8) -> Found
+pub(crate) fn centre_of(block: &Block, window: &[u8], range: u8) -> Found
     requires search { IsSearchable block.now window.now range }
     ensures near { IsNear range result.vector }
     ensures known { result.cost ≡ window_cost block.now window.now range result.vector }
@@ -390,13 +403,13 @@ pub(crate) fn centre_of(block: &[u8], window: &[u8], range: u8) -> Found
     let at = middle * WINDOW_WIDTH + middle;
     Found {
         vector: vector_at(middle, middle, range),
-        cost: sad_within(block, window, at, WINDOW_WIDTH, u32::MAX),
+        cost: sad(block, window, at, WINDOW_WIDTH),
     }
 }
 
 /// The best of a known vector and those of row `i`, one by one. Not inlined, so that there is one copy.
 #[inline(never)]
-fn consider_each(block: &[u8], window: &[u8], scope: Scope, best: Found, i: usize) -> Found
+fn consider_each(block: &Block, window: &[u8], scope: Scope, best: Found, i: usize) -> Found
     requires search { IsSearchable block.now window.now scope.range }
     requires i { i ≤ 2 * scope.range }
     requires best { IsFoundInWindow scope (window_cost block.now window.now scope.range) best }
@@ -426,7 +439,7 @@ fn consider_each(block: &[u8], window: &[u8], scope: Scope, best: Found, i: usiz
 /// left out if these differ by more than the best costs.
 #[inline(always)]
 fn consider_start(
-    block: &[u8],
+    block: &Block,
     window: &[u8],
     scope: Scope,
     best: Found,
@@ -454,7 +467,7 @@ fn consider_start(
 /// The better of a known vector and the one at `place`, as `consider` has it, but compared after four rows of pixels
 /// too.
 #[inline(always)]
-fn consider_early(block: &[u8], window: &[u8], scope: Scope, best: Found, place: Spot) -> Found
+fn consider_early(block: &Block, window: &[u8], scope: Scope, best: Found, place: Spot) -> Found
     requires search { IsSearchable block.now window.now scope.range }
     requires row { place.row ≤ 2 * scope.range }
     requires column { place.column ≤ 2 * scope.range }
@@ -473,7 +486,7 @@ fn consider_early(block: &[u8], window: &[u8], scope: Scope, best: Found, place:
 /// The best of a known vector and those of a pair that begins at `place`.
 #[inline(always)]
 fn consider_pair(
-    block: &[u8],
+    block: &Block,
     window: &[u8],
     scope: Scope,
     best: Found,
@@ -507,7 +520,7 @@ fn consider_pair(
 /// The best of a known vector and those of row `i`, where most of these differ by more than the best costs by their
 /// first four rows of pixels.
 #[inline(never)]
-fn consider_starts(block: &[u8], window: &[u8], scope: Scope, best: Found, i: usize) -> Found
+fn consider_starts(block: &Block, window: &[u8], scope: Scope, best: Found, i: usize) -> Found
     requires search { IsSearchable block.now window.now scope.range }
     requires i { i ≤ 2 * scope.range }
     requires best { IsFoundInWindow scope (window_cost block.now window.now scope.range) best }
@@ -538,7 +551,7 @@ fn consider_starts(block: &[u8], window: &[u8], scope: Scope, best: Found, i: us
 /// The best of a known vector and those of row `i`, as `consider_starts` has it, but one by one: in a short row pairs
 /// do not pay.
 #[inline(never)]
-fn consider_short_row(block: &[u8], window: &[u8], scope: Scope, best: Found, i: usize) -> Found
+fn consider_short_row(block: &Block, window: &[u8], scope: Scope, best: Found, i: usize) -> Found
     requires search { IsSearchable block.now window.now scope.range }
     requires i { i ≤ 2 * scope.range }
     requires best { IsFoundInWindow scope (window_cost block.now window.now scope.range) best }
@@ -558,7 +571,7 @@ fn consider_short_row(block: &[u8], window: &[u8], scope: Scope, best: Found, i:
 /// The best of a known vector and those of row `i`. With `early` they are compared with the best after four rows of
 /// pixels too.
 fn consider_unbounded_row(
-    block: &[u8],
+    block: &Block,
     window: &[u8],
     scope: Scope,
     best: Found,
@@ -595,7 +608,7 @@ fn is_best_beyond(best: Found, distance: usize) -> bool
 /// The best of a known vector and all others of a window, one by one. With `early` they are compared with the best
 /// after four rows of pixels too.
 pub(crate) fn search_unbounded(
-    block: &[u8],
+    block: &Block,
     window: &[u8],
     scope: Scope,
     known: Found,
@@ -619,7 +632,7 @@ pub(crate) fn search_unbounded(
 
 /// The best vector of a window, one by one: where bounds don't pay, or their memory is not at hand. If the zero vector
 /// `centre` costs nothing, as on black bars, no other is better.
-pub(crate) fn search_from_centre(block: &[u8], window: &[u8], range: u8, centre: Found) -> Found
+pub(crate) fn search_from_centre(block: &Block, window: &[u8], range: u8, centre: Found) -> Found
     requires search { IsSearchable block.now window.now range }
     requires near { IsNear range centre.vector }
     requires known { centre.cost ≡ window_cost block.now window.now range centre.vector }
@@ -640,7 +653,7 @@ pub(crate) fn search_from_centre(block: &[u8], window: &[u8], range: u8, centre:
 
 /// The best of a known vector and all others of a window, whose squares have the sums `sums`.
 pub(crate) fn search_outwards(
-    block: &[u8],
+    block: &Block,
     window: &[u8],
     sums: SquareSums,
     scope: Scope,

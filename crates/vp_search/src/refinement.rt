@@ -11,6 +11,7 @@ ghost use Rattle.vp_search.specs.Columns.{IsWithin, IsColumn, AreWithin, AreBest
 
 use crate::columns::{cost_of_row, costs_of_halves};
 use crate::least::first_least;
+use crate::rows::Block;
 use crate::vector::{Found, QuarterVector, Refined, quarters};
 use vp_base::{Place, Plane};
 use vp_inter::{ColumnFilter, FilteredRows, luma_vector};
@@ -40,7 +41,7 @@ pub fn refine_found(block: &[u8; 256], reference: &Plane, place: Place, found: F
         return middle;
     }
     let target = Target {
-        block,
+        block: &Block::of(block),
         reference,
         place,
         above: found.vector.row - 1,
@@ -52,7 +53,7 @@ pub fn refine_found(block: &[u8; 256], reference: &Plane, place: Place, found: F
 /// that are tried.
 #[derive(Clone, Copy)]
 struct Target<'a> {
-    block: &'a [u8; 256],
+    block: &'a Block<'a>,
     reference: &'a Plane,
     place: Place,
     above: i32,
@@ -142,7 +143,7 @@ fn column_beside<'a>(
 
 /// The costs of a vector of whole pixels, which is `limit`, and of its eight neighbours half a pixel away.
 fn costs_by_halves(
-    block: &[u8; 256],
+    block: &Block,
     left: &FilteredRows,
     own: &FilteredRows,
     right: &FilteredRows,
@@ -205,7 +206,7 @@ fn costs_by_quarters(target: Target, own: &FilteredRows, centre: Refined) -> [u3
 }
 
 /// The costs of the vectors `first`, `first + 1` and `first + 2` quarter pixels below that whose rows these are.
-fn costs_of_three(block: &[u8; 256], rows: &FilteredRows, first: usize, limit: u32) -> [u32; 3]
+fn costs_of_three(block: &Block, rows: &FilteredRows, first: usize, limit: u32) -> [u32; 3]
     requires { first < 6 }
     ensures { (p : Raster) (place : Place) (whole column : ℤ) → IsColumn p place whole column rows.now
         → (k : ℕ) → k < 3 → IsWithin limit (slice_index result k) (quarter_cost (block16 block.now) p place

@@ -11,6 +11,7 @@ ghost use Rattle.vp_search.specs.Window.{window_cost, IsSearchable, IsFoundInWin
 
 use crate::coarse::coarse_block;
 use crate::outward::{Progress, centre_of, search_from_centre, search_outwards};
+use crate::rows::Block;
 use crate::summed::SquareSums;
 use crate::sums::block_sums;
 use crate::vector::{Found, Scope};
@@ -78,16 +79,17 @@ fn search_in<const AREA: usize>(
     ensures least { IsLeast range (whole_cost (block16 block.now) reference.now place) result.vector }
     ensures predicted { result.cost ≡ quarter_cost (block16 block.now) reference.now place (quarters result.vector) }
 {
+    let block = Block::of(block);
     let mut window = [0; AREA];
     cut_window(&mut window, reference, place, range);
-    let centre = centre_of(block, &window, range);
-    search_from_centre(block, &window, range, centre)
+    let centre = centre_of(&block, &window, range);
+    search_from_centre(&block, &window, range, centre)
 }
 
 /// The best vector of a window where bounds don't pay: within a small range, and where the zero vector `centre` costs
 /// nothing. Else None.
 pub(crate) fn search_without_sums(
-    block: &[u8],
+    block: &Block,
     window: &[u8],
     range: u8,
     centre: Found,
@@ -109,7 +111,7 @@ pub(crate) fn search_without_sums(
 /// The best of a known vector and all others of a window, whose squares have the sums `sums` and, if there are any, the
 /// coarse sums `coarse`.
 pub(crate) fn search_summed(
-    block: &[u8],
+    block: &Block,
     window: &[u8],
     sums: &[u16],
     coarse: &[u8],
@@ -124,7 +126,7 @@ pub(crate) fn search_summed(
     requires known { IsFoundInWindow scope (window_cost block.now window.now scope.range) known }
     ensures { IsBestBelow scope (window_cost block.now window.now scope.range) result.best }
 {
-    let squares = block_sums(block);
+    let squares = block_sums(block.pixels());
     let all = SquareSums {
         block: squares,
         window: sums,

@@ -14,6 +14,7 @@ ghost use Rattle.vp_search.specs.Coarse.{AreCoarse};
 use crate::coarse::LEAST_COARSE_RANGE;
 use crate::kept::{Kept, SLIDE};
 use crate::outward::{Spot, Unbounded, centre_of, consider, search_unbounded};
+use crate::rows::Block;
 use crate::search::{search_summed, search_without_sums};
 use crate::sums::fill_sums;
 use crate::vector::{Found, Scope, WholeVector};
@@ -165,7 +166,14 @@ impl<'a> Searcher<'a> {
         let window = self.window.as_mut_slice();
         let sums = self.sums.as_mut_slice();
         let coarse = self.coarse.as_mut_slice();
-        let (found, kept, unbounded) = search_kept(block, view, window, sums, coarse, self.kept);
+        let (found, kept, unbounded) = search_kept(
+            &Block::of(block),
+            view,
+            window,
+            sums,
+            coarse,
+            self.kept,
+        );
         self.kept = kept;
         self.unbounded = unbounded;
         self.begin = spot_of(found.vector, self.range);
@@ -224,13 +232,14 @@ fn limited(found: Found, scope: Scope) -> Found
 /// Searches for a macroblock in memory that is lent, with the sums that are kept. Also returns which are kept after it,
 /// and the macroblocks that follow without sums.
 fn search_kept(
-    block: &[u8; 256],
+    block: &Block,
     view: View,
     window: &mut [u8],
     sums: &mut [u16],
     coarse: &mut [u8],
     known: Kept,
 ) -> (Found, Kept, Unbounded)
+    requires block { 256 ≤ length block.now }
     requires wide { 0 < view.reference.now.width }
     requires high { 0 < view.reference.now.height }
     requires range { view.scope.range ≤ 64 }

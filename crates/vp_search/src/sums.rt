@@ -1,7 +1,7 @@
 //! Sums of the pixels of 8x8 squares, in lanes. They bound the costs of vectors from below (successive elimination, Li
 //! and Salari 1995): the difference of two sums is at most the sum of differences.
 
-ghost use Rattle.std.specs.Prelude.{◌≡◌, ℕ, ◌+◌, ◌-◌, ◌*◌, ◌<◌, ◌≤◌, [], ◌∷◌, length, slice_index, false};
+ghost use Rattle.std.specs.Prelude.{◌≡◌, ℕ, ◌+◌, ◌-◌, ◌*◌, ◌<◌, ◌≤◌, [], ◌∷◌, length, slice_index, false, IfSome, None};
 ghost use Rattle.std.specs.Int.{abs_diff, bit_at};
 ghost use Rattle.vp_search.specs.Sums.{sum_below};
 ghost use Rattle.vp_search.specs.Bounds.{capped, column_sum, row_sum, square_sum, block_sums, bound_of};
@@ -248,15 +248,22 @@ fn any_within(bounds: u16x8, limit: u32) -> bool
     within(bounds, limit) != 0
 }
 
-/// The first group of eight vectors, from group `start` on, that has a bound within the limit, with its bounds. Returns
-/// `groups`, and the greatest bounds, if there is none. The blocks of the first group begin at index `at` and after it.
+/// A group of eight vectors of a row: its number, and their bounds.
+#[derive(Clone, Copy)]
+pub(crate) struct Group {
+    pub(crate) number: usize,
+    pub(crate) bounds: u16x8,
+}
+
+/// The first group of eight vectors, from group `start` on, that has a bound within the limit. The blocks of group 0
+/// begin at index `at` and after it.
 pub(crate) fn next_within(
     sums: SquareSums,
     at: usize,
     start: usize,
     groups: usize,
     limit: u32,
-) -> (usize, u16x8)
+) -> Option<Group>
     requires room { at + 8 * groups + 8 * WINDOW_WIDTH + 8 ≤ length sums.window.now }
     requires coarse_room { 0 < length sums.coarse.now
         → at + 8 * groups + 8 * WINDOW_WIDTH + 16 ≤ length sums.coarse.now }
@@ -264,12 +271,13 @@ pub(crate) fn next_within(
     requires block { AreCoarse 4 sums.block sums.coarse_block }
     requires coarse { 0 < length sums.coarse.now
         → AreCoarse (at + 8 * groups + 8 * WINDOW_WIDTH + 8) sums.window.now sums.coarse.now }
-    ensures later { start ≤ result.0 }
-    ensures bound { result.0 ≤ groups }
-    ensures skipped { (g t : ℕ) → start ≤ g → g < result.0 → t < 8
+    ensures place { IfSome result (λ next. (start ≤ next.number) × (next.number < groups)) }
+    ensures skipped { IfSome result (λ next. (g t : ℕ) → start ≤ g → g < next.number → t < 8
+        → limit < bound_of sums.entry.block sums.entry.window.now (at + 8 * g + t)) }
+    ensures bounds { IfSome result (λ next. (t : ℕ) → t < 8 → slice_index next.bounds t
+        ≡ bound_of sums.entry.block sums.entry.window.now (at + 8 * next.number + t)) }
+    ensures none { result ≡ None → (g t : ℕ) → start ≤ g → g < groups → t < 8
         → limit < bound_of sums.entry.block sums.entry.window.now (at + 8 * g + t) }
-    ensures bounds { result.0 < groups → (t : ℕ) → t < 8 → slice_index result.1 t
-        ≡ bound_of sums.entry.block sums.entry.window.now (at + 8 * result.0 + t) }
 {
     let mut g = start;
     while g < groups {
@@ -279,10 +287,10 @@ pub(crate) fn next_within(
         if g < groups {
             let bounds = bounds_at(sums.block, sums.window, at + 8 * g);
             if any_within(bounds, limit) {
-                return (g, bounds);
+                return Some(Group { number: g, bounds });
             }
             g += 1;
         }
     }
-    (groups, u16x8::splat(u16::MAX))
+    None
 }

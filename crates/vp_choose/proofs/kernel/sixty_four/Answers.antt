@@ -1,8 +1,16 @@
-use Rattle.std.proofs.Common.{◌≡◌, ℕ, ◌<◌, get_or, refl, ◌∙◌, arith}
+use Rattle.std.proofs.Common.{◌≡◌, ℕ, ◌+◌, ◌<◌, List, get_or, refl, ap₂, ◌∙◌, arith}
 use Rattle.std.specs.Int.{abs_diff}
+use lib.Lanes.{chunk}
 use Rattle.vp_choose.specs.Costs.{block_from_rows}
-use Rattle.vp_search.proofs.RowLemmas.{lane_is_pixel, four_sums}
+use Rattle.vp_search.proofs.RowLemmas.{lane_at, four_sums}
 use Rattle.vp_choose.proofs.kernel.sixty_four.Goals as goal
+
+-- a lane of a row's differences
+lane_is_pixel : (p q d a b : List ℕ) (x y x' y' : ℕ) → p ≡ chunk x 16 a → q ≡ chunk y 16 b → x ≡ x' → y ≡ y'
+    → ((j : ℕ) → j < 16 → get_or d j 0 ≡ abs_diff (get_or p j 0) (get_or q j 0))
+    → (j : ℕ) → j < 16 → get_or d j 0 ≡ abs_diff (get_or a (x' + j) 0) (get_or b (y' + j) 0)
+lane_is_pixel p q d a b x y x' y' ep eq ex ey all j h =
+    all j h ∙ ap₂ abs_diff (lane_at p a x x' ep ex j h) (lane_at q b y y' eq ey j h)
 
 pub both-requires-3-clause-a_in : goal.both-requires-3-clause-a_in
 both-requires-3-clause-a_in c j h = let e = c.both.ensures j h in let x = c.apart-first.ensures.range j h in let y = c.apart-second.ensures.range j h in omega arith

@@ -16,7 +16,7 @@ pub returns-then-eighths-eq0 : goal.returns-then-eighths-eq0
 returns-then-eighths-eq0 c p place whole column are =
     let down : ℕ = c.args.down in
     let block : List ℕ = c.args.block.now in
-    subst (IsWithin c.args.limit c.sad_within.result)
+    subst (IsWithin c.args.limit c.sad_up_to.result)
     (ap (λ (rows : List ℕ). sum_of_differences 16 16 (strided_block block 0 16) (strided_block rows (16 * (down / 4 + 2)) 16)) c.rows.ensures
     ∙ whole_row_cost block p place whole column down (down / 4) c.args.rows.now c.requires refl c.if-eighths-eq0.true are)
-    (c.sad_within.ensures.exact, c.sad_within.ensures.over)
+    c.sad_up_to.ensures

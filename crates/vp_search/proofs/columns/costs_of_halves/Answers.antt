@@ -7,15 +7,15 @@ use Rattle.vp_search.proofs.columns.costs_of_halves.Goals as goal
 pub returns-clause-upper : goal.returns-clause-upper
 returns-clause-upper c p place whole column are =
     let rows : List ℕ = c.args.rows.now in
-    subst (IsWithin c.args.limit c.sad_within.result)
+    subst (IsWithin c.args.limit c.sad_up_to.result)
     (half_cost c.args.block.now p place whole column 2 0 0 rows c.filtered_rows-both.result (lit< tt) refl refl refl are
     (λ r k rin kin. c.filtered_rows-both.ensures r k rin kin ∙ ap (λ (weights : List ℤ). filter_six weights (λ j. get_or rows ((r + j) * 16 + k) 0)) c.requires))
-    (c.sad_within.ensures.exact, c.sad_within.ensures.over)
+    c.sad_up_to.ensures
 
 pub returns-clause-lower : goal.returns-clause-lower
 returns-clause-lower c p place whole column are =
     let rows : List ℕ = c.args.rows.now in
-    subst (IsWithin c.args.limit c.sad_within-2.result)
+    subst (IsWithin c.args.limit c.sad_up_to-2.result)
     (half_cost c.args.block.now p place whole column 6 1 16 rows c.filtered_rows-both.result (lit< tt) refl refl refl are
     (λ r k rin kin. c.filtered_rows-both.ensures r k rin kin ∙ ap (λ (weights : List ℤ). filter_six weights (λ j. get_or rows ((r + j) * 16 + k) 0)) c.requires))
-    (c.sad_within-2.ensures.exact, c.sad_within-2.ensures.over)
+    c.sad_up_to-2.ensures

@@ -17,6 +17,6 @@ returns-clause-known c =
     let b = c.args.block.now in let w = c.args.window.now in let r = c.args.range in
     let m : c.from-middle.result ≡ r = c.from-middle.ensures in
     let e : c.vector_at.result ≡ vector_at r r r = c.vector_at.ensures ∙ ap (λ (k : ℕ). vector_at r k k) m in
-    let x : c.sad_within.result ≡ sum_of_differences 16 16 (strided_block b 0 16) (strided_block w (c.from-middle.result * WINDOW_WIDTH + c.from-middle.result) WINDOW_WIDTH) = c.sad_within.ensures.exact (omega (arith, c.sad_within.ensures.bound)) in
-    let y : c.sad_within.result ≡ window_cost b w r (vector_at r r r) = x ∙ ap (λ (k : ℕ). sum_of_differences 16 16 (strided_block b 0 16) (strided_block w (k * WINDOW_WIDTH + k) WINDOW_WIDTH)) m ∙ sym (cost_at b w r r r) in
+    let x : c.sad.result ≡ sum_of_differences 16 16 (strided_block b 0 16) (strided_block w (c.from-middle.result * WINDOW_WIDTH + c.from-middle.result) WINDOW_WIDTH) = c.sad.ensures.value in
+    let y : c.sad.result ≡ window_cost b w r (vector_at r r r) = x ∙ ap (λ (k : ℕ). sum_of_differences 16 16 (strided_block b 0 16) (strided_block w (k * WINDOW_WIDTH + k) WINDOW_WIDTH)) m ∙ sym (cost_at b w r r r) in
     rw e y

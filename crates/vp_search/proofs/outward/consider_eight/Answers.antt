@@ -9,7 +9,7 @@ use Rattle.vp_search.proofs.outward.consider_eight.Goals as goal
 pub loop-left-init : goal.loop-left-init
 loop-left-init c =
     let r = c.args.scope.range in let i = c.args.spot.row in let j : ℕ = c.args.spot.column in
-    let best : Found = c.args.best in
+    let best : Found = c.args.best.now in
     record {
       few = c.within-left.ensures.eight;
       kept = c.requires.best;
@@ -24,13 +24,13 @@ pub loop-left-preserved : goal.loop-left-preserved
 loop-left-preserved c =
     let b = c.args.block.now in let w = c.args.window.now in let r = c.args.scope.range in let i = c.args.spot.row in let j : ℕ = c.args.spot.column in
     let t : ℕ = c.take_first-t.result.0 in
-    let f : Found = c.loop-left.found in let g : Found = c.consider_bounded-found.result in
+    let f : Found = c.loop-left.best in let g : Found = c.consider_bounded-next.result in
     let inv = c.loop-left.invariant in
-    let step = c.consider_bounded-found.ensures in
+    let step = c.consider_bounded-next.ensures in
     record {
       few = (let fewer = c.take_first-t.ensures.fewer in let few = inv.few in omega arith);
       kept = step.kept;
-      old = along g.cost g.vector f.cost f.vector c.args.best.cost c.args.best.vector step.old inv.old;
+      old = along g.cost g.vector f.cost f.vector c.args.best.now.cost c.args.best.now.vector step.old inv.old;
       here = λ q h clear within. elim (cases_eq q t) [
         | inl e ↦ subst (λ (k : ℕ). IsNoWorse g.cost g.vector (window_cost b w r (vector_at r i (j + k))) (vector_at r i (j + k))) (sym e) (step.here (omega arith))
         | inr other ↦ along g.cost g.vector f.cost f.vector _ (vector_at r i (j + q)) step.old (inv.here q h (c.take_first-t.ensures.others q h clear other) within)

@@ -7,10 +7,10 @@ use Rattle.vp_search.proofs.outward.consider_eight.Given as goal
 abbrev pub invariant-loop-left : goal.invariant-loop-left
 invariant-loop-left l = record {
   few : l.left < 256;
-  kept : IsFoundInWindow l.scope (window_cost l.block l.window l.scope.range) l.found;
-  old : IsNoWorse l.found.cost l.found.vector l.fn.best.cost l.fn.best.vector;
+  kept : IsFoundInWindow l.scope (window_cost l.block l.window l.scope.range) l.best;
+  old : IsNoWorse l.best.cost l.best.vector l.initial.best.cost l.initial.best.vector;
   here : (t : ℕ) → t < 8 → bit_at l.left t ≡ 0 → l.spot.column + t ≤ 2 * l.scope.range
-      → IsNoWorse l.found.cost l.found.vector (window_cost l.block l.window l.scope.range (vector_at l.scope.range l.spot.row (l.spot.column + t))) (vector_at l.scope.range l.spot.row (l.spot.column + t));
+      → IsNoWorse l.best.cost l.best.vector (window_cost l.block l.window l.scope.range (vector_at l.scope.range l.spot.row (l.spot.column + t))) (vector_at l.scope.range l.spot.row (l.spot.column + t));
 }
 
 abbrev pub decreases-loop-left : goal.decreases-loop-left

@@ -1,4 +1,4 @@
-use Rattle.std.proofs.Common.{◌≡◌, ◌∙◌, ℕ, pos, sym, subst}
+use Rattle.std.proofs.Common.{◌≡◌, ◌∙◌, ℕ, pos, List, sym, subst}
 use Rattle.vp_search.specs.declared.vector.QuarterVector.{QuarterVector}
 use Rattle.vp_search.specs.Differences.{block16}
 use Rattle.vp_search.specs.Blocks.{quarter_cost}
@@ -13,8 +13,9 @@ returns-clause-refined c =
     record {
       halfway = found.halfway;
       first = subst (λ (v : QuarterVector). IsBestOf (quarter_cost (block16 c.args.block.now) c.args.reference.now c.args.place) v (pos 2) found.halfway)
-          c.quarters.ensures found.first;
-      second = found.second;
+          c.quarters.ensures
+          (subst (λ (b : List ℕ). IsBestOf (quarter_cost (block16 b) c.args.reference.now c.args.place) c.quarters.result (pos 2) found.halfway) c.of.ensures found.first);
+      second = subst (λ (b : List ℕ). IsBestOf (quarter_cost (block16 b) c.args.reference.now c.args.place) found.halfway (pos 1) c.refine_target.result.vector) c.of.ensures found.second;
     }
 
 pub returns-then-middle-eq0-clause-refined : goal.returns-then-middle-eq0-clause-refined
