@@ -1,10 +1,12 @@
 //! The bits a second and the distance from its source of a film that is encoded.
 
-ghost use Rattle.std.specs.Prelude.{◌≡◌};
-ghost use Rattle.vp_hints.specs.Film.{film_bytes, film_of_packets, film_rate, film_samples, film_scale, plane_samples};
-ghost use Rattle.vp_hints.specs.Seen.{seen_bytes};
+ghost use Rattle.std.specs.Prelude.{◌≡◌, ◌<◌, ◌≤◌};
+ghost use Rattle.vp_hints.specs.Film.{film_of_head, film_of_packets, film_rate, film_samples, film_scale};
+ghost use Rattle.vp_hints.specs.Film.{head_number, plane_samples};
+ghost use Rattle.vp_hints.specs.Seen.{seen_bytes, seen_head};
 
 use crate::seen::Seen;
+use byteorder::{ByteOrder, LittleEndian};
 use std::fmt;
 use std::num::nearest_u64_to_f64;
 use vp_base::Dim;
@@ -22,7 +24,7 @@ pub struct Film {
 impl Film {
     /// Takes it from what was seen of the file.
     pub fn of(seen: &Seen) -> Film
-        ensures { film_bytes result ≡ seen_bytes seen.now }
+        ensures { result ≡ film_of_head (seen_head seen.now) (seen_bytes seen.now) }
     {
         let head = seen.head();
         Film {
@@ -107,15 +109,17 @@ impl fmt::Display for Ratio {
     }
 }
 
-/// A number of some bytes at a place, little endian; bytes that are missing count as 0.
-pub(crate) fn number_at(head: &[u8], place: usize, bytes: usize) -> u64 {
-    let mut number: u64 = 0;
-    for back in 0..bytes {
-        let index = place.saturating_add(bytes - 1 - back);
-        let byte = head.get(index).copied().unwrap_or(0);
-        number = number.saturating_mul(256).saturating_add(u64::from(byte));
+/// A number of 1 to 8 bytes at a place in a file's head, little endian; 0 if they are not all there.
+pub(crate) fn number_at(head: &[u8], place: usize, bytes: usize) -> u64
+    requires some { 0 < bytes }
+    requires few { bytes ≤ 8 }
+    requires near { place ≤ 128 }
+    ensures { result ≡ head_number head.now place bytes }
+{
+    if head.len() < place + bytes {
+        return 0;
     }
-    number
+    LittleEndian::read_uint(&head[place..], bytes)
 }
 
 /// The samples of Y, U and V of a picture with these sides; saturates.

@@ -9,7 +9,7 @@ use std::io::Write;
 // What ffmpeg writes where it can't go back to the head.
 const NOT_KNOWN: u64 = 0xffff_ffff;
 
-/// Prints that an IVF file, which ends behind a packet, has fewer packets than its head states, unless that number can
+/// Prints that an IVF file, which ends after a packet, has fewer packets than its head states, unless that number can
 /// be their duration: ffmpeg writes it there. Nothing is known of a file of which no byte was seen.
 pub fn hint_length<W: Write>(name: &str, seen: &Seen, output: &mut W) -> io::Result<()> {
     let (file, stated) = (Printable(name), number_at(seen.head(), 24, 4));
