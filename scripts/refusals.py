@@ -10,7 +10,7 @@ CALL = re.compile(r"\s*pub (?:const |extern \"C\" )?fn (\w+)")
 def calls():
     """Each public function of a library: its name with its type, what it gives, and its clauses' names."""
     for path in sorted(pathlib.Path("crates").glob("*/src/*.rt")):
-        if path.parts[1] in ("vp8", "vp_transcripts") or "test" in path.parts[1] + path.name:
+        if path.parts[1] in ("vp8", "vp_scripts", "vp_transcripts") or "test" in path.parts[1] + path.name:
             continue
         lines, owner = path.read_text().split("\n"), None
         for at, line in enumerate(lines):

@@ -4,8 +4,6 @@
 #![tactic(auto)]
 
 #[cfg(test)]
-mod app_serving;
-#[cfg(test)]
 mod connections;
 #[cfg(test)]
 mod cursors;

@@ -5,8 +5,6 @@
 //! `plan WORD..` prints the task of `encode` or `serve` arguments, `read PATH [> NAME]` the contents of a file,
 //! `show TEXT` the bytes of a text, and `sum TEXT` their MD5.
 
-use crate::text::{Names, limits, malformed};
-use crate::transcript::{Found, Script};
 use std::alloc::{AllocError, Global};
 use std::{fs, io};
 use vp_app::command;
@@ -14,6 +12,7 @@ use vp_args::{EncodeOptions, ServeArgs, Task, read_args};
 use vp_base::{Counted, Limits};
 use vp_commands::settings_of;
 use vp_encode::{EncodeAllFault, EncodeReport, Settings, encode_all};
+use vp_scripts::{Found, Names, Script, limits, malformed};
 
 /// The state of the transcript commands for the command line: the limits of `limited`.
 #[derive(Drop)]

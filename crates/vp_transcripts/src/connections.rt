@@ -5,14 +5,13 @@
 //! `limits PIXELS BYTES PACKETS CACHE` sets the limits of the next hub. `vp8 serve WORD.. < NAME` creates and feeds a
 //! hub as the program does.
 
-use crate::text::{Names, limits, malformed, number};
-use crate::transcript::{Found, Script};
 use std::alloc::Global;
 use std::io;
 use vp_app::{feed_all, new_hub};
 use vp_args::{ServeArgs, Task, read_args};
 use vp_base::{ByteList, Counted, Limits};
 use vp_hub::{Event, Hub, HubFault, NewFault, Reply};
+use vp_scripts::{Found, Names, Script, limits, malformed, number};
 
 /// The number of the connection that `ask` and `cut` open.
 const VISITOR: u32 = 99;

@@ -5,29 +5,24 @@
 
 mod commands;
 mod connections;
-mod packets;
-mod streams;
-mod text;
-mod transcript;
 
 use crate::commands::Commands;
 use crate::connections::Connections;
-use crate::packets::Packets;
-use crate::text::malformed;
 use std::{env, fs, io};
+use vp_scripts::{Packets, malformed, tell as tell_transcript, tell_stream};
 
 /// Prints the result for a file.
 fn tell(rt: &HostRuntime, file: &str) -> io::Result<()> {
     let alloc = rt.alloc();
     let (name, kind) = file.rsplit_once('.').ok_or(malformed())?;
     if kind == "ivf" {
-        return streams::tell(rt, file, name);
+        return tell_stream(rt, file, name);
     }
     let text = fs::read_to_string(rt, file)?;
     match kind {
-        "packets" => transcript::tell(rt, file, text.as_str(), &mut Packets::new(alloc)),
-        "commands" => transcript::tell(rt, file, text.as_str(), &mut Commands::new(alloc)),
-        "connections" => transcript::tell(rt, file, text.as_str(), &mut Connections::new(alloc)),
+        "packets" => tell_transcript(rt, file, text.as_str(), &mut Packets::new(alloc)),
+        "commands" => tell_transcript(rt, file, text.as_str(), &mut Commands::new(alloc)),
+        "connections" => tell_transcript(rt, file, text.as_str(), &mut Connections::new(alloc)),
         _ => Err(malformed()),
     }
 }
