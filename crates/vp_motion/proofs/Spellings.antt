@@ -14,7 +14,7 @@ use Rattle.vp_motion.specs.Vector.{Vector, Candidates, MacroblockMotion, AreOne,
 use Rattle.vp_motion.specs.Near.{same, same_number}
 use Rattle.vp_motion.specs.Motion.{all_new, new_vector, vectors_by, sum_of}
 use Rattle.vp_tables.specs.Modes.{is_split}
-use Rattle.vp_motion.proofs.Runs.{same-true}
+use Rattle.vp_motion.proofs.Counts.{same-true}
 use Rattle.vp_motion.specs.Spelled.{GivesVector, difference_of}
 
 same_number-itself : (z : ℤ) → same_number z z ≡ true

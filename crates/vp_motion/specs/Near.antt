@@ -2,7 +2,7 @@
 -- 6386, chapter 16.3). Pinned by the law `near_of_three_neighbours`, the test `vectors_by_their_neighbours`, and
 -- streams of other encoders in the gate.
 use Rattle.std.specs.Prelude.{◌≡◌, ◌<◌, ℕ, ◌+◌, ◌-◌, ◌*◌, ◌&&◌, Bool, true, false, not, nat_lt, nat_le, eqb, List, []}
-use Rattle.std.specs.Prelude.{◌∷◌, ◌++◌, length, replicate, slice_index_or, ℤ, pos, negsuc, neg_ℤ, int_lt}
+use Rattle.std.specs.Prelude.{Option, Some, None, ◌∷◌, ◌++◌, length, replicate, slice_index_or, ℤ, pos, negsuc, neg_ℤ, int_lt}
 use Rattle.std.specs.Prelude.{if◌then◌else◌}
 use Rattle.std.specs.Int.{from_bool}
 use Rattle.vp_head.specs.declared.fields.Reference.{Reference}
@@ -119,10 +119,6 @@ clamped_vector g p v = record {
   column = clamped (neg_ℤ (pos (64 * (p.column + 1)))) (pos (64 * (g.columns - p.column))) v.column;
 }
 
--- the candidates with each vector clamped
-abbrev pub clamped_by : (Vector → Vector) → Nearby → Candidates
-clamped_by clamp n = record { counts = n.counts; best = clamp n.best; nearest = clamp n.nearest; near = clamp n.near }
-
 -- the candidates, given the heavier and the lighter of the first two entries
 abbrev pub from_two : (Vector → Vector) → ℕ → ℕ → Weighted → Weighted → Candidates
 from_two clamp zeros splits nearest near = record {
@@ -163,26 +159,30 @@ example_grid = record {
       ∷ inter example_vector ∷ intra ∷ intra ∷ intra ∷ intra ∷ intra ∷ [];
 }
 
--- ---- The tally that the code keeps of the neighbours: for its contracts, not for the candidates
+-- ---- The count that the code keeps of the neighbours: for its contracts, not for the candidates
 
--- the entries es with w added: if it equals the last one, their weights are added
-unfoldable pub joined : List Weighted → Weighted → List Weighted
-joined [] w = w ∷ []
-joined (e ∷ []) w = if same e.vector w.vector then record { vector = e.vector; weight = e.weight + w.weight }
-    ∷ [] else e ∷ (w ∷ [])
-joined (e ∷ (f ∷ es)) w = e ∷ joined (f ∷ es) w
+-- the candidates that are counted, with these weights of split neighbours
+abbrev pub candidates_by : (Vector → Vector) → ℕ → Nearby → Candidates
+candidates_by clamp splits n = from_two clamp n.zeros splits n.nearest n.near
 
--- the sum of the weights
-abbrev pub total : List Weighted → ℕ
-total [] = 0
-total (w ∷ ws) = w.weight + total ws
+-- the best candidate, before it is clamped
+abbrev pub best_of : Nearby → Vector
+best_of n = if nat_le n.zeros n.nearest.weight then n.nearest.vector else zero_vector
 
--- each weight is at least 1
-abbrev pub HavePositiveWeights : List Weighted → Type 0
-HavePositiveWeights [] = Unit {0}
-HavePositiveWeights (w ∷ ws) = (0 < w.weight) × HavePositiveWeights ws
+-- the vector of a neighbour with its weight, if the neighbour has one
+abbrev pub weighed : ℕ → Option Vector → List Weighted
+weighed weight None = []
+weighed weight (Some v) = record { vector = v; weight = weight } ∷ []
 
--- the zero weight and the entries of the neighbours ws
-pub record CountsNeighbours (ws : List Weighted) (zeros : ℕ) (es : List Weighted) : Type 0 where
-  pub still_ones : zeros ≡ still_weight ws
-  pub entries : es ≡ runs (moving ws)
+-- n counts zero vectors of this weight, and these entries
+abbrev pub Counts : Nearby → ℕ → List Weighted → Type 0
+Counts n zeros es = (clamp : Vector → Vector) (splits : ℕ)
+    → candidates_by clamp splits n ≡ from_entries clamp zeros splits es
+
+-- the weights are at most 5
+abbrev pub AreLight : Nearby → Type 0
+AreLight n = (n.zeros < 6) × ((n.nearest.weight < 6) × (n.near.weight < 6))
+
+-- the weights by which the vector mode is read
+abbrev pub weights_of : ℕ → Nearby → List ℕ
+weights_of splits n = n.zeros ∷ n.nearest.weight ∷ n.near.weight ∷ splits ∷ []

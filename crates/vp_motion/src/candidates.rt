@@ -1,21 +1,19 @@
 //! The candidate vectors of a macroblock (RFC 6386, chapter 16.3).
 
-ghost use Rattle.std.specs.Prelude.{◌≡◌, ℕ, ◌+◌, ◌-◌, ◌*◌, ◌<◌, ◌≤◌, List, ◌++◌, length, slice_index, IfSome, pos};
-ghost use Rattle.std.specs.Prelude.{neg_ℤ, ◌≤ℤ◌};
+ghost use Rattle.std.specs.Prelude.{◌≡◌, ℕ, ◌+◌, ◌-◌, ◌*◌, ◌<◌, ◌≤◌, IfSome, pos, neg_ℤ, ◌≤ℤ◌};
 ghost use Rattle.std.specs.Int.{from_bool};
 ghost use Rattle.vp_base.specs.Grid.{Has, look};
 ghost use Rattle.vp_motion.specs.Map.{intra};
-ghost use Rattle.vp_motion.specs.Vector.{IsWithin, Vector};
-ghost use Rattle.vp_motion.specs.Near.{HavePositiveWeights, CountsNeighbours, bias_of, candidates, clamped, clamped_by, weighted_neighbour};
-ghost use Rattle.vp_motion.specs.Near.{first_candidate, from_entries, from_two, same};
-ghost use Rattle.vp_motion.specs.Near.{bias_corrected, splits, total, clamped_vector};
+ghost use Rattle.vp_motion.specs.Vector.{IsWithin};
+ghost use Rattle.vp_motion.specs.Near.{bias_corrected, bias_of, candidates, candidates_by, clamped, clamped_vector};
+ghost use Rattle.vp_motion.specs.Near.{negated, same, splits, split_count, weighed, weighted_neighbour, AreLight};
 
-use crate::entries::Entries;
 use crate::map::VectorMap;
-use crate::vector::{Candidates, MacroblockMotion, Nearby, STILL, Vector, Weighted};
+use crate::nearby::count;
+use crate::packed::PackedVector;
+use crate::vector::{Candidates, MacroblockMotion, Nearby, Vector};
 use vp_base::Place;
 use vp_head::{Reference, SignBiases};
-use vp_tables::VectorMode;
 
 /// The entry at an optional place, or the motion outside the frame.
 fn look(map: &VectorMap, place: Option<Place>) -> &MacroblockMotion
@@ -122,128 +120,49 @@ fn split_weight(neighbour: &MacroblockMotion, weight: u8) -> u8
     if has_split(neighbour) { weight } else { 0 }
 }
 
+fn negated(vector: Vector) -> Vector
+    ensures { result ≡ negated vector }
+{
+    Vector {
+        row: -vector.row,
+        column: -vector.column,
+    }
+}
+
 /// A neighbour's vector, negated if the sign biases of the two reference frames differ.
 #[tactic(auto, unfolding(crate::specs::Near::bias_corrected, crate::specs::Map::own))]
-fn seen_vector(reference: Reference, biases: SignBiases, neighbour: &MacroblockMotion) -> Vector
+fn corrected(reference: Reference, biases: SignBiases, neighbour: &MacroblockMotion) -> PackedVector
     ensures { result ≡ bias_corrected reference biases neighbour.now }
 {
     let vector = neighbour.vectors[15];
     if !biases.golden && !biases.alt {
-        return vector;
+        return PackedVector::of(vector);
     }
     if bias(neighbour.reference, biases) == bias(reference, biases) {
-        vector
+        PackedVector::of(vector)
     } else {
-        Vector {
-            row: -vector.row,
-            column: -vector.column,
-        }
+        PackedVector::of(negated(vector))
     }
 }
 
-/// The motion found among the neighbours so far.
-#[derive(Drop)]
-struct NearbyMotion {
-    zeros: u8,
-    /// The weights of the neighbours with split vectors.
-    splits: u8,
-    entries: Entries,
-}
-
-/// Counts a neighbour.
-fn consider(
-    found: &mut NearbyMotion,
-    neighbour: &MacroblockMotion,
-    weight: u8,
+/// The vector of a neighbour, unless it is intra.
+#[inline(always)]
+#[tactic(auto, unfolding(crate::specs::Near::weighted_neighbour))]
+fn seen_vector(
     reference: Reference,
     biases: SignBiases,
-)
-    requires room { length found.old.entries < 3 }
-    requires light { total found.old.entries + found.old.zeros + weight ≤ 255 }
-    requires few { found.old.splits + weight ≤ 255 }
-    requires heavy { 0 < weight }
-    ensures tally { (ws : List Weighted) → CountsNeighbours ws found.old.zeros found.old.entries
-        → CountsNeighbours (ws ++ weighted_neighbour reference biases weight neighbour.now) found.new.zeros
-        found.new.entries }
-    ensures len { length found.new.entries ≤ length found.old.entries + 1 }
-    ensures weight { total found.new.entries + found.new.zeros
-        ≤ total found.old.entries + found.old.zeros + weight }
-    ensures heavy { HavePositiveWeights found.old.entries → HavePositiveWeights found.new.entries }
-    ensures splits { found.new.splits ≡ found.old.splits + weight * from_bool (splits neighbour.now) }
-    ensures few { found.new.splits ≤ found.old.splits + weight }
+    neighbour: &MacroblockMotion,
+) -> Option<PackedVector>
+    ensures { (weight : ℕ) → weighed weight result ≡ weighted_neighbour reference biases weight neighbour.now }
 {
-    found.splits += split_weight(neighbour, weight);
-    if !neighbour.reference.is_intra() {
-        let vector = seen_vector(reference, biases, neighbour);
-        if is_same(vector, STILL) {
-            found.zeros += weight;
-        } else {
-            found.entries.join(Weighted { vector, weight });
-        }
-    }
-}
-
-/// The first entry. Its weight grows by 1 if there are three entries and the third equals it.
-#[tactic(auto, unfolding(crate::specs::Near::first_candidate))]
-fn first_entry(entries: &Entries) -> Weighted
-    requires light { total entries.now ≤ 5 }
-    requires heavy { HavePositiveWeights entries.now }
-    ensures value { result ≡ first_candidate entries.now }
-    ensures light { result.weight ≤ 5 }
-{
-    let first = entries.first();
-    match entries.third() {
-        Some(third) if is_same(third.vector, first.vector) => Weighted {
-            vector: first.vector,
-            weight: first.weight + 1,
-        },
-        _ => first,
-    }
-}
-
-/// The candidates before clamping, from the heavier and the lighter of the first two entries.
-fn nearby_of(zeros: u8, splits: u8, nearest: Weighted, near: Weighted) -> Nearby
-    requires zeros { zeros ≤ 5 }
-    requires splits { splits ≤ 5 }
-    requires nearest { nearest.weight ≤ 5 }
-    requires near { near.weight ≤ 5 }
-    ensures value { (clamp : Vector → Vector) → clamped_by clamp result ≡ from_two clamp zeros splits nearest near }
-    ensures light { (k : ℕ) → slice_index result.counts k < 6 }
-{
-    let best = if zeros <= nearest.weight {
-        nearest.vector
+    if neighbour.reference.is_intra() {
+        None
     } else {
-        STILL
-    };
-    Nearby {
-        counts: [zeros, nearest.weight, near.weight, splits],
-        best,
-        nearest: nearest.vector,
-        near: near.vector,
+        Some(corrected(reference, biases, neighbour))
     }
 }
 
-/// The candidates before clamping, from the entries found.
-#[tactic(auto, unfolding(crate::specs::Near::from_entries))]
-fn choose(zeros: u8, splits: u8, entries: &Entries) -> Nearby
-    requires zeros { zeros ≤ 5 }
-    requires splits { splits ≤ 5 }
-    requires light { total entries.now ≤ 5 }
-    requires heavy { HavePositiveWeights entries.now }
-    ensures value { (clamp : Vector → Vector) → clamped_by clamp result
-        ≡ from_entries clamp zeros splits entries.now }
-    ensures light { (k : ℕ) → slice_index result.counts k < 6 }
-{
-    let first = first_entry(entries);
-    let second = entries.second();
-    if first.weight < second.weight {
-        nearby_of(zeros, splits, second, first)
-    } else {
-        nearby_of(zeros, splits, first, second)
-    }
-}
-
-/// The candidates of the macroblock at `place`, before clamping.
+/// The count of the neighbours of the macroblock at `place`.
 #[inline(always)]
 pub(crate) fn nearby(
     map: &VectorMap,
@@ -252,20 +171,30 @@ pub(crate) fn nearby(
     biases: SignBiases,
 ) -> Nearby
     requires place { Has map.now place }
-    ensures value { clamped_by (clamped_vector map.now place) result ≡ candidates map.now place reference biases }
-    ensures light { (k : ℕ) → slice_index result.counts k < 6 }
+    ensures value { candidates_by (clamped_vector map.now place) (split_count map.now place) result
+        ≡ candidates map.now place reference biases }
+    ensures light { AreLight result }
 {
     let (above, corner) = map.row_above(place);
     let left = look(map, place.left());
-    let mut found = NearbyMotion {
-        zeros: 0,
-        splits: 0,
-        entries: Entries::none(),
-    };
-    consider(&mut found, above, 2, reference, biases);
-    consider(&mut found, left, 2, reference, biases);
-    consider(&mut found, corner, 1, reference, biases);
-    choose(found.zeros, found.splits, &found.entries)
+    count(
+        seen_vector(reference, biases, above),
+        seen_vector(reference, biases, left),
+        seen_vector(reference, biases, corner),
+    )
+}
+
+/// The weights of the neighbours with split vectors. It is seldom needed, and so not inlined.
+#[inline(never)]
+#[tactic(auto, unfolding(crate::specs::Near::split_count))]
+pub(crate) fn split_count(map: &VectorMap, place: Place) -> u8
+    requires { Has map.now place }
+    ensures value { result ≡ split_count map.now place }
+    ensures light { result < 6 }
+{
+    let (above, corner) = map.row_above(place);
+    let left = look(map, place.left());
+    split_weight(above, 2) + split_weight(left, 2) + split_weight(corner, 1)
 }
 
 /// The candidate vectors of the macroblock at `place`, from the macroblocks above, to the left, and above left (RFC
@@ -278,11 +207,15 @@ pub fn near(map: &VectorMap, place: Place, reference: Reference, biases: SignBia
     ensures { result ≡ candidates map.now place reference biases }
 {
     let found = nearby(map, place, reference, biases);
-    let counts = found.counts;
     Candidates {
-        counts,
-        best: clamp_vector(map, place, found.best),
-        nearest: clamp_vector(map, place, found.nearest),
-        near: clamp_vector(map, place, found.near),
+        counts: [
+            found.zeros,
+            found.nearest.weight,
+            found.near.weight,
+            split_count(map, place),
+        ],
+        best: clamp_vector(map, place, found.best()),
+        nearest: clamp_vector(map, place, found.nearest.vector.vector()),
+        near: clamp_vector(map, place, found.near.vector.vector()),
     }
 }

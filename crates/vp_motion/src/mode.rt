@@ -1,31 +1,39 @@
 //! Reading a vector mode: the walk of its tree, unrolled (RFC 6386, chapter 16.3).
 
-ghost use Rattle.std.specs.Prelude.{◌≡◌, ℕ, ◌<◌, slice_index};
-ghost use Rattle.vp_motion.specs.Motion.{mode_probability, vector_mode};
+ghost use Rattle.std.specs.Prelude.{◌≡◌, ◌<◌, [], slice_index, slice_index_or};
+ghost use Rattle.vp_base.specs.Grid.{Has};
+ghost use Rattle.vp_tables.specs.declared.mode_probabilities.TheConstants.{VECTOR_MODE_PROBABILITIES};
+ghost use Rattle.vp_motion.specs.Motion.{vector_mode};
 ghost use Rattle.vp_motion.specs.ModeWalk.{any_mode, above_zero, above_nearest, above_near};
+ghost use Rattle.vp_motion.specs.Near.{split_count, weights_of, AreLight};
 
+use crate::candidates::split_count;
+use crate::map::VectorMap;
+use crate::vector::Nearby;
+use vp_base::Place;
 use vp_bool::BoolDecoder;
 use vp_tables::{VECTOR_MODE_PROBABILITIES, VectorMode};
 
-/// Probability `i` of the vector mode, from the counts of the candidates. It is looked up only where it is used.
+/// Probability `i` of the vector mode, from weight `i` of the candidates. It is looked up only where it is used.
 #[inline(always)]
-fn mode_probability(counts: &[u8; 4], i: usize) -> u8
+fn mode_probability(weight: u8, i: usize) -> u8
     requires index { i < 4 }
-    requires light { slice_index counts.now i < 6 }
-    ensures { result ≡ mode_probability counts.now i }
+    requires light { weight < 6 }
+    ensures { result ≡ slice_index (slice_index_or VECTOR_MODE_PROBABILITIES weight []) i }
 {
-    VECTOR_MODE_PROBABILITIES[counts[i] as usize][i]
+    VECTOR_MODE_PROBABILITIES[weight as usize][i]
 }
 
 /// The walk from the pair at index 6.
 #[inline(always)]
 #[tactic(auto, unfolding(crate::specs::ModeWalk::above_near, vp_bool::specs::Reader::bind))]
-fn above_near(counts: &[u8; 4], d: &mut BoolDecoder) -> VectorMode
-    requires { (k : ℕ) → slice_index counts.now k < 6 }
-    ensures value { result ≡ (above_near counts.now d.old).0 }
-    ensures rest { d.new ≡ (above_near counts.now d.old).1 }
+fn above_near(map: &VectorMap, place: Place, found: &Nearby, d: &mut BoolDecoder) -> VectorMode
+    requires place { Has map.now place }
+    requires light { AreLight found.now }
+    ensures value { result ≡ (above_near (weights_of (split_count map.now place) found.now) d.old).0 }
+    ensures rest { d.new ≡ (above_near (weights_of (split_count map.now place) found.now) d.old).1 }
 {
-    if d.read(mode_probability(counts, 3)) {
+    if d.read(mode_probability(split_count(map, place), 3)) {
         VectorMode::Split
     } else {
         VectorMode::New
@@ -35,13 +43,14 @@ fn above_near(counts: &[u8; 4], d: &mut BoolDecoder) -> VectorMode
 /// The walk from the pair at index 4.
 #[inline(always)]
 #[tactic(auto, unfolding(crate::specs::ModeWalk::above_nearest, vp_bool::specs::Reader::bind))]
-fn above_nearest(counts: &[u8; 4], d: &mut BoolDecoder) -> VectorMode
-    requires { (k : ℕ) → slice_index counts.now k < 6 }
-    ensures value { result ≡ (above_nearest counts.now d.old).0 }
-    ensures rest { d.new ≡ (above_nearest counts.now d.old).1 }
+fn above_nearest(map: &VectorMap, place: Place, found: &Nearby, d: &mut BoolDecoder) -> VectorMode
+    requires place { Has map.now place }
+    requires light { AreLight found.now }
+    ensures value { result ≡ (above_nearest (weights_of (split_count map.now place) found.now) d.old).0 }
+    ensures rest { d.new ≡ (above_nearest (weights_of (split_count map.now place) found.now) d.old).1 }
 {
-    if d.read(mode_probability(counts, 2)) {
-        above_near(counts, d)
+    if d.read(mode_probability(found.near.weight, 2)) {
+        above_near(map, place, found, d)
     } else {
         VectorMode::Near
     }
@@ -50,13 +59,14 @@ fn above_nearest(counts: &[u8; 4], d: &mut BoolDecoder) -> VectorMode
 /// The walk from the pair at index 2.
 #[inline(always)]
 #[tactic(auto, unfolding(crate::specs::ModeWalk::above_zero, vp_bool::specs::Reader::bind))]
-fn above_zero(counts: &[u8; 4], d: &mut BoolDecoder) -> VectorMode
-    requires { (k : ℕ) → slice_index counts.now k < 6 }
-    ensures value { result ≡ (above_zero counts.now d.old).0 }
-    ensures rest { d.new ≡ (above_zero counts.now d.old).1 }
+fn above_zero(map: &VectorMap, place: Place, found: &Nearby, d: &mut BoolDecoder) -> VectorMode
+    requires place { Has map.now place }
+    requires light { AreLight found.now }
+    ensures value { result ≡ (above_zero (weights_of (split_count map.now place) found.now) d.old).0 }
+    ensures rest { d.new ≡ (above_zero (weights_of (split_count map.now place) found.now) d.old).1 }
 {
-    if d.read(mode_probability(counts, 1)) {
-        above_nearest(counts, d)
+    if d.read(mode_probability(found.nearest.weight, 1)) {
+        above_nearest(map, place, found, d)
     } else {
         VectorMode::Nearest
     }
@@ -65,13 +75,14 @@ fn above_zero(counts: &[u8; 4], d: &mut BoolDecoder) -> VectorMode
 /// The walk from the root.
 #[inline(always)]
 #[tactic(auto, unfolding(crate::specs::ModeWalk::any_mode, vp_bool::specs::Reader::bind))]
-fn any_mode(counts: &[u8; 4], d: &mut BoolDecoder) -> VectorMode
-    requires { (k : ℕ) → slice_index counts.now k < 6 }
-    ensures value { result ≡ (any_mode counts.now d.old).0 }
-    ensures rest { d.new ≡ (any_mode counts.now d.old).1 }
+fn any_mode(map: &VectorMap, place: Place, found: &Nearby, d: &mut BoolDecoder) -> VectorMode
+    requires place { Has map.now place }
+    requires light { AreLight found.now }
+    ensures value { result ≡ (any_mode (weights_of (split_count map.now place) found.now) d.old).0 }
+    ensures rest { d.new ≡ (any_mode (weights_of (split_count map.now place) found.now) d.old).1 }
 {
-    if d.read(mode_probability(counts, 0)) {
-        above_zero(counts, d)
+    if d.read(mode_probability(found.zeros, 0)) {
+        above_zero(map, place, found, d)
     } else {
         VectorMode::Zero
     }
@@ -79,10 +90,16 @@ fn any_mode(counts: &[u8; 4], d: &mut BoolDecoder) -> VectorMode
 
 /// Reads a vector mode. The compiler follows each mode from where it is read: no mode is looked at again.
 #[inline(always)]
-pub(crate) fn read_mode(counts: &[u8; 4], d: &mut BoolDecoder) -> VectorMode
-    requires { (k : ℕ) → slice_index counts.now k < 6 }
-    ensures value { result ≡ (vector_mode counts.now d.old).0 }
-    ensures rest { d.new ≡ (vector_mode counts.now d.old).1 }
+pub(crate) fn read_mode(
+    map: &VectorMap,
+    place: Place,
+    found: &Nearby,
+    d: &mut BoolDecoder,
+) -> VectorMode
+    requires place { Has map.now place }
+    requires light { AreLight found.now }
+    ensures value { result ≡ (vector_mode (weights_of (split_count map.now place) found.now) d.old).0 }
+    ensures rest { d.new ≡ (vector_mode (weights_of (split_count map.now place) found.now) d.old).1 }
 {
-    any_mode(counts, d)
+    any_mode(map, place, found, d)
 }

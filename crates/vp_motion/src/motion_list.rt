@@ -77,8 +77,8 @@ fn reach(entries: &mut Vec<MacroblockMotion>, written: usize, i: usize) -> usize
     i + 1
 }
 
-/// Gives all blocks one vector. Not inlined: by itself it is vectorised.
-#[inline(never)]
+/// Gives all blocks one vector. Inlined: the vector then is in one register, and is stored in eight steps.
+#[inline(always)]
 fn fill(vectors: &mut [Vector; 16], vector: Vector)
     ensures { vectors.new ≡ replicate 16 vector }
 {

@@ -1,16 +1,17 @@
-use Rattle.vp_motion.specs.Near.{clamped_vector}
+use Rattle.std.proofs.Common.{◌≡◌, ◌∙◌, ◌++◌, ap}
 use Rattle.vp_base.specs.Grid.{look}
 use Rattle.vp_motion.specs.Map.{intra}
-use Rattle.std.proofs.Common.{◌∙◌, ap, arith, []}
-use Rattle.vp_motion.proofs.Runs.{near_is, tally-none}
+use Rattle.vp_motion.specs.Vector.{MacroblockMotion}
+use Rattle.vp_motion.specs.Near.{candidates, clamped_vector, from_entries, neighbours, moving, runs, split_count, still_weight, weighed, weighted_neighbour}
 use Rattle.vp_motion.proofs.candidates.nearby.Goals as goal
 
-pub returns : goal.returns
-returns c = record {
-  value =
-      c.choose.ensures.value (clamped_vector c.args.map.now c.args.place) ∙ near_is c.args.map.now c.args.place c.args.reference c.args.biases _ _ _ _ _ _
-      c.row_above.ensures.above (c.look-left.ensures ∙ ap (look intra c.args.map.now) c.left.ensures.value) c.row_above.ensures.corner
-      (omega (arith, c.consider.ensures.splits, c.consider-2.ensures.splits, c.consider-3.ensures.splits))
-      (c.consider-3.ensures.tally _ (c.consider-2.ensures.tally _ (c.consider.ensures.tally [] (rw c.none.ensures tally-none))));
-  light = c.choose.ensures.light;
-}
+pub returns-clause-value : goal.returns-clause-value
+unfolding candidates neighbours
+returns-clause-value c =
+    let by = λ (weight : _) (e : MacroblockMotion). weighted_neighbour c.args.reference c.args.biases weight e in
+    let above = c.seen_vector.ensures 2 ∙ ap (by 2) c.row_above.ensures.above in
+    let left = c.seen_vector-2.ensures 2 ∙ ap (by 2) (c.look-left.ensures ∙ ap (look intra c.args.map.now) c.left.ensures.value) in
+    let corner = c.seen_vector-3.ensures 1 ∙ ap (by 1) c.row_above.ensures.corner in
+    let splits = split_count c.args.map.now c.args.place in
+    c.count.ensures.value (clamped_vector c.args.map.now c.args.place) splits
+    ∙ (λ i. from_entries (clamped_vector c.args.map.now c.args.place) (still_weight (above i ++ (left i ++ corner i))) splits (runs (moving (above i ++ (left i ++ corner i)))))

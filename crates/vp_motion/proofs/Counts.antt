@@ -1,0 +1,94 @@
+-- The count of a macroblock's neighbours.
+use Rattle.std.proofs.Common.{◌≡◌, ◌∙◌, ℕ, ◌+◌, ◌*◌, ◌<◌, ◌≤◌, Bool, true, false, List, [], ◌∷◌, ◌++◌, refl, ap, sym, arith, inl, inr, ℤ, pos, negsuc, add_assoc}
+use Rattle.std.specs.Prelude.{Option, Some, None, nat_lt}
+use Rattle.std.proofs.lemmas.Bool.{cases_Bool, and_parts, eqb-true, false≢true, lt-ltb, le-ltb}
+use Rattle.vp_motion.specs.declared.vector.Nearby.{Nearby}
+use Rattle.vp_motion.specs.declared.vector.Weighted.{Weighted}
+use Rattle.vp_motion.specs.Vector.{Vector, zero_vector}
+use Rattle.vp_motion.specs.Near.{from_entries, from_two, first_candidate, weighted_at, same, same_number, still_weight, moving, onto, runs, nobody, weighed, Counts}
+
+same_number-true : (m n : ℤ) → same_number m n ≡ true → m ≡ n
+same_number-true (pos m) (pos n) h = ap pos (eqb-true m n h)
+same_number-true (pos m) (negsuc n) h = absurd (false≢true h)
+same_number-true (negsuc m) (pos n) h = absurd (false≢true h)
+same_number-true (negsuc m) (negsuc n) h = ap negsuc (eqb-true m n h)
+
+pub same-true : (u v : Vector) → same u v ≡ true → u ≡ v
+unfolding same
+same-true u v h =
+    let p = and_parts (same_number u.row v.row) (same_number u.column v.column) h in
+    λ i. record { row = same_number-true u.row v.row p.0 i; column = same_number-true u.column v.column p.1 i }
+
+pub recount : (n : Nearby) (y z : ℕ) (es fs : List Weighted) → Counts n y es → y ≡ z → es ≡ fs → Counts n z fs
+recount n y z es fs h p q clamp splits = h clamp splits ∙ (λ i. from_entries clamp (p i) splits (q i))
+
+-- the counts of none, one, two and three entries
+pub counts-none : (z : ℕ) → Counts (record { zeros = z; nearest = nobody; near = nobody }) z []
+unfolding from_entries first_candidate
+counts-none z clamp splits = refl
+
+pub counts-one : (z : ℕ) (a : Weighted) → Counts (record { zeros = z; nearest = a; near = nobody }) z (a ∷ [])
+unfolding from_entries first_candidate
+counts-one z a clamp splits = let l : nat_lt a.weight 0 ≡ false = le-ltb a.weight 0 (omega arith) in rw l refl
+
+pub counts-two : (z : ℕ) (a b : Weighted) → b.weight ≤ a.weight → Counts (record { zeros = z; nearest = a; near = b }) z (a ∷ (b ∷ []))
+unfolding from_entries first_candidate
+counts-two z a b h clamp splits = let l : nat_lt a.weight b.weight ≡ false = le-ltb a.weight b.weight h in rw l refl
+
+pub counts-swapped : (z : ℕ) (a b : Weighted) → a.weight < b.weight → Counts (record { zeros = z; nearest = b; near = a }) z (a ∷ (b ∷ []))
+unfolding from_entries first_candidate
+counts-swapped z a b h clamp splits = let l : nat_lt a.weight b.weight ≡ true = lt-ltb a.weight b.weight h in rw l refl
+
+module _ (u v w : Vector) where
+  abbrev three : List Weighted
+  three = record { vector = u; weight = 2 } ∷ (record { vector = v; weight = 2 } ∷ (record { vector = w; weight = 1 } ∷ []))
+
+  pub counts-three : same w u ≡ false
+      → Counts (record { zeros = 0; nearest = record { vector = u; weight = 2 }; near = record { vector = v; weight = 2 } }) 0 three
+  unfolding from_entries first_candidate
+  counts-three h clamp splits = rw h refl
+
+  pub counts-three-grown : same w u ≡ true
+      → Counts (record { zeros = 0; nearest = record { vector = u; weight = 3 }; near = record { vector = v; weight = 2 } }) 0 three
+  unfolding from_entries first_candidate
+  counts-three-grown h clamp splits = rw h refl
+
+-- the vector v with weight k, before the neighbours ws
+module _ (v : Vector) (k : ℕ) (ws : List Weighted) where
+  abbrev w : Weighted
+  w = record { vector = v; weight = k }
+
+  pub still-still : same v zero_vector ≡ true → k + still_weight ws ≡ still_weight (w ∷ ws)
+  unfolding still_weight
+  still-still h = rw h refl
+
+  pub still-moving : same v zero_vector ≡ false → still_weight ws ≡ still_weight (w ∷ ws)
+  unfolding still_weight
+  still-moving h = rw h (omega arith)
+
+  pub runs-still : same v zero_vector ≡ true → runs (moving ws) ≡ runs (moving (w ∷ ws))
+  unfolding moving
+  runs-still h = rw h refl
+
+  pub runs-moving : same v zero_vector ≡ false → onto w (runs (moving ws)) ≡ runs (moving (w ∷ ws))
+  unfolding moving runs
+  runs-moving h = rw h refl
+
+pub onto-same : (a b : Weighted) → same a.vector b.vector ≡ true → record { vector = a.vector; weight = a.weight + b.weight } ∷ [] ≡ onto a (b ∷ [])
+unfolding onto
+onto-same a b h = rw h refl
+
+pub onto-other : (a b : Weighted) (es : List Weighted) → same a.vector b.vector ≡ false → a ∷ (b ∷ es) ≡ onto a (b ∷ es)
+unfolding onto
+onto-other a b es h = rw h refl
+
+-- Equal vectors side by side are one entry.
+pub onto-both : (a b : Weighted) (es : List Weighted) → same a.vector b.vector ≡ true → onto (record { vector = a.vector; weight = a.weight + b.weight }) es ≡ onto a (onto b es)
+unfolding onto
+onto-both a b [] h = rw h refl
+onto-both a b (e ∷ es) h =
+    let q : same a.vector e.vector ≡ same b.vector e.vector = ap (λ (x : Vector). same x e.vector) (same-true a.vector b.vector h) in
+    elim (cases_Bool (same b.vector e.vector)) [
+      | inl t ↦ rw (q ∙ t, t, h) (ap (λ (n : ℕ). record { vector = a.vector; weight = n } ∷ es) (add_assoc a.weight b.weight e.weight))
+      | inr f ↦ rw (q ∙ f, f, h) refl
+    ]
