@@ -1,12 +1,15 @@
 -- Lower bounds of sums of differences, by sums of squares.
-use Rattle.std.proofs.Common.{◌≡◌, ℕ, zero, suc, ◌+◌, ◌*◌, ◌<◌, ◌≤◌, List, get_or, refl, sym, ap, ap₂, ◌∙◌, subst, arith}
+use Rattle.std.proofs.Common.{◌≡◌, ℕ, zero, suc, ◌+◌, ◌*◌, ◌/◌, ◌%◌, ◌<◌, ◌≤◌, List, get_or, refl, sym, ap, ap₂, ◌∙◌, subst, arith}
 use Rattle.std.proofs.lemmas.Bool.Decides.{nat_tests}
 use Rattle.std.specs.Int.{abs_diff}
 use Rattle.vp_search.specs.declared.window.TheConstants.{WINDOW_WIDTH}
 use Rattle.vp_search.specs.Sums.{sum_below}
 use Rattle.vp_search.specs.Differences.{sum_of_differences, strided_block}
 use Rattle.vp_search.specs.Window.{vector_at, window_cost}
-use Rattle.vp_search.specs.Bounds.{capped, column_sum, square_sum, block_sums, bound_of, IsSummed, IsBound}
+use Rattle.vp_search.specs.declared.search_window.SearchWindow.{SearchWindow}
+use Rattle.vp_search.specs.Search.{cost_in}
+use Rattle.vp_search.specs.Summed.{AreBounds}
+use Rattle.vp_search.specs.Bounds.{capped, column_sum, square_sum, block_sums, bound_of, IsSummed}
 use Rattle.vp_search.proofs.SumLemmas.{sum_below-same, sum_below-add, sum_below-plus, sum_of_differences-same, sum_of_differences-add}
 use Rattle.vp_search.proofs.WindowLemmas.{cost_at}
 
@@ -127,8 +130,18 @@ bound_below block window sums squares range i j at e all iin jin place =
     (subst (λ (n : ℕ). bound_of (block_sums block) sums at ≤ n) cost (bound_at block window sums at p q r s))
 
 -- the bounds of eight places
-pub bounds_are : (block window sums squares bounds : List ℕ) (range i j : ℕ) → squares ≡ block_sums block → IsSummed window sums range → i ≤ 2 * range
-    → ((t : ℕ) → t < 8 → get_or bounds t 0 ≡ bound_of squares sums (i * WINDOW_WIDTH + j + t)) → IsBound block window range i j bounds
-bounds_are block window sums squares bounds range i j e all iin here t h within =
-    subst (λ (n : ℕ). n ≤ window_cost block window range (vector_at range i (j + t))) (sym (here t h))
-    (bound_below block window sums squares range i (j + t) (i * WINDOW_WIDTH + j + t) e all iin within (omega arith))
+pub bounds_are : (w : SearchWindow) (sums squares bounds : List ℕ) (i j : ℕ) → squares ≡ block_sums w.block.now → IsSummed w.pixels.now sums w.range → i ≤ 2 * w.range
+    → ((t : ℕ) → t < 8 → get_or bounds t 0 ≡ bound_of squares sums (i * WINDOW_WIDTH + j + t)) → AreBounds w i j bounds
+bounds_are w sums squares bounds i j e all iin here t h within =
+    subst (λ (n : ℕ). n ≤ cost_in w (vector_at w.range i (j + t))) (sym (here t h))
+    (bound_below w.block.now w.pixels.now sums squares w.range i (j + t) (i * WINDOW_WIDTH + j + t) e all iin within (omega arith))
+
+-- groups of eight places whose bounds are above a limit
+pub bounds_above : (w : SearchWindow) (sums squares : List ℕ) (i g m limit : ℕ) → squares ≡ block_sums w.block.now → IsSummed w.pixels.now sums w.range → i ≤ 2 * w.range
+    → ((k t : ℕ) → g ≤ k → k < m → t < 8 → limit < bound_of squares sums (i * WINDOW_WIDTH + 8 * k + t))
+    → (j : ℕ) → 8 * g ≤ j → j < 8 * m → j ≤ 2 * w.range → limit < cost_in w (vector_at w.range i j)
+bounds_above w sums squares i g m limit e all iin above j low high within =
+    let at : i * WINDOW_WIDTH + 8 * (j / 8) + j % 8 ≡ i * WINDOW_WIDTH + j = omega arith in
+    let over = above (j / 8) (j % 8) (omega arith) (omega arith) (omega arith) in
+    let bound = bound_below w.block.now w.pixels.now sums squares w.range i j (i * WINDOW_WIDTH + 8 * (j / 8) + j % 8) e all iin within at in
+    omega arith

@@ -3,6 +3,7 @@ pub mod LaneLemmas
 pub mod RowLemmas
 pub mod OrderLemmas
 pub mod WindowLemmas
+pub mod SearchLemmas
 pub mod RefinedLemmas
 pub mod ColumnLemmas
 pub mod BoundLemmas

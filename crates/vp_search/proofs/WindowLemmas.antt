@@ -1,5 +1,5 @@
 -- Lemmas on the window that is searched.
-use Rattle.std.proofs.Common.{◌≡◌, ℕ, ℤ, pos, negsuc, ◌+◌, ◌*◌, ◌-◌, ◌/◌, ◌%◌, ◌<◌, ◌≤◌, ◌+ℤ◌, ◌-ℤ◌, ◌*ℤ◌, List, length, get_or, refl, sym, ap, ap₂, subst, inl, inr, ◌⊎◌, ◌∙◌, arith}
+use Rattle.std.proofs.Common.{◌≡◌, ℕ, ℤ, pos, negsuc, ◌+◌, ◌*◌, ◌-◌, ◌/◌, ◌%◌, ◌<◌, ◌≤◌, ◌+ℤ◌, ◌-ℤ◌, ◌*ℤ◌, List, length, get_or, refl, sym, ap, ap₂, subst, inl, inr, ◌∙◌, arith}
 use Rattle.std.specs.Prelude.{unsigned_abs}
 use Rattle.std.specs.Int.{int_rem_euclid}
 use lib.Signed.{shr_z as floor_div}
@@ -13,18 +13,14 @@ use Rattle.vp_inter.proofs.ReferenceLemmas.{line_beyond}
 use Rattle.vp_inter.proofs.PassLemmas.{inter_whole}
 use Rattle.vp_search.specs.declared.vector.WholeVector.{WholeVector}
 use Rattle.vp_search.specs.declared.vector.QuarterVector.{QuarterVector}
-use Rattle.vp_search.specs.declared.vector.Found.{Found}
-use Rattle.vp_search.specs.declared.vector.Scope.{Scope}
 use Rattle.vp_search.specs.declared.window.TheConstants.{WINDOW_WIDTH}
 use Rattle.vp_search.specs.Vectors.{quarters, IsNear}
 use Rattle.vp_search.specs.Differences.{sum_of_differences, strided_block, block16}
 use Rattle.vp_search.specs.Blocks.{moved_block, predicted_block, whole_cost, quarter_cost}
 use Rattle.vp_search.specs.Least.{IsNoWorse, IsLeast}
-use Rattle.vp_search.specs.Window.{searched_pixel, vector_at, window_place, first_rows, window_cost, IsFoundInWindow, IsBestBelow}
-use Rattle.vp_search.specs.Chosen.{IsChosen}
-use Rattle.vp_search.proofs.RowLemmas.{by_fours}
+use Rattle.vp_search.specs.Window.{searched_pixel, vector_at, window_place, window_cost}
 use Rattle.vp_search.proofs.SumLemmas.{sum_of_differences-same}
-use Rattle.vp_search.proofs.OrderLemmas.{index, near_at}
+use Rattle.vp_search.proofs.OrderLemmas.{index}
 
 -- the cost of the vector at a place of the window
 pub cost_at : (block window : List ℕ) (range i j : ℕ) → window_cost block window range (vector_at range i j) ≡ sum_of_differences 16 16 (strided_block block 0 16) (strided_block window (i * WINDOW_WIDTH + j) WINDOW_WIDTH)
@@ -117,42 +113,6 @@ quarter_cost-whole f p place v bytes =
     sum_of_differences-same 16 16 f f (moved_block p place v) (predicted_block p place (quarters v)) (λ r c h k. refl)
     (λ r c h k. predicted_whole p place v r c (bytes r c h k))
 
--- ---- the best vector of a window that is filled
-
--- the best vector of a window that is filled, if it costs less than the limit
-pub best_below : (block window : List ℕ) (p : Raster) (place : Place) (scope : Scope) (best : Found) → IsFilled window p place scope.range → ((k : ℕ) → get_or window k 0 ≤ 255)
-    → IsBestBelow scope (window_cost block window scope.range) best → IsChosen (block16 block) p place scope best
-best_below block window p place scope best filled bytes is =
-    let whole = window_cost-whole block window p place scope.range in
-    let bytes_of : (v : WholeVector) → IsNear scope.range v → (r c : ℕ) → r < 16 → c < 16 → moved_block p place v r c ≤ 255 =
-    λ v near r c h k. subst (λ (n : ℕ). n ≤ 255) (window_pixel window p place scope.range v filled near r c h k) (bytes _) in
-    let predicted = λ (v : WholeVector) (near : IsNear scope.range v). quarter_cost-whole (block16 block) p place v (bytes_of v near) in
-    record {
-      cost = λ below. is.known below ∙ whole best.vector filled (is.least below).near;
-      least = λ below. least_same scope.range (window_cost block window scope.range) (whole_cost (block16 block) p place) best.vector (λ v near. whole v filled near) (is.least below);
-      predicted = λ below. is.known below ∙ whole best.vector filled (is.least below).near ∙ predicted best.vector (is.least below).near;
-      over = λ v near. subst (λ (n : ℕ). best.cost ≤ n) (whole v filled near ∙ predicted v near) (is.over v near);
-    }
-
--- the best vector of a reference, with its cost
-pub record IsBest (f : ℕ → ℕ → ℕ) (p : Raster) (place : Place) (range : ℕ) (best : Found) : Type 0 where
-  pub cost : best.cost ≡ whole_cost f p place best.vector
-  pub least : IsLeast range (whole_cost f p place) best.vector
-  pub predicted : best.cost ≡ quarter_cost f p place (quarters best.vector)
-
-pub best_whole : (block window : List ℕ) (p : Raster) (place : Place) (range : ℕ) (best : Found) → IsFilled window p place range → ((k : ℕ) → get_or window k 0 ≤ 255)
-    → best.cost ≡ window_cost block window range best.vector → IsLeast range (window_cost block window range) best.vector
-    → IsBest (block16 block) p place range best
-best_whole block window p place range best filled bytes known least =
-    let whole = window_cost-whole block window p place range in
-    let cost : best.cost ≡ whole_cost (block16 block) p place best.vector = known ∙ whole best.vector filled least.near in
-    record {
-      cost = cost;
-      least = least_same range (window_cost block window range) (whole_cost (block16 block) p place) best.vector (λ v near. whole v filled near) least;
-      predicted = cost ∙ quarter_cost-whole (block16 block) p place best.vector
-          (λ r c h k. subst (λ (n : ℕ). n ≤ 255) (window_pixel window p place range best.vector filled least.near r c h k) (bytes _));
-    }
-
 -- ---- a block that was cut
 
 pub whole_cost-same : (f g : ℕ → ℕ → ℕ) (p : Raster) (place : Place) (v : WholeVector) → ((r c : ℕ) → r < 16 → c < 16 → f r c ≡ g r c)
@@ -164,30 +124,6 @@ pub quarter_cost-same : (f g : ℕ → ℕ → ℕ) (p : Raster) (place : Place)
     → quarter_cost f p place v ≡ quarter_cost g p place v
 unfolding quarter_cost
 quarter_cost-same f g p place v same = sum_of_differences-same 16 16 f g (predicted_block p place v) (predicted_block p place v) same (λ r c h k. refl)
-
--- ---- one place more
-
--- the vector at a place with its cost
-pub kept_at : (block window : List ℕ) (scope : Scope) (i j cost : ℕ) (v : WholeVector) → i ≤ 2 * scope.range → j ≤ 2 * scope.range → v ≡ vector_at scope.range i j
-    → cost ≡ sum_of_differences 16 16 (strided_block block 0 16) (strided_block window (i * WINDOW_WIDTH + j) WINDOW_WIDTH)
-    → IsFoundInWindow scope (window_cost block window scope.range) (record { vector = v; cost = cost })
-kept_at block window scope i j cost v hi hj e known = record {
-  near = subst (λ (u : WholeVector). IsNear scope.range u) (sym e) (near_at scope.range i j hi hj);
-  known = λ _. known ∙ sym (cost_at block window scope.range i j) ∙ ap (window_cost block window scope.range) (sym e);
-}
-
--- .. and it is no larger than itself
-pub taken_at : (block window : List ℕ) (range i j a cost : ℕ) (u v : WholeVector) → v ≡ vector_at range i j
-    → cost ≡ sum_of_differences 16 16 (strided_block block 0 16) (strided_block window (i * WINDOW_WIDTH + j) WINDOW_WIDTH) → IsNoWorse a u cost v
-    → IsNoWorse a u (window_cost block window range (vector_at range i j)) (vector_at range i j)
-taken_at block window range i j a cost u v e known p =
-    subst (λ (w : WholeVector). IsNoWorse a u (window_cost block window range (vector_at range i j)) w) e
-    (subst (λ (k : ℕ). IsNoWorse a u k v) (known ∙ sym (cost_at block window range i j)) p)
-
--- the kept one of two
-pub kept_of : (scope : Scope) (cost : WholeVector → ℕ) (old new found : Found) → IsFoundInWindow scope cost old → IsFoundInWindow scope cost new → (found ≡ old) ⊎ (found ≡ new) → IsFoundInWindow scope cost found
-kept_of scope cost old new found p q (inl e) = subst (λ (f : Found). IsFoundInWindow scope cost f) (sym e) p
-kept_of scope cost old new found p q (inr e) = subst (λ (f : Found). IsFoundInWindow scope cost f) (sym e) q
 
 -- one row more of the window
 pub filled_more : (p : Raster) (place : Place) (range i : ℕ) (old new line : List ℕ) (left top : ℤ) → range ≤ 64 → 0 < p.width
@@ -209,10 +145,3 @@ filled_more p place range i old new line left top small wide e long el et done h
           ∙ ap₂ (reference_pixel p) column et
           ∙ ap (λ (n : ℕ). searched_pixel p place range n j) (sym same)
     ]
-
--- the first four rows of a vector's block are a part of its cost
-pub first_rows_below : (block window : List ℕ) (range i j : ℕ) → first_rows block window (i * WINDOW_WIDTH + j) ≤ window_cost block window range (vector_at range i j)
-first_rows_below block window range i j =
-    let whole = cost_at block window range i j in
-    let fours = by_fours block window (i * WINDOW_WIDTH + j) WINDOW_WIDTH in
-    omega (arith, whole, fours)

@@ -4,7 +4,6 @@ use Rattle.std.specs.Prelude.{◌≡◌, ℕ, ◌+◌, ◌*◌, ◌<◌, ◌≤�
 use Rattle.std.specs.Int.{abs_diff}
 use Rattle.vp_search.specs.declared.window.TheConstants.{WINDOW_WIDTH}
 use Rattle.vp_search.specs.Sums.{sum_below}
-use Rattle.vp_search.specs.Window.{vector_at, window_cost}
 
 -- the greatest number in a lane, where a sum is larger; no sum of bytes here is
 abbrev pub capped : ℕ → ℕ
@@ -44,8 +43,3 @@ IsSummed window sums range = (y x : ℕ) → y ≤ 2 * range + 8 → x ≤ 2 * r
 abbrev pub AreSummed : List ℕ → List ℕ → ℕ → ℕ → Type 0
 AreSummed window sums range columns = (y x : ℕ) → y ≤ 2 * range + 8 → x < columns
     → slice_index sums (y * WINDOW_WIDTH + x) ≡ square_sum window (y * WINDOW_WIDTH + x) WINDOW_WIDTH
-
--- eight bounds of the costs of the vectors from a row and column of a window on
-abbrev pub IsBound : List ℕ → List ℕ → ℕ → ℕ → ℕ → List ℕ → Type 0
-IsBound block window range i j bounds = (t : ℕ) → t < 8 → j + t ≤ 2 * range
-    → slice_index bounds t ≤ window_cost block window range (vector_at range i (j + t))

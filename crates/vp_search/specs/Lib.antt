@@ -8,6 +8,7 @@ pub mod FirstLeast
 pub mod Refined
 pub mod Columns
 pub mod Window
+pub mod Search
 pub mod Chosen
 pub mod Bounds
 pub mod Coarse

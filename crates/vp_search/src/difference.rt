@@ -1,6 +1,6 @@
 //! Sums of absolute differences of 16x16 blocks.
 
-ghost use Rattle.std.specs.Prelude.{◌≡◌, ◌+◌, ◌*◌, ◌<◌, ◌≤◌, length, slice_index, IfSome, None};
+ghost use Rattle.std.specs.Prelude.{◌≡◌, ℕ, ◌+◌, ◌*◌, ◌<◌, ◌≤◌, length, slice_index, IfSome, None};
 ghost use Rattle.vp_search.specs.Differences.{sum_of_differences, strided_block, block16};
 ghost use Rattle.vp_search.specs.Columns.{IsWithin};
 
@@ -15,8 +15,8 @@ pub fn sad16(a: &[u8; 256], b: &[u8; 256]) -> u32
     sad(&Block::of(a), b, 0, 16)
 }
 
-/// The sum of absolute differences of rows `4 * i` to `4 * i + 3` of a block and four rows of a window that are `stride`
-/// apart, from index `at` on.
+/// The sum of absolute differences of rows `4 * i` to `4 * i + 3` of a block and four rows of a window that are
+/// `stride` apart, from index `at` on.
 fn four_rows(block: &Block, i: usize, window: &[u8], at: usize, stride: usize) -> u32
     requires i { i < 4 }
     requires window { at + 3 * stride + 16 ≤ length window.now }
@@ -44,6 +44,7 @@ pub(crate) fn sad(block: &Block, window: &[u8], at: usize, stride: usize) -> u32
     ensures value { result ≡ sum_of_differences 16 16 (strided_block block.now 0 16)
         (strided_block window.now at stride) }
     ensures bound { result ≤ 16 * 16 * 255 }
+    ensures bytes { (k : ℕ) → slice_index window.now k ≤ 255 }
 {
     first_rows(block, window, at, stride)
         + four_rows(block, 1, window, at + 4 * stride, stride)
@@ -51,27 +52,8 @@ pub(crate) fn sad(block: &Block, window: &[u8], at: usize, stride: usize) -> u32
         + four_rows(block, 3, window, at + 12 * stride, stride)
 }
 
-/// As `sad`, if the sum is at most `limit`; else None.
-pub(crate) fn sad_within(
-    block: &Block,
-    window: &[u8],
-    at: usize,
-    stride: usize,
-    limit: u32,
-) -> Option<u32>
-    requires { at + 15 * stride + 16 ≤ length window.now }
-    ensures within { IfSome result (λ sum. sum ≤ limit) }
-    ensures value { IfSome result (λ sum. sum ≡ sum_of_differences 16 16 (strided_block block.now 0 16)
-        (strided_block window.now at stride)) }
-    ensures over { result ≡ None → limit < sum_of_differences 16 16 (strided_block block.now 0 16)
-        (strided_block window.now at stride) }
-{
-    let first = first_rows(block, window, at, stride);
-    rest_within(block, window, at, stride, first, limit)
-}
-
-/// As `sad_within`, where the sum of the first four rows is known. It is compared with the limit after twelve rows:
-/// after eight few vectors are above it.
+/// As `sad`, where the sum of the first four rows is known, if the sum is at most `limit`; else None. It is compared
+/// after twelve rows: after eight few vectors are above it.
 pub(crate) fn rest_within(
     block: &Block,
     window: &[u8],

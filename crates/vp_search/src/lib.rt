@@ -2,10 +2,11 @@
 #![tactic(auto)]
 
 mod block;
+mod bounded_row;
+mod candidate;
 mod coarse;
 mod columns;
 mod difference;
-mod early;
 mod kept;
 mod kernel;
 mod laws;
@@ -15,10 +16,13 @@ mod reference;
 mod refinement;
 mod rows;
 mod search;
+mod search_window;
 mod searcher;
 mod squares;
 mod summed;
 mod sums;
+mod unbounded;
+mod unbounded_row;
 mod vector;
 mod window;
 

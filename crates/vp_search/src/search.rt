@@ -1,20 +1,15 @@
 //! The full search over whole pixels.
 
-ghost use Rattle.std.specs.Prelude.{◌≡◌, ◌+◌, ◌*◌, ◌<◌, ◌≤◌, IfSome, length};
-ghost use Rattle.vp_search.specs.Vectors.{quarters, vector_length, IsNear};
+ghost use Rattle.std.specs.Prelude.{◌≡◌, ◌+◌, ◌*◌, ◌<◌, ◌≤◌};
+ghost use Rattle.vp_search.specs.Vectors.{quarters};
 ghost use Rattle.vp_search.specs.Differences.{block16};
 ghost use Rattle.vp_search.specs.Blocks.{whole_cost, quarter_cost};
 ghost use Rattle.vp_search.specs.Least.{IsLeast};
-ghost use Rattle.vp_search.specs.Bounds.{IsSummed};
-ghost use Rattle.vp_search.specs.Coarse.{AreCoarse};
-ghost use Rattle.vp_search.specs.Window.{window_cost, IsSearchable, IsFoundInWindow, IsBestBelow};
 
-use crate::coarse::coarse_block;
-use crate::outward::{Progress, centre_of, search_from_centre, search_outwards};
 use crate::rows::Block;
-use crate::summed::SquareSums;
-use crate::sums::block_sums;
-use crate::vector::{Found, Scope};
+use crate::search_window::SearchWindow;
+use crate::unbounded::Unbounded;
+use crate::vector::Found;
 use crate::window::{GREATEST_RANGE, WINDOW_WIDTH, cut_window};
 use vp_base::{Place, Plane};
 
@@ -80,58 +75,14 @@ fn search_in<const AREA: usize>(
     ensures predicted { result.cost ≡ quarter_cost (block16 block.now) reference.now place (quarters result.vector) }
 {
     let block = Block::of(block);
-    let mut window = [0; AREA];
-    cut_window(&mut window, reference, place, range);
-    let centre = centre_of(&block, &window, range);
-    search_from_centre(&block, &window, range, centre)
-}
-
-/// The best vector of a window where bounds don't pay: within a small range, and where the zero vector `centre` costs
-/// nothing. Else None.
-pub(crate) fn search_without_sums(
-    block: &Block,
-    window: &[u8],
-    range: u8,
-    centre: Found,
-) -> Option<Found>
-    requires search { IsSearchable block.now window.now range }
-    requires near { IsNear range centre.vector }
-    requires known { centre.cost ≡ window_cost block.now window.now range centre.vector }
-    requires zero { vector_length centre.vector ≡ 0 }
-    requires bound { centre.cost ≤ 16 * 16 * 255 }
-    ensures cost { IfSome result (λ best. best.cost ≡ window_cost block.now window.now range best.vector) }
-    ensures least { IfSome result (λ best. IsLeast range (window_cost block.now window.now range) best.vector) }
-{
-    if centre.cost == 0 || range < LEAST_BOUNDED_RANGE {
-        return Some(search_from_centre(block, window, range, centre));
-    }
-    None
-}
-
-/// The best of a known vector and all others of a window, whose squares have the sums `sums` and, if there are any, the
-/// coarse sums `coarse`.
-pub(crate) fn search_summed(
-    block: &Block,
-    window: &[u8],
-    sums: &[u16],
-    coarse: &[u8],
-    scope: Scope,
-    known: Found,
-) -> Progress
-    requires search { IsSearchable block.now window.now scope.range }
-    requires sums { (2 * scope.range + 16) * WINDOW_WIDTH ≤ length sums.now }
-    requires coarse_room { 0 < length coarse.now → (2 * scope.range + 16) * WINDOW_WIDTH ≤ length coarse.now }
-    requires summed { IsSummed window.now sums.now scope.range }
-    requires coarse { 0 < length coarse.now → AreCoarse ((2 * scope.range + 9) * WINDOW_WIDTH) sums.now coarse.now }
-    requires known { IsFoundInWindow scope (window_cost block.now window.now scope.range) known }
-    ensures { IsBestBelow scope (window_cost block.now window.now scope.range) result.best }
-{
-    let squares = block_sums(block.pixels());
-    let all = SquareSums {
-        block: squares,
-        window: sums,
-        coarse_block: coarse_block(squares),
-        coarse,
+    let mut pixels = [0; AREA];
+    cut_window(&mut pixels, reference, place, range);
+    let window = SearchWindow {
+        block: &block,
+        pixels: &pixels,
+        range,
+        limit: u32::MAX,
     };
-    search_outwards(block, window, all, scope, known)
+    let progress = window.search_outwards(None, window.centre(), Unbounded::none());
+    progress.best
 }

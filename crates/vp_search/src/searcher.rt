@@ -1,23 +1,25 @@
 //! Searches of one macroblock after another.
 
-ghost use Rattle.std.specs.Prelude.{◌≡◌, ℕ, ◌+◌, ◌*◌, ◌<◌, ◌≤◌, IfOk, IfSome, length};
+ghost use Rattle.std.specs.Prelude.{◌≡◌, ◌+◌, ◌*◌, ◌<◌, ◌≤◌, IfOk, IfSome, length};
 ghost use Rattle.vp_search.specs.declared.vector.WholeVector.{WholeVector};
 ghost use Rattle.vp_search.specs.Vectors.{quarters, IsNear};
 ghost use Rattle.vp_search.specs.Differences.{block16};
 ghost use Rattle.vp_search.specs.Blocks.{whole_cost, quarter_cost};
 ghost use Rattle.vp_search.specs.Least.{IsLeast};
-ghost use Rattle.vp_search.specs.Window.{IsFoundInWindow};
+ghost use Rattle.vp_search.specs.declared.search_window.SearchWindow.{SearchWindow};
+ghost use Rattle.vp_search.specs.Search.{IsFound};
 ghost use Rattle.vp_search.specs.Chosen.{IsChosen};
 ghost use Rattle.vp_search.specs.Kept.{AreKept};
 ghost use Rattle.vp_search.specs.Coarse.{AreCoarse};
 
 use crate::coarse::LEAST_COARSE_RANGE;
 use crate::kept::{Kept, SLIDE};
-use crate::outward::{Spot, Unbounded, centre_of, consider, search_unbounded};
 use crate::rows::Block;
-use crate::search::{search_summed, search_without_sums};
+use crate::search::LEAST_BOUNDED_RANGE;
+use crate::search_window::SearchWindow;
 use crate::sums::fill_sums;
-use crate::vector::{Found, Scope, WholeVector};
+use crate::unbounded::Unbounded;
+use crate::vector::{Found, Spot, WholeVector};
 use crate::window::{WINDOW_WIDTH, cut_window};
 use std::alloc::{AllocError, Global};
 use std::marker::Model;
@@ -150,15 +152,13 @@ impl<'a> Searcher<'a> {
         requires rows { 16 * place.row ≤ 16384 }
         ensures kept { self.new ≡ self.old }
         ensures chosen { IsChosen (block16 block.now) self.old.reference place
-            (record { range = self.old.range; limit = limit }) result }
+            self.old.range limit result }
         ensures bound { result.cost ≤ 16 * 16 * 255 }
     {
         let view = View {
             reference: self.reference,
-            scope: Scope {
-                range: self.range,
-                limit,
-            },
+            range: self.range,
+            limit,
             place,
             begin: self.begin,
             unbounded: self.unbounded,
@@ -185,24 +185,11 @@ impl<'a> Searcher<'a> {
 #[derive(Clone, Copy)]
 struct View<'a> {
     reference: &'a Plane,
-    scope: Scope,
+    range: u8,
+    limit: u32,
     place: Place,
     begin: Spot,
     unbounded: Unbounded,
-}
-
-/// How many macroblocks are searched without sums after one whose last rows had no bounds: 1; where vectors are
-/// compared after four rows, 1, then 3, then 7 each time. `distance` is the number of columns since the last one with
-/// sums in this row; in another row it is only a guess.
-fn macroblocks_after(rows: Unbounded, distance: usize) -> Unbounded {
-    if rows.left == 0 {
-        return rows;
-    }
-    let most = if rows.early { 4 } else { 1 };
-    Unbounded {
-        left: (2 * distance.clamp(1, most) - 1) as u8,
-        early: rows.early,
-    }
 }
 
 /// Where a vector leads in the window of a range; the nearest place of the window if that is outside.
@@ -219,13 +206,13 @@ fn spot_of(vector: WholeVector, range: u8) -> Spot
 
 /// What a search begins with: a vector that costs as much as the limit, if it costs more. No vector that costs more has
 /// to be compared.
-fn limited(found: Found, scope: Scope) -> Found
-    ensures kept { (cost : WholeVector → ℕ) → IsFoundInWindow scope cost found → IsFoundInWindow scope cost result }
+fn limited(found: Found, limit: u32) -> Found
+    ensures kept { (window : SearchWindow) → window.limit ≡ limit → IsFound window found → IsFound window result }
     ensures low { result.cost ≤ found.cost }
 {
     Found {
         vector: found.vector,
-        cost: found.cost.min(scope.limit),
+        cost: found.cost.min(limit),
     }
 }
 
@@ -234,7 +221,7 @@ fn limited(found: Found, scope: Scope) -> Found
 fn search_kept(
     block: &Block,
     view: View,
-    window: &mut [u8],
+    pixels: &mut [u8],
     sums: &mut [u16],
     coarse: &mut [u8],
     known: Kept,
@@ -242,53 +229,59 @@ fn search_kept(
     requires block { 256 ≤ length block.now }
     requires wide { 0 < view.reference.now.width }
     requires high { 0 < view.reference.now.height }
-    requires range { view.scope.range ≤ 64 }
+    requires range { view.range ≤ 64 }
     requires columns { 16 * view.place.column ≤ 16384 }
     requires rows { 16 * view.place.row ≤ 16384 }
-    requires begin_row { view.begin.row ≤ 2 * view.scope.range }
-    requires begin_column { view.begin.column ≤ 2 * view.scope.range }
-    requires window_size { length window.old ≡ (2 * view.scope.range + 16) * WINDOW_WIDTH + 8 }
-    requires sums_size { length sums.old ≡ (2 * view.scope.range + 16) * WINDOW_WIDTH + 8 + SLIDE }
+    requires begin_row { view.begin.row ≤ 2 * view.range }
+    requires begin_column { view.begin.column ≤ 2 * view.range }
+    requires window_size { length pixels.old ≡ (2 * view.range + 16) * WINDOW_WIDTH + 8 }
+    requires sums_size { length sums.old ≡ (2 * view.range + 16) * WINDOW_WIDTH + 8 + SLIDE }
     requires coarse_size { 0 < length coarse.old → length coarse.old ≡ length sums.old }
-    requires known { AreKept view.reference.now view.scope.range known sums.old }
+    requires known { AreKept view.reference.now view.range known sums.old }
     requires coarse { 0 < length coarse.old → AreCoarse (length sums.old) sums.old coarse.old }
-    ensures kept { AreKept view.entry.reference.now view.entry.scope.range result.1 sums.new }
+    ensures kept { AreKept view.entry.reference.now view.entry.range result.1 sums.new }
     ensures coarse { 0 < length coarse.old → AreCoarse (length sums.old) sums.new coarse.new }
-    ensures chosen { IsChosen (block16 block.now) view.entry.reference.now view.entry.place view.entry.scope result.0 }
+    ensures chosen { IsChosen (block16 block.now) view.entry.reference.now view.entry.place view.entry.range
+        view.entry.limit result.0 }
     ensures bound { result.0.cost ≤ 16 * 16 * 255 }
 {
     let View {
         reference,
-        scope,
+        range,
+        limit,
         place,
         begin,
         unbounded,
     } = view;
-    let range = scope.range;
-    cut_window(window, reference, place, range);
-    let centre = centre_of(block, window, range);
-    if let Some(best) = search_without_sums(block, window, range, centre) {
-        return (best, known, unbounded.next());
-    }
-    let first = limited(consider(block, window, scope, centre, begin), scope);
-    if unbounded.left > 0 {
-        let found = search_unbounded(block, window, scope, first, unbounded.early);
-        return (found, known, unbounded.next());
+    cut_window(pixels, reference, place, range);
+    let window = SearchWindow {
+        block,
+        pixels,
+        range,
+        limit,
+    };
+    let centre = window.centre();
+    let first = limited(window.consider(centre, begin), limit);
+    // A zero vector that costs nothing is found at once, and needs no sums.
+    if centre.cost == 0 || range < LEAST_BOUNDED_RANGE || unbounded.left > 0 {
+        let progress = window.search_outwards(None, first, unbounded);
+        return (progress.best, known, unbounded.next());
     }
     let moved = known.moved_to(place);
     let sums = &mut sums[moved.start..];
     let coarse_start = moved.start.min(coarse.len());
     let coarse = &mut coarse[coarse_start..];
-    fill_sums(sums, coarse, window, range, moved.columns);
+    fill_sums(sums, coarse, pixels, range, moved.columns);
     let kept = Kept {
         columns: 2 * usize::from(range) + 9,
         ..moved
     };
-    let progress = search_summed(block, window, sums, coarse, scope, first);
+    let sums = window.with_sums(sums, coarse);
+    let progress = window.search_outwards(Some(sums), first, unbounded);
     let distance = place.column.saturating_sub(known.place.column);
     (
         progress.best,
         kept,
-        macroblocks_after(progress.unbounded, distance),
+        progress.unbounded.macroblocks(distance),
     )
 }

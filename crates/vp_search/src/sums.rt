@@ -256,7 +256,9 @@ pub(crate) struct Group {
 }
 
 /// The first group of eight vectors, from group `start` on, that has a bound within the limit. The blocks of group 0
-/// begin at index `at` and after it.
+/// begin at index `at` and after it. Always inlined: a call would prepare the block's sums anew for each group
+/// that passes.
+#[inline(always)]
 pub(crate) fn next_within(
     sums: SquareSums,
     at: usize,

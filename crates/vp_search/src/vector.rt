@@ -1,8 +1,10 @@
 //! Motion vectors of a luma block, and search results.
 
-ghost use Rattle.std.specs.Prelude.{◌≡◌, ◌≤◌, ◌*◌};
+ghost use Rattle.std.specs.Prelude.{◌≡◌, ◌+◌, ◌*◌, ◌≤◌};
 ghost use Rattle.vp_search.specs.Vectors.{quarters, vector_length, IsNear};
 ghost use Rattle.vp_search.specs.Window.{vector_at};
+
+use crate::window::WINDOW_WIDTH;
 
 /// A motion vector in whole luma pixels.
 #[derive(Clone, Copy, Debug, PartialEq, Eq, Default)]
@@ -31,15 +33,6 @@ pub struct Found {
     pub cost: u32,
 }
 
-/// Which vectors a search is for.
-#[derive(Clone, Copy)]
-pub(crate) struct Scope {
-    /// The greatest row and column.
-    pub(crate) range: u8,
-    /// What a vector has to cost less than.
-    pub(crate) limit: u32,
-}
-
 /// The result of a refinement.
 #[derive(Clone, Copy, Debug, PartialEq, Eq)]
 pub struct Refined {
@@ -49,16 +42,34 @@ pub struct Refined {
     pub cost: u32,
 }
 
-/// The vector of row `i` and column `j` of a window with `range` pixels on each side.
-pub(crate) fn vector_at(i: usize, j: usize, range: u8) -> WholeVector
-    requires range { range ≤ 64 }
-    requires i { i ≤ 2 * range }
-    requires j { j ≤ 2 * range }
-    ensures { result ≡ vector_at range i j }
-{
-    WholeVector {
-        row: i as i32 - i32::from(range),
-        column: j as i32 - i32::from(range),
+/// A row and a column of a window; of eight places in a row, the first column.
+#[derive(Clone, Copy)]
+pub(crate) struct Spot {
+    pub(crate) row: usize,
+    pub(crate) column: usize,
+}
+
+impl Spot {
+    /// The index in the window at which a block begins.
+    pub(crate) fn at(self) -> usize
+        requires row { self.row ≤ 128 }
+        requires column { self.column ≤ WINDOW_WIDTH }
+        ensures { result ≡ self.row * WINDOW_WIDTH + self.column }
+    {
+        self.row * WINDOW_WIDTH + self.column
+    }
+
+    /// The vector whose block begins there, in a window with `range` pixels on each side.
+    pub(crate) fn vector(self, range: u8) -> WholeVector
+        requires range { range ≤ 64 }
+        requires row { self.row ≤ 2 * range }
+        requires column { self.column ≤ 2 * range }
+        ensures { result ≡ vector_at range self.row self.column }
+    {
+        WholeVector {
+            row: self.row as i32 - i32::from(range),
+            column: self.column as i32 - i32::from(range),
+        }
     }
 }
 

@@ -2,7 +2,7 @@ use Rattle.std.proofs.Common.{◌≡◌, ◌∙◌, arith}
 use Rattle.vp_search.proofs.searcher.limited.Goals as goal
 
 pub returns-clause-kept : goal.returns-clause-kept
-returns-clause-kept c cost found = record {
+returns-clause-kept c window limit found = record {
   near = found.near;
   known = λ below.
       let e = c.min.ensures in

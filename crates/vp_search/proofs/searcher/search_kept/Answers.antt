@@ -1,69 +1,41 @@
-use Rattle.std.proofs.Common.{◌≡◌, ◌≤◌, ◌<◌, List, ℕ, ◌+◌, ◌-◌, ◌*◌, length, min, subst, sym, arith, rules}
+use Rattle.std.proofs.Common.{◌≡◌, ◌≤◌, ◌<◌, List, ℕ, ◌+◌, ◌-◌, ◌*◌, length, min, refl, subst, sym, arith, rules}
 use borrow.Rule.Slice.PartMut.{put_mid, mid_of}
 use Rattle.vp_base.specs.declared.place.Place.{Place}
-use Rattle.vp_search.specs.declared.vector.WholeVector.{WholeVector}
-use Rattle.vp_search.specs.declared.vector.Found.{Found}
-use Rattle.vp_search.specs.declared.vector.Scope.{Scope}
-use Rattle.vp_search.specs.Least.{IsLeast}
-use Rattle.vp_search.specs.Window.{window_cost, IsBestBelow}
 use Rattle.vp_search.specs.Coarse.{AreCoarse}
 use Rattle.vp_search.specs.Kept.{AreKept}
-use Rattle.vp_search.proofs.WindowLemmas.{best_below}
+use Rattle.vp_search.proofs.SearchLemmas.{best_below}
 use Rattle.vp_search.proofs.SquareLemmas.{kept_summed, summed_kept}
 use Rattle.vp_search.proofs.CoarseLemmas.{part_coarse, whole_coarse}
 use Rattle.vp_search.proofs.searcher.search_kept.Goals as goal
 
--- what is found without a limit
-found : (scope : Scope) (cost : WholeVector → ℕ) (best : Found) → best.cost ≡ cost best.vector → IsLeast scope.range cost best.vector → IsBestBelow scope cost best
-found scope cost best known least = record {
-  known = λ _. known;
-  least = λ _. least;
-  over = λ v near. let l = (least.least v near).by_cost in omega arith;
-}
-
 pub consider-requires-clause-best : goal.consider-requires-clause-best
-consider-requires-clause-best c = record { near = c.centre_of-centre.ensures.near; known = λ _. c.centre_of-centre.ensures.known }
+consider-requires-clause-best c = record { near = c.centre-centre.ensures.near; known = λ _. c.centre-centre.ensures.known }
 
-pub search_unbounded-found-requires-clause-known : goal.search_unbounded-found-requires-clause-known
-search_unbounded-found-requires-clause-known c =
-    c.limited-first.ensures.kept (window_cost c.args.block.now c.cut_window.new.window c.args.view.scope.range) c.consider.ensures.kept
+pub search_outwards-progress-requires-clause-known : goal.search_outwards-progress-requires-clause-known
+search_outwards-progress-requires-clause-known c = c.limited-first.ensures.kept _ refl c.consider.ensures.found
 
-pub search_summed-progress-requires-clause-known : goal.search_summed-progress-requires-clause-known
-search_summed-progress-requires-clause-known c =
-    c.limited-first.ensures.kept (window_cost c.args.block.now c.cut_window.new.window c.args.view.scope.range) c.consider.ensures.kept
+pub search_outwards-progress-requires-2-clause-known : goal.search_outwards-progress-requires-2-clause-known
+search_outwards-progress-requires-2-clause-known c = c.limited-first.ensures.kept _ refl c.consider.ensures.found
 
-pub returns-in-Some-clause-chosen : goal.returns-in-Some-clause-chosen
-returns-in-Some-clause-chosen c =
-    best_below c.args.block.now c.cut_window.new.window c.args.view.reference.now c.args.view.place c.args.view.scope c.in-Some.best c.cut_window.ensures c.centre_of-centre.ensures.bytes
-    (found c.args.view.scope (window_cost c.args.block.now c.cut_window.new.window c.args.view.scope.range) c.in-Some.best c.in-Some.ensures.cost c.in-Some.ensures.least)
+pub returns-then-centre-eq0-clause-chosen : goal.returns-then-centre-eq0-clause-chosen
+returns-then-centre-eq0-clause-chosen c =
+    best_below _ c.args.view.reference.now c.args.view.place c.search_outwards-progress.result.best c.cut_window.ensures c.centre-centre.ensures.bytes c.search_outwards-progress.ensures
 
-pub returns-in-Some-clause-bound : goal.returns-in-Some-clause-bound
-returns-in-Some-clause-bound c =
-    let is = (found c.args.view.scope (window_cost c.args.block.now c.cut_window.new.window c.args.view.scope.range) c.in-Some.best c.in-Some.ensures.cost c.in-Some.ensures.least) in
-    let low = is.over c.centre_of-centre.result.vector c.centre_of-centre.ensures.near in
-    omega (arith, low, c.centre_of-centre.ensures.known, c.centre_of-centre.ensures.bound)
-
-pub returns-then-unbounded-gt0-clause-chosen : goal.returns-then-unbounded-gt0-clause-chosen
-returns-then-unbounded-gt0-clause-chosen c =
-    best_below c.args.block.now c.cut_window.new.window c.args.view.reference.now c.args.view.place c.args.view.scope c.search_unbounded-found.result c.cut_window.ensures c.centre_of-centre.ensures.bytes
-    c.search_unbounded-found.ensures
-
-pub returns-then-unbounded-gt0-clause-bound : goal.returns-then-unbounded-gt0-clause-bound
-returns-then-unbounded-gt0-clause-bound c =
-    let is = c.search_unbounded-found.ensures in
-    let low = is.over c.centre_of-centre.result.vector c.centre_of-centre.ensures.near in
-    omega (arith, low, c.centre_of-centre.ensures.known, c.centre_of-centre.ensures.bound)
+pub returns-then-centre-eq0-clause-bound : goal.returns-then-centre-eq0-clause-bound
+returns-then-centre-eq0-clause-bound c =
+    let low = c.search_outwards-progress.ensures.over c.centre-centre.result.vector c.centre-centre.ensures.near in
+    omega (arith, low, c.centre-centre.ensures.known, c.centre-centre.ensures.bound)
 
 pub fill_sums-requires-clause-first : goal.fill_sums-requires-clause-first
-fill_sums-requires-clause-first c = (c.moved_to-moved.ensures.kept c.args.view.reference.now c.args.view.scope.range c.args.sums.now c.requires.known).few
+fill_sums-requires-clause-first c = (c.moved_to-moved.ensures.kept c.args.view.reference.now c.args.view.range c.args.sums.now c.requires.known).few
 
 pub fill_sums-requires-clause-known : goal.fill_sums-requires-clause-known
 fill_sums-requires-clause-known c =
     let small = c.requires.range in
     let room = c.moved_to-moved.ensures.start in
     let size = c.requires.sums_size in
-    kept_summed c.cut_window.new.window c.args.sums.now c.args.view.reference.now c.args.view.place c.args.view.scope.range (length c.args.sums.now - c.moved_to-moved.result.start) c.moved_to-moved.result
-    (c.moved_to-moved.ensures.kept c.args.view.reference.now c.args.view.scope.range c.args.sums.now c.requires.known)
+    kept_summed c.cut_window.new.window c.args.sums.now c.args.view.reference.now c.args.view.place c.args.view.range (length c.args.sums.now - c.moved_to-moved.result.start) c.moved_to-moved.result
+    (c.moved_to-moved.ensures.kept c.args.view.reference.now c.args.view.range c.args.sums.now c.requires.known)
     c.moved_to-moved.ensures.place c.cut_window.ensures (omega arith) small
 
 -- the coarse sums of the part that is lent, if there are any
@@ -76,8 +48,8 @@ lent sums coarse start first all wide room least =
     (subst (λ (m : ℕ). AreCoarse (length sums - start) (mid_of start (length sums - start) sums) (mid_of start m coarse)) e
     (part_coarse sums coarse start (length sums - start) (length sums) all (omega arith)))
 
-pub search_summed-progress-requires-clause-coarse : goal.search_summed-progress-requires-clause-coarse
-search_summed-progress-requires-clause-coarse c some k h =
+pub with_sums-sums-requires-clause-coarse : goal.with_sums-sums-requires-clause-coarse
+with_sums-sums-requires-clause-coarse c some k h =
     let small = c.requires.range in
     let room = c.moved_to-moved.ensures.start in
     let size = c.requires.sums_size in
@@ -90,14 +62,14 @@ pub returns-clause-kept : goal.returns-clause-kept
 returns-clause-kept c =
     let small = c.requires.range in
     let room = c.moved_to-moved.ensures.start in
-    let r : c.from.result ≡ c.args.view.scope.range = c.from.ensures in
+    let r : c.from.result ≡ c.args.view.range = c.from.ensures in
     let size = c.requires.sums_size in
     let start : ℕ = c.moved_to-moved.result.start in
     let n : ℕ = length c.args.sums.now - start in
     let long : length c.fill_sums.new.sums ≡ n = search rules in
-    subst (λ (q : Place). AreKept c.args.view.reference.now c.args.view.scope.range (record { place = q; columns = 2 * c.from.result + 9; start = start }) (put_mid start n c.args.sums.now c.fill_sums.new.sums))
+    subst (λ (q : Place). AreKept c.args.view.reference.now c.args.view.range (record { place = q; columns = 2 * c.from.result + 9; start = start }) (put_mid start n c.args.sums.now c.fill_sums.new.sums))
     (sym c.moved_to-moved.ensures.place)
-    (summed_kept c.cut_window.new.window c.args.sums.now c.fill_sums.new.sums c.args.view.reference.now c.args.view.place c.args.view.scope.range (2 * c.from.result + 9) start n
+    (summed_kept c.cut_window.new.window c.args.sums.now c.fill_sums.new.sums c.args.view.reference.now c.args.view.place c.args.view.range (2 * c.from.result + 9) start n
     c.fill_sums.ensures.sums c.cut_window.ensures room (omega arith) (omega arith) long (omega arith) small)
 
 pub returns-clause-coarse : goal.returns-clause-coarse
@@ -123,11 +95,9 @@ returns-clause-coarse c some =
 
 pub returns-clause-chosen : goal.returns-clause-chosen
 returns-clause-chosen c =
-    best_below c.args.block.now c.cut_window.new.window c.args.view.reference.now c.args.view.place c.args.view.scope c.search_summed-progress.result.best c.cut_window.ensures c.centre_of-centre.ensures.bytes
-    c.search_summed-progress.ensures
+    best_below _ c.args.view.reference.now c.args.view.place c.search_outwards-progress-2.result.best c.cut_window.ensures c.centre-centre.ensures.bytes c.search_outwards-progress-2.ensures
 
 pub returns-clause-bound : goal.returns-clause-bound
 returns-clause-bound c =
-    let is = c.search_summed-progress.ensures in
-    let low = is.over c.centre_of-centre.result.vector c.centre_of-centre.ensures.near in
-    omega (arith, low, c.centre_of-centre.ensures.known, c.centre_of-centre.ensures.bound)
+    let low = c.search_outwards-progress-2.ensures.over c.centre-centre.result.vector c.centre-centre.ensures.near in
+    omega (arith, low, c.centre-centre.ensures.known, c.centre-centre.ensures.bound)

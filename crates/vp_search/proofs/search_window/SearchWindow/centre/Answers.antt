@@ -1,0 +1,13 @@
+use Rattle.std.proofs.Common.{ℕ, sym, ap, ◌∙◌}
+use Rattle.vp_search.specs.Search.{cost_in}
+use Rattle.vp_search.proofs.SearchLemmas.{cost_here}
+use Rattle.vp_search.proofs.search_window.SearchWindow.centre.Goals as goal
+
+pub returns-clause-known : goal.returns-clause-known
+returns-clause-known c =
+    let w = c.args.self.now in
+    let m : ℕ = c.from-middle.result in
+    c.sad.ensures.value ∙ cost_here w m m c.at.result c.at.ensures ∙ ap (cost_in w) (sym c.vector.ensures)
+
+pub returns-clause-bytes : goal.returns-clause-bytes
+returns-clause-bytes c = c.sad.ensures.bytes

@@ -1,0 +1,31 @@
+use Rattle.std.proofs.Common.{ℕ, ◌+◌, ◌-◌, arith}
+use Rattle.vp_search.proofs.SearchLemmas.{first_seen, rows_seen, best_within}
+use Rattle.vp_search.proofs.search_window.SearchWindow.search_outwards.Goals as goal
+
+pub loop-d-init : goal.loop-d-init
+loop-d-init c = record {
+  found = c.consider_row-progress.ensures.found;
+  seen = first_seen c.args.self.now c.from-middle.result c.args.known c.consider_row-progress.result.best c.from-middle.ensures c.consider_row-progress.ensures;
+}
+
+pub loop-d-preserved : goal.loop-d-preserved
+loop-d-preserved c =
+    let d = c.loop-d.d in
+    let m : ℕ = c.from-middle.result in
+    let e = c.from-middle.ensures in
+    record {
+      found = c.consider_row-progress-in-loop-d-2.ensures.found;
+      seen = rows_seen c.args.self.now d (m - 1 - d) (m + 1 + d) c.loop-d.progress.best c.consider_row-progress-in-loop-d.result.best c.consider_row-progress-in-loop-d-2.result.best
+          (omega arith) (omega arith) c.loop-d.invariant.seen c.consider_row-progress-in-loop-d.ensures c.consider_row-progress-in-loop-d-2.ensures;
+    }
+
+pub returns-then-is_best_beyond : goal.returns-then-is_best_beyond
+returns-then-is_best_beyond c =
+    best_within c.args.self.now c.loop-d.d c.loop-d.progress.best c.loop-d.invariant.found c.loop-d.invariant.seen
+    (λ k v far near. c.is_best_beyond.ensures c.if-is_best_beyond.true k v far)
+
+pub returns : goal.returns
+returns c =
+    let e = c.from-middle.ensures in
+    let t = c.loop-d-test.false in
+    best_within c.args.self.now c.loop-d.d c.loop-d.progress.best c.loop-d.invariant.found c.loop-d.invariant.seen (λ k v far near. absurd (omega arith))

@@ -1,0 +1,136 @@
+//! The better of the best vector so far and another one. Vectors are ordered by cost, then length, then row, then
+//! column.
+
+ghost use Rattle.std.specs.Prelude.{◌≡◌, ℕ, ◌+◌, ◌*◌, ◌<◌, ◌≤◌, ◌⊎◌, true, false, slice_index, unsigned_abs};
+ghost use Rattle.vp_search.specs.declared.vector.WholeVector.{WholeVector};
+ghost use Rattle.vp_search.specs.Vectors.{IsNear};
+ghost use Rattle.vp_search.specs.Least.{IsNoWorse};
+ghost use Rattle.vp_search.specs.Window.{vector_at};
+ghost use Rattle.vp_search.specs.Search.{cost_in, first_rows_in, IsInside, IsFound, IsBestInRow};
+
+use crate::difference::{first_rows, rest_within, sad};
+use crate::search_window::SearchWindow;
+use crate::vector::{Found, Spot, vector_length};
+use crate::window::WINDOW_WIDTH;
+
+/// Whether a vector is better than another.
+fn is_better(new: Found, old: Found) -> bool
+    requires new { IsNear 64 new.vector }
+    requires old { IsNear 64 old.vector }
+    ensures yes { result ≡ true → IsNoWorse new.cost new.vector old.cost old.vector }
+    ensures no { result ≡ false → IsNoWorse old.cost old.vector new.cost new.vector }
+{
+    if new.cost != old.cost {
+        return new.cost < old.cost;
+    }
+    let (new_size, old_size) = (vector_length(new.vector), vector_length(old.vector));
+    if new_size != old_size {
+        return new_size < old_size;
+    }
+    if new.vector.row != old.vector.row {
+        return new.vector.row < old.vector.row;
+    }
+    new.vector.column < old.vector.column
+}
+
+/// The better of two vectors. With `if .. { new } else { old }` the best would be kept in memory.
+fn lesser(old: Found, new: Found) -> Found
+    requires old { IsNear 64 old.vector }
+    requires new { IsNear 64 new.vector }
+    ensures old { IsNoWorse result.cost result.vector old.cost old.vector }
+    ensures new { IsNoWorse result.cost result.vector new.cost new.vector }
+    ensures one { (result ≡ old) ⊎ (result ≡ new) }
+{
+    let mut found = old;
+    if is_better(new, old) {
+        found = new;
+    }
+    found
+}
+
+/// Whether no vector more than `distance` rows away from the centre is better than `best`: it costs nothing, and is no
+/// longer than that.
+pub(crate) fn is_best_beyond(best: Found, distance: usize) -> bool
+    requires near { IsNear 64 best.vector }
+    ensures { result ≡ true → (c : ℕ) (v : WholeVector) → distance < unsigned_abs v.row
+        → IsNoWorse best.cost best.vector c v }
+{
+    best.cost == 0 && vector_length(best.vector) as usize <= distance
+}
+
+impl<'a> SearchWindow<'a> {
+    /// The zero vector, whose block is at the centre of the window, with its cost.
+    pub(crate) fn centre(&self) -> Found
+        ensures near { IsNear self.now.range result.vector }
+        ensures known { result.cost ≡ cost_in self.now result.vector }
+        ensures bound { result.cost ≤ 16 * 16 * 255 }
+        ensures bytes { (k : ℕ) → slice_index self.now.pixels.now k ≤ 255 }
+    {
+        let middle = usize::from(self.range);
+        let spot = Spot {
+            row: middle,
+            column: middle,
+        };
+        Found {
+            vector: spot.vector(self.range),
+            cost: sad(self.block, self.pixels, spot.at(), WINDOW_WIDTH),
+        }
+    }
+
+    /// The sum of absolute differences of the first four rows of the block and of the one at `spot`.
+    pub(crate) fn first_rows(&self, spot: Spot) -> u32
+        requires row { spot.row ≤ 2 * self.now.range }
+        requires column { spot.column ≤ WINDOW_WIDTH }
+        ensures value { result ≡ first_rows_in self.now spot.row spot.column }
+        ensures bound { result ≤ 4 * 16 * 255 }
+    {
+        first_rows(self.block, self.pixels, spot.at(), WINDOW_WIDTH)
+    }
+
+    /// The better of the best vector and the one at `spot`, whose cost is known.
+    pub(crate) fn take(&self, best: Found, spot: Spot, cost: u32) -> Found
+        requires best { IsFound self.now best }
+        requires spot { IsInside self.now spot.row spot.column }
+        requires cost { cost ≡ cost_in self.now (vector_at self.now.range spot.row spot.column) }
+        ensures { IsBestInRow self.now spot.row spot.column (spot.column + 1) best result }
+    {
+        let vector = spot.vector(self.range);
+        lesser(best, Found { vector, cost })
+    }
+
+    /// The better of the best vector and the one at `spot`, of whose block the first four rows differ by `first`. With
+    /// `EARLY` that is compared with the best cost.
+    #[inline(always)]
+    pub(crate) fn consider_rest<const EARLY: bool>(
+        &self,
+        best: Found,
+        spot: Spot,
+        first: u32,
+    ) -> Found
+        requires best { IsFound self.now best }
+        requires spot { IsInside self.now spot.row spot.column }
+        requires first { first ≡ first_rows_in self.now spot.row spot.column }
+        requires bound { first ≤ 4 * 16 * 255 }
+        ensures { IsBestInRow self.now spot.row spot.column (spot.column + 1) best result }
+    {
+        if EARLY && first > best.cost {
+            return best;
+        }
+        let at = spot.at();
+        match rest_within(self.block, self.pixels, at, WINDOW_WIDTH, first, best.cost) {
+            Some(cost) => self.take(best, spot, cost),
+            None => best,
+        }
+    }
+
+    /// The better of the best vector and the one at `spot`. Always inlined: with a call for each vector, a search takes
+    /// a third more instructions.
+    #[inline(always)]
+    pub(crate) fn consider(&self, best: Found, spot: Spot) -> Found
+        requires best { IsFound self.now best }
+        requires spot { IsInside self.now spot.row spot.column }
+        ensures { IsBestInRow self.now spot.row spot.column (spot.column + 1) best result }
+    {
+        self.consider_rest::<false>(best, spot, self.first_rows(spot))
+    }
+}

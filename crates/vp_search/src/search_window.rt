@@ -1,0 +1,19 @@
+//! A block and the window in which it is searched.
+
+ghost use Rattle.std.specs.Prelude.{◌+◌, ◌*◌, ◌≤◌, length};
+ghost use Rattle.vp_search.specs.declared.window.TheConstants.{WINDOW_WIDTH};
+
+use crate::rows::Block;
+
+/// A block, and the window of the reference in which the best vector for it is searched.
+#[derive(Clone, Copy)]
+pub(crate) struct SearchWindow<'a> {
+    pub(crate) block: &'a Block<'a>,
+    pub(crate) pixels: &'a [u8],
+    /// The greatest row and column of a vector.
+    pub(crate) range: u8,
+    /// What a vector has to cost less than.
+    pub(crate) limit: u32,
+    ghost small: { range ≤ 64 },
+    ghost room: { (2 * range + 16) * WINDOW_WIDTH ≤ length pixels.now },
+}
