@@ -1,14 +1,17 @@
 pub mod SumLemmas
 pub mod Listed
 pub mod Small
+pub mod Made
 pub mod Orders
 pub mod After
 pub mod Complete
 pub mod LumaCosts
 pub mod Restored
+pub mod IntraLuma
 pub mod Moving
 pub mod Giving
 pub mod Found
+pub mod Chosen
 pub mod OneLuma
 pub mod OneMotion
 pub mod Unsearched

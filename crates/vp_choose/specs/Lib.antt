@@ -1,10 +1,9 @@
 pub mod Costs
-pub mod Cut
 pub mod Levels
-pub mod Gathered
 pub mod Subblocks
 pub mod Intra
 pub mod Below
+pub mod Coding
 pub mod Frame
 pub mod Inter
 pub mod Searched

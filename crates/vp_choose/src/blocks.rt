@@ -1,7 +1,7 @@
 //! The source pixels of one macroblock.
 
 ghost use Rattle.vp_choose.specs.Costs.{HasMacroblock};
-ghost use Rattle.vp_choose.specs.Cut.{AreCut};
+ghost use Rattle.vp_choose.specs.Coding.{AreCut};
 
 use vp_base::{Picture, Place};
 use vp_recon::MacroblockPixels;

@@ -4,7 +4,7 @@ ghost use Rattle.std.specs.Prelude.{◌≡◌, ℕ, ◌+◌, ◌*◌, ◌≤◌}
 ghost use Rattle.vp_base.specs.Image.{Image};
 ghost use Rattle.vp_intra.specs.Edges.{block as listed};
 ghost use Rattle.vp_choose.specs.Costs.{HasMacroblock, plane_cost, chroma_cost};
-ghost use Rattle.vp_choose.specs.Cut.{AreCut};
+ghost use Rattle.vp_choose.specs.Coding.{AreCut};
 ghost use Rattle.vp_choose.specs.Intra.{IsChroma};
 
 use crate::difference::sad8;

@@ -3,6 +3,7 @@
 
 mod blocks;
 mod chroma;
+mod coding;
 mod difference;
 mod frame;
 mod frame_chooser;

@@ -1,13 +1,11 @@
 //! Chooses an intra macroblock's luma mode.
 
 ghost use Rattle.std.specs.Prelude.{◌≡◌, ℕ, ◌+◌, ◌*◌, ◌<◌, ◌≤◌, slice_index, IfSome, IsSome, MatchOption};
-ghost use Rattle.vp_base.specs.Block.{with_block};
 ghost use Rattle.vp_intra.specs.Edges.{block as listed};
 ghost use Rattle.vp_choose.specs.Costs.{HasMacroblock, luma_mode_cost};
 ghost use Rattle.vp_choose.specs.Levels.{ArePositive};
-ghost use Rattle.vp_choose.specs.Gathered.{AreSmall};
+ghost use Rattle.vp_choose.specs.Coding.{IsRebuiltLuma};
 ghost use Rattle.vp_choose.specs.Intra.{IsLuma, luma_at};
-ghost use Rattle.vp_choose.specs.Subblocks.{after_subblocks};
 ghost use Rattle.vp_choose.specs.Below.{IsLumaOver};
 
 use crate::subblocks::{Subblocks, choose_subblocks};
@@ -97,12 +95,10 @@ pub(crate) fn choose_luma_below(
     ensures luma { (f : ℕ → ℕ → ℕ) → block.now ≡ listed 16 f → MatchOption result
         (IsLumaOver f factors.now place picture.old.luma limit)
         (λ l. IsLuma f factors.now place picture.old.luma l.luma) }
-    ensures rebuilt { IfSome result (λ l. with_block picture.old.luma (16 * place.column) (16 * place.row) 16 16
-        (λ r c. slice_index l.rebuilt (r * 16 + c))
-        ≡ after_subblocks factors.now place picture.old.luma l.luma.subblocks 16) }
+    ensures rebuilt { IfSome result (λ l.
+        IsRebuiltLuma factors.now place picture.old.luma l.luma.subblocks l.rebuilt) }
     ensures below { IfSome result (λ l. l.luma.cost < limit) }
     ensures kept { picture.new ≡ picture.old }
-    ensures within { IfSome result (λ l. AreSmall l.luma.subblocks.levels) }
     ensures all { 65280 < limit → IsSome result }
 {
     // No choice costs less than 0.
@@ -142,11 +138,8 @@ pub(crate) fn choose_luma(
     requires factors { ArePositive factors.now }
     ensures luma { (f : ℕ → ℕ → ℕ) → block.now ≡ listed 16 f
         → IsLuma f factors.now place picture.old.luma result.luma }
-    ensures rebuilt { with_block picture.old.luma (16 * place.column) (16 * place.row) 16 16
-        (λ r c. slice_index result.rebuilt (r * 16 + c))
-        ≡ after_subblocks factors.now place picture.old.luma result.luma.subblocks 16 }
+    ensures rebuilt { IsRebuiltLuma factors.now place picture.old.luma result.luma.subblocks result.rebuilt }
     ensures kept { picture.new ≡ picture.old }
-    ensures within { AreSmall result.luma.subblocks.levels }
 {
     choose_luma_below(block, factors, picture, place, u32::MAX).unwrap()
 }

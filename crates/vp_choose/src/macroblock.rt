@@ -1,8 +1,6 @@
 //! Chooses for one macroblock: intra or inter.
 
-ghost use Rattle.std.specs.Prelude.{◌≡◌, ℕ, ◌+◌, ◌*◌, ◌<◌, ◌≤◌, true, false, not, replicate};
-ghost use Rattle.std.specs.Prelude.{if◌then◌else◌, slice_index};
-ghost use Rattle.vp_base.specs.Block.{with_block};
+ghost use Rattle.std.specs.Prelude.{◌≡◌, ℕ, ◌+◌, ◌*◌, ◌<◌, ◌≤◌, true, false, None, IfSome, replicate, slice_index};
 ghost use Rattle.vp_base.specs.Grid.{Has};
 ghost use Rattle.vp_base.specs.Image.{Image};
 ghost use Rattle.vp_base.specs.Raster.{Raster};
@@ -12,39 +10,35 @@ ghost use Rattle.vp_motion.specs.Vector.{MacroblockMotion, IsWithin, last_of, ze
 ghost use Rattle.vp_motion.specs.Map.{AreWithin};
 ghost use Rattle.vp_motion.specs.Near.{candidates};
 ghost use Rattle.vp_motion.specs.Spelled.{CanBeWritten};
-ghost use Rattle.vp_tokens.specs.Blocks.{any_token};
+ghost use Rattle.vp_quant.specs.declared.factors.Factors.{Factors};
 ghost use Rattle.vp_intra.specs.Edges.{block as listed};
 ghost use Rattle.vp_intra.specs.Whole.{luma_pixel, chroma_pixel};
-ghost use Rattle.vp_recon.specs.Predictor.{Intra, Inter, macroblock_of, has_y2};
+ghost use Rattle.vp_recon.specs.Predictor.{Intra, Inter, macroblock_of};
 ghost use Rattle.vp_recon.specs.Prediction.{luma_prediction, chroma_prediction};
 ghost use Rattle.vp_recon.specs.Rebuilt.{rebuilt};
 ghost use Rattle.vp_choose.specs.Costs.{HasMacroblock};
-ghost use Rattle.vp_choose.specs.Cut.{AreCut};
-ghost use Rattle.vp_choose.specs.Levels.{ArePositive, HasLumaAndY2, HasChroma};
-ghost use Rattle.vp_choose.specs.Gathered.{AreSmall, AreWritable};
-ghost use Rattle.vp_choose.specs.Subblocks.{after_subblocks};
-ghost use Rattle.vp_choose.specs.Intra.{IsIntra, HasSubblocks};
+ghost use Rattle.vp_choose.specs.Levels.{ArePositive};
+ghost use Rattle.vp_choose.specs.Coding.{AreCut, AreSmall, IsPredicted, HasLevels, Completes, IsRebuiltLuma};
+ghost use Rattle.vp_choose.specs.Intra.{IsIntra};
 ghost use Rattle.vp_choose.specs.Frame.{lent_frame, search_of, source_by, no_biases};
 ghost use Rattle.vp_choose.specs.Inter.{IsInter, IsInSearchRange, moved_source};
 ghost use Rattle.vp_choose.specs.Searched.{IsSearched};
 ghost use Rattle.vp_choose.specs.Choice.{IsChoice};
 
 use crate::chroma::choose_chroma;
+use crate::coding::Coding;
 use crate::frame::{Choice, FrameSearch, Search};
 use crate::luma::{LumaChoice, RebuiltLuma, choose_luma, choose_luma_below};
 use crate::motion::{Moved, motion_of};
-use crate::tokens::{chroma_of, tokens_with_y2, tokens_without_y2};
 use vp_base::{Picture, Place, Plane};
 use vp_head::Reference;
 use vp_inter::{chroma_vector, luma_vector, predict_block8, predict_block16};
 use vp_intra::{predict_chroma, predict_luma};
 use vp_modes::Modes;
 use vp_motion::{Motion, Vector, VectorMap};
-use vp_quant::Factors;
-use vp_recon::{MacroblockPixels, rebuild_from};
+use vp_recon::MacroblockPixels;
 use vp_search::QuarterVector;
 use vp_tables::{ChromaMode, LumaMode, SubMode, VectorMode};
-use vp_tokens::Tokens;
 
 /// Returns the luma that is kept of an intra macroblock: its prediction, or with B_PRED its rebuilt subblocks.
 fn kept_luma(plane: &Plane, place: Place, luma: &RebuiltLuma) -> [u8; 256]
@@ -85,97 +79,57 @@ fn intra_prediction(
     }
 }
 
-/// Returns the levels of an intra macroblock.
-fn intra_tokens(
+/// Returns the intra coding of a macroblock whose luma mode is chosen.
+fn intra_coding(
     blocks: &MacroblockPixels,
-    prediction: &MacroblockPixels,
-    factors: &Factors,
-    luma: &LumaChoice,
-) -> Tokens
-    requires factors { ArePositive factors.now }
-    requires small { AreSmall luma.now.subblocks.levels }
-    ensures by_subblocks { is_by_subblocks luma.now.mode ≡ true → HasSubblocks luma.now.subblocks result }
-    ensures at_once { (f g : ℕ → ℕ → ℕ) → blocks.now.luma ≡ listed 16 f → prediction.now.luma ≡ listed 16 g
-        → is_by_subblocks luma.now.mode ≡ false → HasLumaAndY2 f g factors.now result }
-    ensures u { (f g : ℕ → ℕ → ℕ) → blocks.now.u ≡ listed 8 f → prediction.now.u ≡ listed 8 g
-        → HasChroma f g factors.now result 1 }
-    ensures v { (f g : ℕ → ℕ → ℕ) → blocks.now.v ≡ listed 8 f → prediction.now.v ≡ listed 8 g
-        → HasChroma f g factors.now result 2 }
-    ensures writable { AreWritable (not (is_by_subblocks luma.now.mode)) result }
-{
-    let chroma = chroma_of(blocks, factors, &prediction.u, &prediction.v);
-    if luma.mode.is_by_subblocks() {
-        return tokens_without_y2(&luma.subblocks.levels, &chroma);
-    }
-    tokens_with_y2(&blocks.luma, factors, &prediction.luma, &chroma)
-}
-
-/// Returns the modes of an intra macroblock, skipped if it has no tokens.
-fn intra_modes(luma: &LumaChoice, chroma: ChromaMode, tokens: &Tokens) -> Modes
-    ensures { result ≡ record {
-      segment = 0;
-      skip = not (any_token tokens.now);
-      reference = Reference.Intra;
-      luma = luma.now.mode;
-      subs = (if is_by_subblocks luma.now.mode then luma.now.subblocks.modes else replicate 16
-          SubMode.Dc);
-      chroma = chroma;
-    } }
-{
-    let subs = if luma.mode.is_by_subblocks() {
-        luma.subblocks.modes
-    } else {
-        [SubMode::Dc; 16]
-    };
-    Modes {
-        segment: 0,
-        skip: !tokens.any(),
-        reference: Reference::Intra,
-        luma: luma.mode,
-        subs,
-        chroma,
-    }
-}
-
-/// Completes the choice for an intra macroblock whose luma mode is chosen, and rebuilds it.
-fn choose_intra(
-    blocks: &MacroblockPixels,
-    factors: &Factors,
-    picture: &mut Picture,
+    picture: &Picture,
     place: Place,
     luma: &RebuiltLuma,
-) -> Choice
-    requires picture { HasMacroblock picture.old place }
-    requires factors { ArePositive factors.now }
-    requires small { AreSmall luma.now.luma.subblocks.levels }
-    requires rebuilt { with_block picture.old.luma (16 * place.column) (16 * place.row) 16 16
-        (λ r c. slice_index luma.now.rebuilt (r * 16 + c))
-        ≡ after_subblocks factors.now place picture.old.luma luma.now.luma.subblocks 16 }
-    ensures intra { (source : Image) → AreCut source place blocks.now
-        → IsIntra source factors.now place picture.old luma.now.luma result.modes result.tokens }
-    ensures rebuilt { picture.new ≡ rebuilt
-        (macroblock_of (Intra result.modes) result.tokens factors.now) place picture.old }
+) -> Coding
+    requires { HasMacroblock picture.now place }
+    ensures predicted { (factors : Factors) (c : Choice) → Completes result c
+        → IsRebuiltLuma factors place picture.now.luma luma.now.luma.subblocks luma.now.rebuilt
+        → IsPredicted (Intra c.modes) factors place picture.now result }
+    ensures intra { (source : Image) (factors : Factors) (c : Choice) → AreCut source place blocks.now
+        → Completes result c → HasLevels source (Intra c.modes) factors place picture.now result c.tokens
+        → IsIntra source factors place picture.now luma.now.luma c.modes c.tokens }
     ensures segment { result.modes.segment ≡ 0 }
-    ensures skip { result.modes.skip ≡ not (any_token result.tokens) }
-    ensures writable { AreWritable (has_y2 (Intra result.modes)) result.tokens }
     ensures reference { is_intra result.modes.reference ≡ true }
     ensures mode { result.motion.mode ≡ VectorMode.Zero }
     ensures vectors { result.motion.vectors ≡ replicate 16 zero_vector }
+    ensures subblocks { IfSome result.subblocks (λ s. s ≡ luma.now.luma.subblocks) }
 {
     let chroma = choose_chroma(blocks, picture, place);
     let prediction = intra_prediction(picture, place, luma, chroma);
-    let tokens = intra_tokens(blocks, &prediction, factors, &luma.luma);
-    let modes = intra_modes(&luma.luma, chroma, &tokens);
-    let by_subblocks = modes.luma.is_by_subblocks();
-    rebuild_from(picture, place, &prediction, by_subblocks, &tokens, factors);
+    let LumaChoice {
+        mode,
+        subblocks,
+        ..
+    } = luma.luma;
+    let by_subblocks = mode.is_by_subblocks();
+    let subs = if by_subblocks {
+        subblocks.modes
+    } else {
+        [SubMode::Dc; 16]
+    };
+    let subblocks = by_subblocks.then_some(subblocks);
+    let modes = Modes {
+        segment: 0,
+        skip: false,
+        reference: Reference::Intra,
+        luma: mode,
+        subs,
+        chroma,
+    };
     let motion = Motion {
         mode: VectorMode::Zero,
         vectors: [Vector { row: 0, column: 0 }; 16],
     };
-    Choice {
+    Coding {
         modes,
         motion,
-        tokens,
+        prediction,
+        subblocks,
     }
 }
 
@@ -206,65 +160,40 @@ fn inter_prediction(reference: &Picture, place: Place, vector: QuarterVector) ->
     MacroblockPixels { luma, u, v }
 }
 
-/// Returns the levels of a macroblock with a Y2 block.
-fn tokens_of(blocks: &MacroblockPixels, prediction: &MacroblockPixels, factors: &Factors) -> Tokens
-    requires factors { ArePositive factors.now }
-    ensures luma { (f g : ℕ → ℕ → ℕ) → blocks.now.luma ≡ listed 16 f → prediction.now.luma ≡ listed 16 g
-        → HasLumaAndY2 f g factors.now result }
-    ensures u { (f g : ℕ → ℕ → ℕ) → blocks.now.u ≡ listed 8 f → prediction.now.u ≡ listed 8 g
-        → HasChroma f g factors.now result 1 }
-    ensures v { (f g : ℕ → ℕ → ℕ) → blocks.now.v ≡ listed 8 f → prediction.now.v ≡ listed 8 g
-        → HasChroma f g factors.now result 2 }
-    ensures writable { AreWritable true result }
-{
-    let chroma = chroma_of(blocks, factors, &prediction.u, &prediction.v);
-    tokens_with_y2(&blocks.luma, factors, &prediction.luma, &chroma)
-}
-
-/// Completes the choice for an inter macroblock whose vector is chosen, and rebuilds it.
-fn choose_inter(
-    blocks: &MacroblockPixels,
-    factors: &Factors,
-    search: &Search,
-    picture: &mut Picture,
-    vectors: &VectorMap,
-    place: Place,
-    moved: &Moved,
-) -> Choice
-    requires picture { HasMacroblock picture.old place }
-    requires factors { ArePositive factors.now }
+/// Returns the inter coding of a macroblock whose vector is chosen.
+fn inter_coding(search: &Search, vectors: &VectorMap, place: Place, moved: &Moved) -> Coding
+    requires columns { 16 * place.column ≤ 16384 }
+    requires rows { 16 * place.row ≤ 16384 }
     requires place { Has vectors.now place }
     requires map { AreWithin 511 vectors.now }
     requires short { IsInSearchRange moved.now.vector }
-    requires reference { is_intra moved.now.reference ≡ false }
-    ensures inter { (source : Image) → AreCut source place blocks.now
-        → IsInter source factors.now (search_of search.now) vectors.now place picture.old moved.now result }
-    ensures rebuilt { picture.new ≡ rebuilt (macroblock_of (moved_source
-        (search_of search.now) moved.now result) result.tokens factors.now) place picture.old }
-    ensures skip { result.modes.skip ≡ not (any_token result.tokens) }
-    ensures writable { AreWritable true result.tokens }
+    ensures predicted { (factors : Factors) (p : Image) (c : Choice) → Completes result c
+        → IsPredicted (moved_source (search_of search.now) moved.now c) factors place p result }
+    ensures inter { (source p : Image) (factors : Factors) (c : Choice) → Completes result c
+        → HasLevels source (moved_source (search_of search.now) moved.now c) factors place p result c.tokens
+        → IsInter source factors (search_of search.now) vectors.now place p moved.now c }
+    ensures segment { result.modes.segment ≡ 0 }
+    ensures reference { result.modes.reference ≡ moved.now.reference }
     ensures written { CanBeWritten (candidates vectors.now place moved.now.reference no_biases) result.motion }
     ensures short { IsWithin 259 (last_of result.motion.vectors) }
-    ensures reference { is_intra result.modes.reference ≡ false }
+    ensures subblocks { result.subblocks ≡ None }
 {
-    let _known = picture.dim();
     let reference = search.references.get(moved.reference);
     let prediction = inter_prediction(reference, place, moved.vector);
-    let tokens = tokens_of(blocks, &prediction, factors);
     let motion = motion_of(vectors, place, moved);
-    rebuild_from(picture, place, &prediction, false, &tokens, factors);
     let modes = Modes {
         segment: 0,
-        skip: !tokens.any(),
+        skip: false,
         reference: moved.reference,
         luma: LumaMode::Dc,
         subs: [SubMode::Dc; 16],
         chroma: ChromaMode::Dc,
     };
-    Choice {
+    Coding {
         modes,
         motion,
-        tokens,
+        prediction,
+        subblocks: None,
     }
 }
 
@@ -292,20 +221,21 @@ pub(crate) fn choose_with_motion(
     ensures unmoved { is_intra result.modes.reference ≡ true → (result.motion.mode ≡ VectorMode.Zero)
         × (result.motion.vectors ≡ replicate 16 zero_vector) }
 {
+    let factors = frame.factors;
     let (Some(search), Some(moved)) = (frame.search, moved) else {
-        let luma = choose_luma(&blocks.luma, frame.factors, picture, place);
-        return choose_intra(blocks, frame.factors, picture, place, &luma);
+        let luma = choose_luma(&blocks.luma, factors, picture, place);
+        let coding = intra_coding(blocks, picture, place, &luma);
+        return coding.complete(blocks, factors, picture, place);
     };
-    match choose_luma_below(&blocks.luma, frame.factors, picture, place, moved.cost) {
-        Some(luma) => choose_intra(blocks, frame.factors, picture, place, &luma),
-        None => choose_inter(
-            blocks,
-            frame.factors,
-            &search,
-            picture,
-            vectors,
-            place,
-            &moved,
-        ),
+    match choose_luma_below(&blocks.luma, factors, picture, place, moved.cost) {
+        Some(luma) => {
+            let coding = intra_coding(blocks, picture, place, &luma);
+            coding.complete(blocks, factors, picture, place)
+        }
+        None => {
+            let _known = picture.dim();
+            let coding = inter_coding(&search, vectors, place, &moved);
+            coding.complete(blocks, factors, picture, place)
+        }
     }
 }

@@ -2,7 +2,6 @@
 
 ghost use Rattle.std.specs.Prelude.{◌≡◌, ℕ, ◌+◌, ◌*◌, ◌<◌, ◌≤◌, pos, [], slice_index, slice_index_or, unsigned_abs};
 ghost use Rattle.std.specs.Prelude.{IfSome, IsSome, MatchOption};
-ghost use Rattle.vp_base.specs.Block.{with_block};
 ghost use Rattle.vp_base.specs.Image.{with_plane};
 ghost use Rattle.vp_intra.specs.Edges.{block as listed};
 ghost use Rattle.vp_intra.specs.Sub.{sub_pixel};
@@ -12,7 +11,7 @@ ghost use Rattle.vp_search.specs.Differences.{sum_of_differences};
 ghost use Rattle.vp_search.specs.FirstLeast.{IsFirstLeast};
 ghost use Rattle.vp_choose.specs.Costs.{block_from_rows, sub_cost};
 ghost use Rattle.vp_choose.specs.Levels.{ArePositive, coefficients, quantised_levels};
-ghost use Rattle.vp_choose.specs.Gathered.{AreSmall};
+ghost use Rattle.vp_choose.specs.Coding.{AreSmall, IsRebuiltLuma};
 ghost use Rattle.vp_choose.specs.Subblocks.{IsBestMode, AreSubblocksChosen, after_subblocks, mode_at, sub_levels};
 ghost use Rattle.vp_choose.specs.Below.{AreSubblocksOver, IsPartlyRebuilt};
 
@@ -215,10 +214,8 @@ pub(crate) fn choose_subblocks(
     ensures chosen { (f : ℕ → ℕ → ℕ) → source.now ≡ listed 16 f → MatchOption result
         (AreSubblocksOver f factors.now place picture.old.luma limit)
         (λ s. AreSubblocksChosen f factors.now place picture.old.luma s.subblocks) }
-    ensures luma { IfSome result (λ s. with_block picture.old.luma (16 * place.column) (16 * place.row) 16 16
-        (λ r c. slice_index s.luma (r * 16 + c)) ≡ after_subblocks factors.now place picture.old.luma s.subblocks 16) }
+    ensures rebuilt { IfSome result (λ s. IsRebuiltLuma factors.now place picture.old.luma s.subblocks s.luma) }
     ensures kept { picture.new ≡ picture.old }
-    ensures within { IfSome result (λ s. AreSmall s.subblocks.levels) }
     ensures bound { IfSome result (λ s. s.subblocks.cost ≤ 65280) }
     ensures all { 65280 < limit → IsSome result }
 {

@@ -2,8 +2,8 @@
 -- 6386, chapter 16.3). Pinned by the law `near_of_three_neighbours`, the test `vectors_by_their_neighbours`, and
 -- streams of other encoders in the gate.
 use Rattle.std.specs.Prelude.{◌≡◌, ◌<◌, ℕ, ◌+◌, ◌-◌, ◌*◌, ◌&&◌, Bool, true, false, not, nat_lt, nat_le, eqb, List, []}
-use Rattle.std.specs.Prelude.{Option, Some, None, ◌∷◌, ◌++◌, length, replicate, slice_index_or, ℤ, pos, negsuc, neg_ℤ, int_lt}
-use Rattle.std.specs.Prelude.{if◌then◌else◌}
+use Rattle.std.specs.Prelude.{Option, Some, None, ◌∷◌, ◌++◌, length, replicate, slice_index_or, ℤ, pos, negsuc, neg_ℤ}
+use Rattle.std.specs.Prelude.{int_lt, if◌then◌else◌}
 use Rattle.std.specs.Int.{from_bool}
 use Rattle.vp_head.specs.declared.fields.Reference.{Reference}
 use Rattle.vp_head.specs.declared.fields.Reference.TheVariants as reference_is

@@ -47,4 +47,4 @@ returns-clause-luma c f e =
     luma_is f c.args.factors.now c.args.place p whole are c.in_ok-rebuilt.rebuilt.subblocks c.first_least-best.result (c.in_ok-rebuilt.ensures.chosen f e) c.first_least-best.ensures
 
 pub returns-clause-rebuilt : goal.returns-clause-rebuilt
-returns-clause-rebuilt c = c.in_ok-rebuilt.ensures.luma
+returns-clause-rebuilt c = c.in_ok-rebuilt.ensures.rebuilt

@@ -1,5 +1,5 @@
 use Rattle.std.proofs.Common.{refl, sym, subst}
-use Rattle.vp_choose.specs.Frame.{Search, search_of}
+use Rattle.vp_choose.specs.Frame.{search_of}
 use Rattle.vp_choose.specs.Inter.{IsMoved}
 use Rattle.vp_choose.proofs.Unsearched.{free_motion}
 use Rattle.vp_choose.proofs.motion.choose_reference.Goals as goal

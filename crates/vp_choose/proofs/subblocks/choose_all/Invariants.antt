@@ -2,7 +2,7 @@ use Rattle.std.proofs.Common.{◌≡◌, ℕ, ◌*◌, ◌<◌, ◌≤◌, lengt
 use Rattle.vp_base.specs.Image.{with_plane}
 use Rattle.vp_intra.specs.Edges.{block}
 use Rattle.vp_search.specs.Sums.{sum_below}
-use Rattle.vp_choose.specs.Gathered.{AreSmall}
+use Rattle.vp_choose.specs.Coding.{AreSmall}
 use Rattle.vp_choose.specs.Subblocks.{after_subblocks}
 use Rattle.vp_choose.proofs.After.{made, IsOne, HasOne, cost_at}
 use Rattle.vp_choose.proofs.subblocks.choose_all.Given as goal

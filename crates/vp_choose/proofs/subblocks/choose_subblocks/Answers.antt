@@ -1,4 +1,4 @@
-use Rattle.std.proofs.Common.{◌≡◌, ◌∙◌, ℕ, ◌+◌, ◌*◌, ◌≤◌, ◌<◌, List, get_or, ap, subst, arith}
+use Rattle.std.proofs.Common.{◌≡◌, ◌∙◌, ℕ, ◌+◌, ◌*◌, ◌<◌, List, get_or, ap, subst, arith}
 use Rattle.std.specs.Prelude.{Option, MatchOption, IfSome}
 use Rattle.vp_base.specs.declared.place.Place.{Place}
 use Rattle.vp_base.specs.Raster.{Raster}
@@ -7,6 +7,7 @@ use Rattle.vp_base.specs.Image.{Image, with_plane}
 use Rattle.vp_quant.specs.declared.factors.Factors.{Factors}
 use Rattle.vp_choose.specs.Costs.{block_pixels}
 use Rattle.vp_choose.specs.Subblocks.{AreSubblocksChosen, after_subblocks}
+use Rattle.vp_choose.specs.Coding.{AreSmall}
 use Rattle.vp_choose.specs.Below.{IsPartlyRebuilt, AreSubblocksOver}
 use Rattle.vp_choose.proofs.Complete.{free_subblocks}
 use Rattle.vp_choose.specs.declared.subblocks.Subblocks.{Subblocks}
@@ -67,17 +68,20 @@ write_block-requires-clause-rows c =
     ∙ (after_outside c.args.factors.now c.args.place p.luma r.subblocks r.number r.most).height in
     omega arith
 
-pub returns-in-Some-clause-luma : goal.returns-in-Some-clause-luma
-returns-in-Some-clause-luma c =
+pub returns-in-Some-clause-rebuilt : goal.returns-in-Some-clause-rebuilt
+returns-in-Some-clause-rebuilt c =
     let p : Raster = c.args.picture.now.luma in
     let s : Subblocks = c.in-Some.subblocks in
     let whole : IsWhole p = subst (λ (a : Raster). IsWhole a) c.plane.ensures c.width.ensures.whole in
     let now : c.choose_all-chosen.new.picture ≡ with_plane c.args.picture.now 0 (after_subblocks c.args.factors.now c.args.place p s 16) =
     subst (λ (o : Option Subblocks). IfSome o (λ x. c.choose_all-chosen.new.picture ≡ with_plane c.args.picture.now 0 (after_subblocks c.args.factors.now c.args.place p x 16)))
     c.in-Some.is c.choose_all-chosen.ensures.all_rebuilt in
-    written_back c.args.factors.now c.args.place p s 16 (λ r j. get_or c.macroblock-luma.result (r * 16 + j) 0) (omega arith) whole
-    (λ r j rin jin. c.macroblock-luma.ensures r j rin jin ∙ ap (λ (a : Raster). block_pixels 16 a c.args.place r j) c.plane-4.ensures
-    ∙ ap (λ (i : Image). block_pixels 16 i.luma c.args.place r j) now)
+    record {
+      is = written_back c.args.factors.now c.args.place p s 16 (λ r j. get_or c.macroblock-luma.result (r * 16 + j) 0) (omega arith) whole
+          (λ r j rin jin. c.macroblock-luma.ensures r j rin jin ∙ ap (λ (a : Raster). block_pixels 16 a c.args.place r j) c.plane-4.ensures
+          ∙ ap (λ (i : Image). block_pixels 16 i.luma c.args.place r j) now);
+      small = subst (λ (o : Option Subblocks). IfSome o (λ x. AreSmall x.levels)) c.in-Some.is c.choose_all-chosen.ensures.within;
+    }
 
 pub macroblock-luma-requires-clause-columns : goal.macroblock-luma-requires-clause-columns
 macroblock-luma-requires-clause-columns c =

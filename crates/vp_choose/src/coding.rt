@@ -1,0 +1,73 @@
+//! The coding of a macroblock before its levels are known, and the choice that its levels complete.
+
+ghost use Rattle.std.specs.Prelude.{◌≡◌, IfSome};
+ghost use Rattle.vp_base.specs.Image.{Image};
+ghost use Rattle.vp_recon.specs.Predictor.{Predictor, macroblock_of, has_y2};
+ghost use Rattle.vp_recon.specs.Rebuilt.{rebuilt};
+ghost use Rattle.vp_choose.specs.Costs.{HasMacroblock};
+ghost use Rattle.vp_choose.specs.Levels.{ArePositive};
+ghost use Rattle.vp_choose.specs.Coding.{AreCut, AreSmall, AreWritable, IsPredicted, HasLevels, Completes};
+
+use crate::frame::Choice;
+use crate::subblocks::Subblocks;
+use crate::tokens::tokens_of;
+use vp_base::{Picture, Place};
+use vp_modes::Modes;
+use vp_motion::Motion;
+use vp_quant::Factors;
+use vp_recon::{MacroblockPixels, rebuild_from};
+
+/// How a macroblock is coded, and its prediction.
+#[derive(Clone, Copy)]
+pub(crate) struct Coding {
+    /// Not skipped: whether it is depends on its levels.
+    pub(crate) modes: Modes,
+    pub(crate) motion: Motion,
+    /// With B_PRED its luma is rebuilt already.
+    pub(crate) prediction: MacroblockPixels,
+    /// The subblocks of B_PRED, whose levels are known.
+    pub(crate) subblocks: Option<Subblocks>,
+}
+
+impl Coding {
+    /// Completes the choice by the levels of the macroblock with these source pixels, and rebuilds it: adds their
+    /// residue to the prediction.
+    pub(crate) fn complete(
+        &self,
+        source: &MacroblockPixels,
+        factors: &Factors,
+        picture: &mut Picture,
+        place: Place,
+    ) -> Choice
+        requires picture { HasMacroblock picture.old place }
+        requires factors { ArePositive factors.now }
+        requires small { IfSome self.now.subblocks (λ s. AreSmall s.levels) }
+        ensures completes { Completes self.now result }
+        ensures levels { (original : Image) (predictor : Predictor) → AreCut original place source.now
+            → IsPredicted predictor factors.now place picture.old self.now
+            → HasLevels original predictor factors.now place picture.old self.now result.tokens }
+        ensures writable { (predictor : Predictor) → IsPredicted predictor factors.now place picture.old self.now
+            → AreWritable (has_y2 predictor) result.tokens }
+        ensures rebuilt { (predictor : Predictor) → IsPredicted predictor factors.now place picture.old self.now
+            → picture.new ≡ rebuilt (macroblock_of predictor result.tokens factors.now) place picture.old }
+    {
+        let tokens = tokens_of(self, source, factors);
+        let by_subblocks = self.subblocks.is_some();
+        rebuild_from(
+            picture,
+            place,
+            &self.prediction,
+            by_subblocks,
+            &tokens,
+            factors,
+        );
+        Choice {
+            modes: Modes {
+                skip: !tokens.any(),
+                ..self.modes
+            },
+            motion: self.motion,
+            tokens,
+        }
+    }
+}
