@@ -107,13 +107,13 @@ front : (xs ys : List ℕ) (k : ℕ) → k < length xs → get_or (xs ++ ys) k 0
 front xs ys k h = search (rules, places)
 
 -- a lane that a swizzle of signed bytes takes
-pub taken : (a : List ℤ) (vs : List Val) → Is (Array (e_s_int w8).ty 16) a vs → (k : ℕ) → k < 16 → to_z w8 (get_or (map (of_z w8) a ++ map (of_z w8) a) k 0) ≡ lane a k
-taken a vs p k h =
-    let q = signed_lanes w8 16 a vs p in
-    let b = mapped (of_z w8) (lanes_of (pos 0) 16 a q.0) in
-    let long : length (map (of_z w8) a) ≡ 16 = length-ByLane b in
+pub taken : {n : ℕ} (a : List ℤ) (vs : List Val) → Is (Array (e_s_int w8).ty n) a vs → (k : ℕ) → k < n → to_z w8 (get_or (map (of_z w8) a ++ map (of_z w8) a) k 0) ≡ lane a k
+taken {n} a vs p k h =
+    let q = signed_lanes w8 n a vs p in
+    let b = mapped (of_z w8) (lanes_of (pos 0) n a q.0) in
+    let long : length (map (of_z w8) a) ≡ n = length-ByLane b in
     ap (to_z w8) (front (map (of_z w8) a) (map (of_z w8) a) k (omega arith) ∙ lane_is 0 b k h)
-    ∙ to_z-of_z w8 (lane a k) (lane_fits (SFits w8) (pos 0) 16 a q.0 q.1 k h)
+    ∙ to_z-of_z w8 (lane a k) (lane_fits (SFits w8) (pos 0) n a q.0 q.1 k h)
 
 pub product_same : (x y : ℕ) (u v : ℤ) → x ≡ y → u ≡ v → pos x *ℤ u ≡ pos y *ℤ v
 product_same x y u v p q = cc
@@ -126,12 +126,15 @@ byte_fits : (z : ℤ) → negsuc 127 ≤ℤ z → z ≤ℤ pos 127 → SFits w8 
 byte_fits (pos n) p q = record { sfits = omega (arith, ints) }
 byte_fits (negsuc n) p q = record { sfits = omega (arith, ints) }
 
-pub turned : (z : ℤ) → (negsuc 127 ≤ℤ z) × (z ≤ℤ pos 127) → to_z w8 (of_z w8 (to_z w8 (of_z w8 (to_z w16 (of_z w16 z))))) ≡ z
-turned z p =
-    let f : SFits w8 z = byte_fits z p.0 p.1 in
+pub cast_fits : (z : ℤ) → (negsuc 127 ≤ℤ z) × (z ≤ℤ pos 127) → SFits w8 (to_z w16 (of_z w16 z))
+cast_fits z p =
     let g : SFits w16 z = fits_range z (omega (arith, ints)) (omega (arith, ints)) in
-    ap (λ (y : ℤ). to_z w8 (of_z w8 (to_z w8 (of_z w8 y)))) (to_z-of_z w16 z g)
-    ∙ ap (λ (y : ℤ). to_z w8 (of_z w8 y)) (to_z-of_z w8 z f) ∙ to_z-of_z w8 z f
+    subst (λ (y : ℤ). SFits w8 y) (sym (to_z-of_z w16 z g)) (byte_fits z p.0 p.1)
+
+pub byte_is : (z : ℤ) → (negsuc 127 ≤ℤ z) × (z ≤ℤ pos 127) → to_z w8 (of_z w8 (to_z w16 (of_z w16 z))) ≡ z
+byte_is z p =
+    let g : SFits w16 z = fits_range z (omega (arith, ints)) (omega (arith, ints)) in
+    ap (λ (y : ℤ). to_z w8 (of_z w8 y)) (to_z-of_z w16 z g) ∙ to_z-of_z w8 z (byte_fits z p.0 p.1)
 
 -- the lanes of two vectors
 pub fore : (xs ys : List ℕ) → length xs ≡ 8 → (k : ℕ) → k < 8 → get_or (xs ++ ys) k 0 ≡ get_or xs k 0

@@ -1,8 +1,15 @@
 -- Lemmas on chains of rows of eight pixels.
-use Rattle.std.proofs.Common.{◌≡◌, ℕ, ◌+◌, ◌*◌, ◌<◌, ◌≤◌, List, get_or, arith}
+use Rattle.std.proofs.Common.{◌≡◌, ◌∙◌, ℕ, ℤ, pos, ◌+ℤ◌, ◌+◌, ◌*◌, ◌<◌, ◌≤◌, List, get_or, arith}
+use Rattle.vp_base.specs.Raster.{Raster}
+use Rattle.vp_inter.specs.Inter.{horizontal_pass}
 use Rattle.vp_inter.specs.declared.strip.Strip.{Strip}
 use Rattle.vp_inter.specs.Strips.{HoldsRows, IsStrip}
 use Rattle.vp_inter.proofs.PassLemmas.{row_more}
+use Rattle.vp_inter.proofs.WideLemmas.{across_beside}
+
+-- a strip without rows
+pub none : (strip : Strip) (pixel : ℕ → ℕ → ℕ) → IsStrip strip pixel 0
+none strip pixel = ((λ e c ein cin. absurd (omega arith)), (λ e c ein cin. absurd (omega arith)), (λ e c ein cin. absurd (omega arith)))
 
 -- one row more of a chain
 pub chain_more : (from e : ℕ) (old new : List ℕ) (pixel : ℕ → ℕ → ℕ) → HoldsRows old pixel from e
@@ -17,4 +24,13 @@ fewer strip pixel count n few rows = (
   (λ e c ein cin. rows.0 e c (omega arith) cin),
   (λ e c ein cin. rows.1 e c (omega arith) cin),
   (λ e c ein cin. rows.2 e c (omega arith) cin),
+)
+
+-- the rows of the right half of a block
+pub right_half : (weights : List ℤ) (p : Raster) (left top : ℤ) (strip : Strip) (n : ℕ) → IsStrip strip (horizontal_pass weights p (left +ℤ pos 8) top) n
+    → IsStrip strip (λ r c. horizontal_pass weights p left top r (8 + c)) n
+right_half weights p left top strip n rows = (
+  (λ e c ein cin. rows.0 e c ein cin ∙ across_beside weights p left top (3 * e + 0) c),
+  (λ e c ein cin. rows.1 e c ein cin ∙ across_beside weights p left top (3 * e + 1) c),
+  (λ e c ein cin. rows.2 e c ein cin ∙ across_beside weights p left top (3 * e + 2) c),
 )

@@ -5,3 +5,4 @@ pub mod Inter
 pub mod Turns
 pub mod Filtered
 pub mod Strips
+pub mod Patches

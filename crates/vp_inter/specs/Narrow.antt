@@ -1,13 +1,16 @@
 -- Private to the crate: when numbers fit. A weighted sum of six pixels does after 16384 is subtracted.
-use Rattle.std.specs.Prelude.{◌≡◌, ◌<◌, ℕ, ℤ, pos, negsuc, ◌+ℤ◌, ◌-ℤ◌, ◌*ℤ◌, ◌≤ℤ◌, List, slice_index_or}
+use Rattle.std.specs.Prelude.{◌≡◌, ◌+◌, ◌<◌, ℕ, ℤ, pos, negsuc, ◌+ℤ◌, ◌-ℤ◌, ◌*ℤ◌, ◌≤ℤ◌, List, slice_index_or}
 
 -- z is from low to high
 abbrev pub IsFrom : ℤ → ℤ → ℤ → Type 0
 IsFrom low high z = (low ≤ℤ z) × (z ≤ℤ high)
 
--- a column or row is near enough that those of a block fit in i32
+-- a column or row is near enough that those of a block fit in i32, and so are those up to n further on
+abbrev pub IsNearWithin : ℕ → ℤ → Type 0
+IsNearWithin n = IsFrom (negsuc 400000000) (pos (400000000 + n))
+
 abbrev pub IsNear : ℤ → Type 0
-IsNear = IsFrom (negsuc 400000000) (pos 400000000)
+IsNear = IsNearWithin 0
 
 -- z fits in i16
 abbrev pub IsShort : ℤ → Type 0

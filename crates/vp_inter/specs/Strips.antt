@@ -21,6 +21,10 @@ abbrev pub IsShortStrip : Strip → (ℕ → ℕ → ℕ) → Type 0
 IsShortStrip strip pixel =
     HoldsRows strip.first pixel 0 5 × HoldsRows strip.second pixel 1 4 × HoldsRows strip.third pixel 2 4
 
+-- a strip with this many rows, 13 or 21
+abbrev pub HasRows : ℕ → Strip → (ℕ → ℕ → ℕ) → Type 0
+HasRows rows strip pixel = (rows ≡ 13 → IsShortStrip strip pixel) × (rows ≡ 21 → IsStrip strip pixel 7)
+
 -- row r and the row three below, interleaved
 abbrev pub IsPaired : List ℕ → (ℕ → ℕ → ℕ) → ℕ → Type 0
 IsPaired pair pixel r = (j t : ℕ) → j < 8 → t < 2 → slice_index pair (2 * j + t) ≡ pixel (r + 3 * t) j

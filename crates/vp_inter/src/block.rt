@@ -4,11 +4,13 @@ ghost use Rattle.std.specs.Prelude.{◌≡◌, ℕ, ℤ, pos, ◌+◌, ◌*◌, 
 ghost use Rattle.std.specs.Prelude.{slice_index, IsTrue};
 ghost use Rattle.vp_inter.specs.Filter.{filter_six};
 ghost use Rattle.vp_inter.specs.Narrow.{IsNear, OuterWeightsAreZero, SumsFitI16};
+ghost use Rattle.vp_inter.specs.Patches.{patch_pass, patch_pixel};
 ghost use Rattle.vp_inter.specs.Inter.{reference_pixel, horizontal_pass, inter_pixel, IsInside};
 
 use crate::filter::{ends_are_zero, pass, seconds_are_zero, taps};
+use crate::patch::Patch;
 use crate::reference::{Flat, lies_inside, pixels_are_bytes, plain_row, reference_line};
-use crate::short_rows::short_rows;
+use crate::short_rows::{row_filter, rows_by_filter};
 use crate::six_tap_1d::has_six_taps;
 use crate::six_tap_2d::{filter_columns_of_16, filter_wide_rows, six_tap_2d_block};
 use crate::strip::filter_columns_of_8;
@@ -33,7 +35,7 @@ pub fn predict_block16(
     ensures { (r c : ℕ) → r < 16 → c < 16 → slice_index result (r * 16 + c)
         ≡ inter_pixel version plane.now x y vector r c }
 {
-    predict::<16, 21, 336, 256>(plane, x, y, vector, version)
+    predict::<16, 336, 256>(plane, x, y, vector, version)
 }
 
 /// Predicts an 8x8 block as `predict_block16` does.
@@ -52,7 +54,7 @@ pub fn predict_block8(
     ensures { (r c : ℕ) → r < 8 → c < 8 → slice_index result (r * 8 + c)
         ≡ inter_pixel version plane.now x y vector r c }
 {
-    predict::<8, 13, 104, 64>(plane, x, y, vector, version)
+    predict::<8, 104, 64>(plane, x, y, vector, version)
 }
 
 /// Predicts a 4x4 block as `predict_block16` does.
@@ -71,14 +73,14 @@ pub fn predict_block4(
     ensures { (r c : ℕ) → r < 4 → c < 4 → slice_index result (r * 4 + c)
         ≡ inter_pixel version plane.now x y vector r c }
 {
-    predict::<4, 9, 36, 16>(plane, x, y, vector, version)
+    predict::<4, 36, 16>(plane, x, y, vector, version)
 }
 
-/// Predicts a block of `N` by `N` pixels. The horizontal pass gives `W = N + 5` rows, `L` pixels in all, to the
-/// vertical pass. A vector without a fractional row or column needs only one pass. Inlined into its callers, which then
+/// Predicts a block of `N` by `N` pixels. The horizontal pass gives `N + 5` rows, `L` pixels in all, to the vertical
+/// pass. A vector without a fractional row or column needs only one pass. Inlined into its callers, which then
 /// copy the block from where it is made.
 #[inline(always)]
-fn predict<const N: usize, const W: usize, const L: usize, const M: usize>(
+fn predict<const N: usize, const L: usize, const M: usize>(
     plane: &Plane,
     x: usize,
     y: usize,
@@ -86,8 +88,7 @@ fn predict<const N: usize, const W: usize, const L: usize, const M: usize>(
     version: u8,
 ) -> [u8; M]
     requires size { (0 < N) × (N ≤ 16) }
-    requires line { W ≡ N + 5 }
-    requires between { (L ≡ W * N) × (L ≤ 336) }
+    requires between { (L ≡ (N + 5) * N) × (L ≤ 336) }
     requires square { (M ≡ N * N) × (M ≤ 256) }
     requires pieces { M % 16 ≡ 0 }
     requires columns { x ≤ 16384 }
@@ -103,110 +104,96 @@ fn predict<const N: usize, const W: usize, const L: usize, const M: usize>(
     let across = fraction(vector.column);
     let down = fraction(vector.row);
     if down == 0 && across == 0 {
-        return copied_rows::<N, M>(plane, left + 2, top + 2, N);
+        let patch = Patch {
+            plane,
+            left: left + 2,
+            top: top + 2,
+        };
+        return copied_rows::<N, M>(&patch, N);
     }
     let mut block = [0; M];
     if down == 0 {
         let weights = taps(version, across);
-        pass_rows::<N, W>(&mut block, plane, left, top + 2, weights, N);
+        let top = top + 2;
+        pass_rows::<N>(&mut block, &Patch { plane, left, top }, weights, N);
     } else if across == 0 {
         let column_weights = taps(version, down);
-        pass_down::<N, W, L, M>(&mut block, plane, left + 2, top, column_weights);
+        let left = left + 2;
+        pass_down::<N, L, M>(&mut block, &Patch { plane, left, top }, column_weights);
     } else {
         let first = taps(version, across);
         let second = taps(version, down);
-        pass_both::<N, W, L, M>(&mut block, plane, left, top, first, second);
+        pass_both::<N, L, M>(&mut block, &Patch { plane, left, top }, first, second);
     }
     block
 }
 
 /// The vertical pass alone. A block of eight or sixteen columns inside the plane is read directly from it.
-fn pass_down<const N: usize, const W: usize, const L: usize, const M: usize>(
+fn pass_down<const N: usize, const L: usize, const M: usize>(
     pixels: &mut [u8],
-    plane: &Plane,
-    left: i32,
-    top: i32,
+    patch: &Patch,
     weights: &[i16; 6],
 )
     requires size { (0 < N) × (N ≤ 16) }
-    requires line { W ≡ N + 5 }
-    requires between { (L ≡ W * N) × (L ≤ 336) }
+    requires between { (L ≡ (N + 5) * N) × (L ≤ 336) }
     requires square { (M ≡ N * N) × (M ≤ 256) }
     requires pieces { M % 16 ≡ 0 }
     requires whole { length pixels.old ≡ M }
     requires gentle { SumsFitI16 weights.now }
-    requires columns { 0 < plane.now.width }
-    requires height { 0 < plane.now.height }
-    requires near { IsNear left }
-    requires beside { IsNear top }
     ensures { (r c : ℕ) → r < N → c < N → slice_index pixels.new (r * N + c) ≡ filter_six weights.now
-        (λ k. reference_pixel plane.now (left +ℤ pos c) (top +ℤ pos (r + k))) }
+        (λ k. patch_pixel patch.now (r + k) c) }
 {
-    if N == 8 && lies_inside(plane, left, top, N, W) {
+    let Patch { plane, left, top } = *patch;
+    if N == 8 && lies_inside(plane, left, top, N, N + 5) {
         filter_columns_of_8(pixels, plane, left as usize, top as usize, weights);
         return;
     }
-    if N == 16 && has_six_taps(weights) && lies_inside(plane, left, top, N, W) {
+    if N == 16 && has_six_taps(weights) && lies_inside(plane, left, top, N, N + 5) {
         filter_columns_of_16(pixels, plane, left as usize, top as usize, weights);
         return;
     }
-    let rows = copied_rows::<N, L>(plane, left, top, W);
+    let rows = copied_rows::<N, L>(patch, N + 5);
     pass_columns::<N, M>(pixels, &rows, weights);
 }
 
-/// Both passes, with `W` rows of `N` pixels, `L` in all, between them. A 16x16 block with six nonzero weights in both
+/// Both passes, with `N + 5` rows of `N` pixels, `L` in all, between them. A 16x16 block with six nonzero weights in both
 /// uses `six_tap_2d`.
-fn pass_both<const N: usize, const W: usize, const L: usize, const M: usize>(
+fn pass_both<const N: usize, const L: usize, const M: usize>(
     pixels: &mut [u8],
-    plane: &Plane,
-    left: i32,
-    top: i32,
+    patch: &Patch,
     row_weights: &[i16; 6],
     column_weights: &[i16; 6],
 )
     requires size { (0 < N) × (N ≤ 16) }
-    requires line { W ≡ N + 5 }
-    requires between { (L ≡ W * N) × (L ≤ 336) }
+    requires between { (L ≡ (N + 5) * N) × (L ≤ 336) }
     requires square { (M ≡ N * N) × (M ≤ 256) }
     requires pieces { M % 16 ≡ 0 }
     requires whole { length pixels.old ≡ M }
     requires horizontal_pass { SumsFitI16 row_weights.now }
     requires down { SumsFitI16 column_weights.now }
-    requires columns { 0 < plane.now.width }
-    requires height { 0 < plane.now.height }
-    requires near { IsNear left }
-    requires beside { IsNear top }
     ensures { (r c : ℕ) → r < N → c < N → slice_index pixels.new (r * N + c)
-        ≡ filter_six column_weights.now (λ k. horizontal_pass row_weights.now plane.now left top (r + k) c) }
+        ≡ filter_six column_weights.now (λ k. patch_pass row_weights.now patch.now (r + k) c) }
 {
-    if N == 16 && plane.width() >= 16 && has_six_taps(row_weights) {
-        six_tap_2d_block(pixels, plane, left, top, row_weights, column_weights);
+    if N == 16 && patch.plane.width() >= 16 && has_six_taps(row_weights) {
+        six_tap_2d_block(pixels, patch, row_weights, column_weights);
         return;
     }
     let mut rows = [0; L];
-    pass_rows::<N, W>(&mut rows, plane, left, top, row_weights, W);
+    pass_rows::<N>(&mut rows, patch, row_weights, N + 5);
     pass_columns::<N, M>(pixels, &rows, column_weights);
 }
 
 /// Copies `rows` rows of the reference.
-fn copied_rows<const N: usize, const L: usize>(
-    plane: &Plane,
-    left: i32,
-    top: i32,
-    rows: usize,
-) -> [u8; L]
+fn copied_rows<const N: usize, const L: usize>(patch: &Patch, rows: usize) -> [u8; L]
     requires size { N ≤ 16 }
     requires rows { rows ≤ 21 }
     requires all { L ≡ rows * N }
     requires room { L ≤ 336 }
-    requires columns { 0 < plane.now.width }
-    requires height { 0 < plane.now.height }
-    requires near { IsNear left }
-    requires beside { IsNear top }
     ensures len { length result ≡ L }
     ensures value { (r c : ℕ) → r < rows → c < N → slice_index result (r * N + c)
-        ≡ reference_pixel plane.now (left +ℤ pos c) (top +ℤ pos r) }
+        ≡ patch_pixel patch.now r c }
 {
+    let Patch { plane, left, top } = *patch;
     let inside = lies_inside(plane, left, top, N, rows);
     let flat = Flat::of(plane);
     let mut pixels = [0; L];
@@ -217,142 +204,114 @@ fn copied_rows<const N: usize, const L: usize>(
     pixels
 }
 
-/// The horizontal pass over `rows` rows of the reference.
-fn pass_rows<const N: usize, const W: usize>(
-    pixels: &mut [u8],
-    plane: &Plane,
-    left: i32,
-    top: i32,
-    weights: &[i16; 6],
-    rows: usize,
-)
+/// The horizontal pass over `rows` rows of the reference. Short rows of a plane of at least sixteen columns take the
+/// columns beyond the plane like any others.
+fn pass_rows<const N: usize>(pixels: &mut [u8], patch: &Patch, weights: &[i16; 6], rows: usize)
     requires size { N ≤ 16 }
-    requires line { W ≡ N + 5 }
     requires rows { rows ≤ 21 }
     requires all { length pixels.old ≡ rows * N }
     requires gentle { SumsFitI16 weights.now }
-    requires columns { 0 < plane.now.width }
-    requires height { 0 < plane.now.height }
-    requires near { IsNear left }
-    requires beside { IsNear top }
     ensures { (i c : ℕ) → i < rows → c < N → slice_index pixels.new (i * N + c)
-        ≡ horizontal_pass weights.now plane.now left top i c }
+        ≡ patch_pass weights.now patch.now i c }
 {
-    if (N == 4 || N == 8) && plane.width() >= 16 {
-        short_rows::<N>(pixels, plane, left, top, weights, rows);
+    let Patch { plane, left, top } = *patch;
+    let width = plane.width();
+    if (N == 4 || N == 8) && width >= 16 {
+        let filter = row_filter(width, left, weights);
+        rows_by_filter::<N>(pixels, plane, top, &filter, weights, rows);
     } else {
-        other_rows::<N, W>(pixels, plane, left, top, weights, rows);
+        other_rows::<N>(pixels, patch, weights, rows);
     }
 }
 
 /// The horizontal pass over long rows, and over rows of narrow planes. Whether the block is inside the plane, and how
 /// many weights are nonzero, is tested before the loop over the rows.
 #[inline(never)]
-pub(crate) fn other_rows<const N: usize, const W: usize>(
+pub(crate) fn other_rows<const N: usize>(
     pixels: &mut [u8],
-    plane: &Plane,
-    left: i32,
-    top: i32,
+    patch: &Patch,
     weights: &[i16; 6],
     rows: usize,
 )
     requires size { N ≤ 16 }
-    requires line { W ≡ N + 5 }
     requires rows { rows ≤ 22 }
     requires all { length pixels.old ≡ rows * N }
     requires gentle { SumsFitI16 weights.now }
-    requires columns { 0 < plane.now.width }
-    requires height { 0 < plane.now.height }
-    requires near { IsNear left }
-    requires beside { IsNear top }
     ensures { (i c : ℕ) → i < rows → c < N → slice_index pixels.new (i * N + c)
-        ≡ horizontal_pass weights.now plane.now left top i c }
+        ≡ patch_pass weights.now patch.now i c }
 {
+    let Patch { plane, left, top } = *patch;
     if N == 16 && plane.width() >= 16 && has_six_taps(weights) {
-        filter_wide_rows(pixels, plane, left, top, weights, rows);
-    } else if lies_inside(plane, left, top, W, rows) {
-        horizontal_by_taps::<N, W, true>(pixels, plane, left, top, weights, rows);
+        filter_wide_rows(pixels, patch, weights, rows);
+    } else if lies_inside(plane, left, top, N + 5, rows) {
+        horizontal_by_taps::<N, true>(pixels, patch, weights, rows);
     } else {
-        horizontal_by_taps::<N, W, false>(pixels, plane, left, top, weights, rows);
+        horizontal_by_taps::<N, false>(pixels, patch, weights, rows);
     }
 }
 
 /// The horizontal pass. If `INSIDE`, all rows are inside the plane.
 #[inline(always)]
-fn horizontal_by_taps<const N: usize, const W: usize, const INSIDE: bool>(
+fn horizontal_by_taps<const N: usize, const INSIDE: bool>(
     pixels: &mut [u8],
-    plane: &Plane,
-    left: i32,
-    top: i32,
+    patch: &Patch,
     weights: &[i16; 6],
     rows: usize,
 )
     requires size { N ≤ 16 }
-    requires line { W ≡ N + 5 }
     requires rows { rows ≤ 22 }
     requires all { length pixels.old ≡ rows * N }
     requires gentle { SumsFitI16 weights.now }
-    requires inside { IsTrue INSIDE → IsInside plane.now left top W rows }
-    requires columns { 0 < plane.now.width }
-    requires height { 0 < plane.now.height }
-    requires near { IsNear left }
-    requires beside { IsNear top }
+    requires inside { IsTrue INSIDE → IsInside patch.now.plane.now patch.now.left patch.now.top (N + 5) rows }
     ensures { (i c : ℕ) → i < rows → c < N → slice_index pixels.new (i * N + c)
-        ≡ horizontal_pass weights.now plane.now left top i c }
+        ≡ patch_pass weights.now patch.now i c }
 {
     if !ends_are_zero(weights) {
-        horizontal_rows::<N, W, INSIDE, 6>(pixels, plane, left, top, weights, rows);
+        horizontal_rows::<N, INSIDE, 6>(pixels, patch, weights, rows);
     } else if !seconds_are_zero(weights) {
-        horizontal_rows::<N, W, INSIDE, 4>(pixels, plane, left, top, weights, rows);
+        horizontal_rows::<N, INSIDE, 4>(pixels, patch, weights, rows);
     } else {
-        horizontal_rows::<N, W, INSIDE, 2>(pixels, plane, left, top, weights, rows);
+        horizontal_rows::<N, INSIDE, 2>(pixels, patch, weights, rows);
     }
 }
 
 /// The horizontal pass with `COUNT` nonzero weights. The loop reads a local copy of them, which no write to `pixels`
 /// can alias, so each weight stays in a register.
 #[inline(always)]
-fn horizontal_rows<const N: usize, const W: usize, const INSIDE: bool, const COUNT: usize>(
+fn horizontal_rows<const N: usize, const INSIDE: bool, const COUNT: usize>(
     pixels: &mut [u8],
-    plane: &Plane,
-    left: i32,
-    top: i32,
+    patch: &Patch,
     weights: &[i16; 6],
     rows: usize,
 )
     requires size { N ≤ 16 }
-    requires line { W ≡ N + 5 }
     requires rows { rows ≤ 22 }
     requires all { length pixels.old ≡ rows * N }
     requires gentle { SumsFitI16 weights.now }
-    requires inside { IsTrue INSIDE → IsInside plane.now left top W rows }
+    requires inside { IsTrue INSIDE → IsInside patch.now.plane.now patch.now.left patch.now.top (N + 5) rows }
     requires few { OuterWeightsAreZero weights.now COUNT }
-    requires columns { 0 < plane.now.width }
-    requires height { 0 < plane.now.height }
-    requires near { IsNear left }
-    requires beside { IsNear top }
     ensures { (i c : ℕ) → i < rows → c < N → slice_index pixels.new (i * N + c)
-        ≡ horizontal_pass weights.now plane.now left top i c }
+        ≡ patch_pass weights.now patch.now i c }
 {
     let own = *weights;
+    let Patch { plane, left, top } = *patch;
     let flat = Flat::of(plane);
     for i in 0..rows {
-        let row = horizontal_row::<N, W, INSIDE, COUNT>(&flat, left, top + i as i32, &own);
+        let row = horizontal_row::<N, INSIDE, COUNT>(&flat, left, top + i as i32, &own);
         put_lanes(pixels, i, row);
     }
 }
 
 /// The horizontal pass over one row of the reference. If `INSIDE`, it reads directly from the plane.
 #[inline(always)]
-fn horizontal_row<const N: usize, const W: usize, const INSIDE: bool, const COUNT: usize>(
+fn horizontal_row<const N: usize, const INSIDE: bool, const COUNT: usize>(
     plane: &Flat,
     left: i32,
     row: i32,
     weights: &[i16; 6],
 ) -> Simd<u8, N>
     requires size { N ≤ 16 }
-    requires line { W ≡ N + 5 }
-    requires inside { IsTrue INSIDE → IsInside plane.now left row W 1 }
+    requires inside { IsTrue INSIDE → IsInside plane.now left row (N + 5) 1 }
     requires gentle { SumsFitI16 weights.now }
     requires few { OuterWeightsAreZero weights.now COUNT }
     requires columns { 0 < plane.now.width }

@@ -1,19 +1,15 @@
 //! Inter prediction of both chroma planes, written to a picture (RFC 6386, chapter 18). What depends on the vector
 //! alone is worked out once.
 
-ghost use Rattle.std.specs.Prelude.{◌≡◌, ℕ, ℤ, pos, ◌+◌, ◌*◌, ◌<◌, ◌≤◌, ◌+ℤ◌, length, slice_index};
-ghost use Rattle.std.specs.Prelude.{IsTrue};
+ghost use Rattle.std.specs.Prelude.{◌≡◌, ℕ, ◌+◌, ◌<◌, ◌≤◌, IsTrue};
 ghost use Rattle.vp_base.specs.Block.{with_block};
-ghost use Rattle.vp_inter.specs.Filter.{filter_six};
-ghost use Rattle.vp_inter.specs.Inter.{nearest, horizontal_pass, inter_pixel};
-ghost use Rattle.vp_inter.specs.Narrow.{IsNear, SumsFitI16};
-ghost use Rattle.vp_inter.specs.Turns.{AreFar, AreLanes, SelectsPairs};
+ghost use Rattle.vp_inter.specs.Inter.{inter_pixel};
 ghost use Rattle.vp_inter.specs.Vectors.{fraction};
 
 use crate::filter::taps;
 use crate::into::{predict_into8, whole_place};
 use crate::short_rows::{row_filter, rows_by_filter};
-use crate::strip::{empty_strip, filter_chroma_rows, filter_strip, strip_filter};
+use crate::strip::{empty_strip, filter_strip, filter_to_strip, strip_filter};
 use crate::vector::{PlaneVector, first_tap, fraction};
 use vp_base::Picture;
 
@@ -150,12 +146,12 @@ fn filter_into_chroma(
     let columns = taps(version, fraction(vector.row));
     let filter = row_filter(u.width(), first_tap(x, vector.column), rows);
     let down = strip_filter(columns);
-    let mut u_strip = empty_strip();
-    let mut v_strip = empty_strip();
-    filter_chroma_rows(&mut u_strip, &mut v_strip, u, v, top, &filter, rows);
+    let mut strip = empty_strip();
     let mut block = [0; 64];
-    filter_strip(&mut block, &u_strip, columns, &down);
+    filter_to_strip::<13>(&mut strip, u, top, &filter, rows);
+    filter_strip(&mut block, &strip, columns, &down);
     picture.write_block::<8>(1, x, y, &block);
-    filter_strip(&mut block, &v_strip, columns, &down);
+    filter_to_strip::<13>(&mut strip, v, top, &filter, rows);
+    filter_strip(&mut block, &strip, columns, &down);
     picture.write_block::<8>(2, x, y, &block);
 }

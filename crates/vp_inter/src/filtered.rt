@@ -2,12 +2,13 @@
 
 ghost use Rattle.std.specs.Prelude.{◌≡◌, ℕ, ℤ, pos, negsuc, ◌+◌, ◌*◌, ◌<◌, ◌≤◌, ◌+ℤ◌, ◌≤ℤ◌, length, slice_index};
 ghost use Rattle.vp_inter.specs.Filter.{taps, filter_six};
-ghost use Rattle.vp_inter.specs.Inter.{reference_pixel, horizontal_pass};
-ghost use Rattle.vp_inter.specs.Narrow.{IsNear, SumsFitI16};
+ghost use Rattle.vp_inter.specs.Narrow.{IsFrom, SumsFitI16};
+ghost use Rattle.vp_inter.specs.Patches.{patch_pass, patch_pixel};
 ghost use Rattle.vp_inter.specs.Filtered.{AreRows, AreFiltered};
 
 use crate::block::{other_rows, put_lanes};
 use crate::filter::taps;
+use crate::patch::Patch;
 use crate::reference::{Flat, lies_inside, pixels_are_bytes, plain_row};
 use crate::six_tap_1d::{
     ColumnWeights, pair_rows, paired_column_weights, vertical_sixteen, wide_columns,
@@ -94,7 +95,8 @@ impl FilteredRows {
     {
         let left = first_tap(x, vector.column);
         let top = first_tap(y, vector.row);
-        filter_rows(&mut self.rows, plane, left, top, fraction(vector.column));
+        let patch = Patch { plane, left, top };
+        filter_rows(&mut self.rows, &patch, fraction(vector.column));
         pair_rows::<19>(&mut self.pairs, &self.rows);
     }
 
@@ -126,34 +128,30 @@ impl FilteredRows {
     }
 }
 
-/// The horizontal pass over 22 rows of the reference.
-fn filter_rows(rows: &mut [u8], plane: &Plane, left: i32, top: i32, eighths: usize)
+/// The horizontal pass over 22 rows of the reference. Without a fraction it begins two columns to the right.
+fn filter_rows(rows: &mut [u8], patch: &Patch, eighths: usize)
     requires all { length rows.old ≡ 352 }
     requires bound { eighths < 8 }
-    requires columns { 0 < plane.now.width }
-    requires height { 0 < plane.now.height }
-    requires near { (negsuc 300000000 ≤ℤ left) × (left ≤ℤ pos 300000000) }
-    requires beside { (negsuc 300000000 ≤ℤ top) × (top ≤ℤ pos 300000000) }
-    ensures { AreRows rows.new 22 (horizontal_pass (taps 0 eighths) plane.now left top) }
+    requires near { IsFrom (negsuc 300000000) (pos 300000000) patch.now.left }
+    ensures { AreRows rows.new 22 (patch_pass (taps 0 eighths) patch.now) }
 {
     if eighths == 0 {
-        pixels_are_bytes(plane);
-        copy_rows(rows, plane, left + 2, top);
+        pixels_are_bytes(patch.plane);
+        let Patch { plane, left, top } = *patch;
+        let left = left + 2;
+        copy_rows(rows, &Patch { plane, left, top });
     } else {
-        other_rows::<16, 21>(rows, plane, left, top, taps(0, eighths), 22);
+        other_rows::<16>(rows, patch, taps(0, eighths), 22);
     }
 }
 
 /// Copies 22 rows of the reference.
 #[inline(never)]
-fn copy_rows(rows: &mut [u8], plane: &Plane, left: i32, top: i32)
+fn copy_rows(rows: &mut [u8], patch: &Patch)
     requires all { length rows.old ≡ 352 }
-    requires columns { 0 < plane.now.width }
-    requires height { 0 < plane.now.height }
-    requires near { IsNear left }
-    requires beside { IsNear top }
-    ensures { AreRows rows.new 22 (λ i c. reference_pixel plane.now (left +ℤ pos c) (top +ℤ pos i)) }
+    ensures { AreRows rows.new 22 (patch_pixel patch.now) }
 {
+    let Patch { plane, left, top } = *patch;
     let inside = lies_inside(plane, left, top, 16, 22);
     let flat = Flat::of(plane);
     for i in 0..22 {

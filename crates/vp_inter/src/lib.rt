@@ -8,6 +8,7 @@ mod filter;
 mod filtered;
 mod into;
 mod madd;
+mod patch;
 mod reference;
 mod short_rows;
 mod six_tap_1d;

@@ -9,17 +9,6 @@ ghost use Rattle.vp_inter.specs.Turns.{AreByTurns};
 
 use std::simd::prelude::*;
 
-/// Two weights in alternating lanes.
-pub(crate) fn interleaved_pairs(even: i16, odd: i16) -> i8x16
-    requires even { IsFrom (negsuc 127) (pos 127) even }
-    requires odd { IsFrom (negsuc 127) (pos 127) odd }
-    ensures { AreByTurns result even odd }
-{
-    i8x16::splat(even as i8)
-        .interleave(i8x16::splat(odd as i8))
-        .0
-}
-
 fn evens(a: u8x16) -> u8x8
     ensures { (j : ℕ) → j < 8 → slice_index result j ≡ slice_index a (2 * j) }
 {

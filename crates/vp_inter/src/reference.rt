@@ -4,7 +4,7 @@ ghost use Rattle.std.specs.Prelude.{◌≡◌, ℕ, ℤ, pos, negsuc, ◌+◌, �
 ghost use Rattle.std.specs.Prelude.{IsTrue};
 ghost use Rattle.vp_base.specs.Raster.{row_of};
 ghost use Rattle.vp_inter.specs.Inter.{nearest, reference_pixel, IsInside};
-ghost use Rattle.vp_inter.specs.Narrow.{IsNear};
+ghost use Rattle.vp_inter.specs.Narrow.{IsNear, IsNearWithin};
 
 use crate::block::put_lanes;
 use crate::filter::load;
@@ -202,7 +202,7 @@ pub(crate) struct Span {
 #[inline(always)]
 pub(crate) fn span_of(size: usize, at: i32) -> Span
     requires some { 16 ≤ size }
-    requires near { (negsuc 400000000 ≤ℤ at) × (at ≤ℤ pos 400000016) }
+    requires near { IsNearWithin 16 at }
     ensures room { result.first + 16 ≤ size }
     ensures lanes { (c : ℕ) → c < 16 → slice_index result.places c < 16 }
     ensures places { (c : ℕ) → c < 16 → result.first + slice_index result.places c ≡ nearest size (at +ℤ pos c) }
@@ -219,7 +219,7 @@ pub(crate) fn span_of(size: usize, at: i32) -> Span
 #[inline(always)]
 fn sixteen(line: &[u8], at: i32) -> u8x16
     requires some { 16 ≤ length line.now }
-    requires near { (negsuc 400000000 ≤ℤ at) × (at ≤ℤ pos 400000016) }
+    requires near { IsNearWithin 16 at }
     ensures { (c : ℕ) → c < 16 → slice_index result c ≡ slice_index line.now (nearest (length line.now) (at +ℤ pos c)) }
 {
     let span = span_of(line.len(), at);

@@ -4,7 +4,7 @@ ghost use Rattle.std.specs.Prelude.{◌≡◌, ℕ, ℤ, pos, negsuc, ◌+◌, �
 ghost use Rattle.std.specs.Prelude.{◌<ℤ◌, IsTrue, slice_index};
 ghost use Rattle.vp_inter.specs.Filter.{filter_six};
 ghost use Rattle.vp_inter.specs.Inter.{nearest, horizontal_pass, IsInside};
-ghost use Rattle.vp_inter.specs.Narrow.{IsNear, SumsFitI16};
+ghost use Rattle.vp_inter.specs.Narrow.{IsNear, IsNearWithin, SumsFitI16};
 ghost use Rattle.vp_inter.specs.Turns.{AreFar, AreLanes, SelectsPairs};
 
 use crate::block::put_lanes;
@@ -54,7 +54,7 @@ fn third_pairs(places: u8x16) -> u8x16
 /// The filter for rows of `size` columns, from column `left` on.
 pub(crate) fn row_filter(size: usize, left: i32, weights: &[i16; 6]) -> RowFilter
     requires some { 16 ≤ size }
-    requires near { (negsuc 400000000 ≤ℤ left) × (left ≤ℤ pos 400000008) }
+    requires near { IsNearWithin 8 left }
     requires gentle { SumsFitI16 weights.now }
     ensures room { result.start + 16 ≤ size }
     ensures turns { AreFar weights.now result.weights }
@@ -246,29 +246,4 @@ pub(crate) fn rows_by_filter<const N: usize>(
     } else {
         filtered_rows::<N, false>(pixels, plane, top, filter, weights, rows);
     }
-}
-
-/// The horizontal pass over `rows` rows of four or eight pixels of the reference, which has at least sixteen columns.
-/// It takes the columns beyond the plane like any others.
-pub(crate) fn short_rows<const N: usize>(
-    pixels: &mut [u8],
-    plane: &Plane,
-    left: i32,
-    top: i32,
-    weights: &[i16; 6],
-    rows: usize,
-)
-    requires size { (N ≡ 4) ⊎ (N ≡ 8) }
-    requires rows { rows ≤ 21 }
-    requires all { length pixels.old ≡ rows * N }
-    requires gentle { SumsFitI16 weights.now }
-    requires columns { 16 ≤ plane.now.width }
-    requires height { 0 < plane.now.height }
-    requires near { IsNear left }
-    requires beside { IsNear top }
-    ensures { (i c : ℕ) → i < rows → c < N → slice_index pixels.new (i * N + c)
-        ≡ horizontal_pass weights.now plane.now left top i c }
-{
-    let filter = row_filter(plane.width(), left, weights);
-    rows_by_filter::<N>(pixels, plane, top, &filter, weights, rows);
 }

@@ -3,12 +3,12 @@
 ghost use Rattle.std.specs.Prelude.{◌≡◌, ℕ, pos, ◌+◌, ◌*◌, ◌/◌, ◌%◌, ◌<◌, ◌≤◌, ◌+ℤ◌, ◌-ℤ◌, length, slice_index};
 ghost use Rattle.vp_lanes.specs.Lane.{lane};
 ghost use Rattle.vp_inter.specs.Filter.{filter_six};
-ghost use Rattle.vp_inter.specs.Narrow.{IsShort, SumsFitI16, sum_of_six};
+ghost use Rattle.vp_inter.specs.Narrow.{IsShort, SumsFitI16, sum_of_six, weight};
 ghost use Rattle.vp_inter.specs.Turns.{AreFar, one_of_three};
 
 use crate::block::put_lanes;
 use crate::filter::{load, rounded_pixels};
-use crate::madd::{alternating_madd, interleaved_pairs};
+use crate::madd::alternating_madd;
 use std::simd::prelude::*;
 
 /// Whether the first and the last weight are above 0. This only chooses a path: each gives the same pixels.
@@ -24,15 +24,27 @@ pub(crate) struct ColumnWeights {
     third: i8x16,
 }
 
+/// The weights in bytes, in the order 0 1 2 3 2 3 4 5, which takes two loads. The middle two stand there twice.
+fn byte_weights(weights: &[i16; 6]) -> i8x8
+    requires { SumsFitI16 weights.now }
+    ensures first { (lane result 0 ≡ weight weights.now 0) × (lane result 3 ≡ weight weights.now 3) }
+    ensures second { (lane result 1 ≡ weight weights.now 1) × (lane result 6 ≡ weight weights.now 4) }
+    ensures third { (lane result 2 ≡ weight weights.now 2) × (lane result 7 ≡ weight weights.now 5) }
+{
+    let [a, b, c, d, e, f] = *weights;
+    i16x8::from_array([a, b, c, d, c, d, e, f]).cast::<i8>()
+}
+
 /// The weights in alternating lanes, for rows.
 pub(crate) fn paired_column_weights(weights: &[i16; 6]) -> ColumnWeights
     requires { SumsFitI16 weights.now }
     ensures { AreFar weights.now result }
 {
+    let bytes = byte_weights(weights);
     ColumnWeights {
-        first: interleaved_pairs(weights[0], weights[3]),
-        second: interleaved_pairs(weights[1], weights[4]),
-        third: interleaved_pairs(weights[2], weights[5]),
+        first: bytes.swizzle::<16>([0, 3, 0, 3, 0, 3, 0, 3, 0, 3, 0, 3, 0, 3, 0, 3]),
+        second: bytes.swizzle::<16>([1, 6, 1, 6, 1, 6, 1, 6, 1, 6, 1, 6, 1, 6, 1, 6]),
+        third: bytes.swizzle::<16>([2, 7, 2, 7, 2, 7, 2, 7, 2, 7, 2, 7, 2, 7, 2, 7]),
     }
 }
 

@@ -7,16 +7,19 @@ ghost use Rattle.vp_base.specs.Raster.{pixel};
 ghost use Rattle.vp_inter.specs.Filter.{filter_six};
 ghost use Rattle.vp_inter.specs.Inter.{horizontal_pass, IsInside};
 ghost use Rattle.vp_inter.specs.Narrow.{IsNear, SumsFitI16};
+ghost use Rattle.vp_inter.specs.Patches.{patch_pass};
 ghost use Rattle.vp_inter.specs.Strips.{AreStrips, HoldsRows, Interleave, IsPair, SelectsWide};
 ghost use Rattle.vp_inter.specs.Turns.{AreFar, AreLanes};
 
 use crate::block::put_lanes;
 use crate::filter::load;
+use crate::patch::Patch;
 use crate::reference::{Flat, lies_inside};
 use crate::short_rows::{RowFilter, filtered_row, row_filter};
 use crate::six_tap_1d::{ColumnWeights, joined};
 use crate::strip::{
-    Strip, StripFilter, empty_strip, filtered_pairs, pair_of, put_halves, strip_filter,
+    Strip, StripFilter, empty_strip, filter_to_strip, filtered_pairs, pair_of, put_halves,
+    strip_filter,
 };
 use std::simd::prelude::*;
 use vp_base::Plane;
@@ -81,6 +84,7 @@ fn wide_filter(size: usize, left: i32, weights: &[i16; 6]) -> WideFilter
     ensures beside { result.right.start + 16 ≤ size }
     ensures lanes { AreLanes result.left × AreLanes result.right }
     ensures turns { AreFar weights.now result.left.weights }
+    ensures same { AreFar weights.now result.right.weights }
     ensures places { SelectsWide result size left }
 {
     WideFilter {
@@ -117,68 +121,6 @@ fn wide_row<const INSIDE: bool>(
     )
 }
 
-/// The horizontal pass over 21 rows of the reference, to two strips. If `INSIDE`, they are inside the plane. The loop
-/// reads three rows before it writes them, since it reloads the weights after a write.
-#[inline(never)]
-fn rows_to_strips<const INSIDE: bool>(
-    left: &mut Strip,
-    right: &mut Strip,
-    plane: &Plane,
-    top: i32,
-    filter: &WideFilter,
-    weights: &[i16; 6],
-)
-    requires height { 0 < plane.now.height }
-    requires inside { IsTrue INSIDE → IsInside plane.now (pos 0) top 0 21 }
-    requires room { filter.now.left.start + 16 ≤ plane.now.width }
-    requires right { filter.now.right.start + 16 ≤ plane.now.width }
-    requires lanes { AreLanes filter.now.left × AreLanes filter.now.right }
-    requires turns { AreFar weights.now filter.now.left.weights }
-    requires gentle { SumsFitI16 weights.now }
-    requires beside { IsNear top }
-    ensures { (column : ℤ) → SelectsWide filter.now plane.now.width column
-        → AreStrips left.new right.new (horizontal_pass weights.now plane.now column top) }
-{
-    let flat = Flat::of(plane);
-    let own = *filter;
-    for e in 0..7 {
-        let first = wide_row::<INSIDE>(&flat, top, 3 * e, &own, weights, &filter.left.weights);
-        let second = wide_row::<INSIDE>(&flat, top, 3 * e + 1, &own, weights, &filter.left.weights);
-        let third = wide_row::<INSIDE>(&flat, top, 3 * e + 2, &own, weights, &filter.left.weights);
-        put_halves(&mut left.first, &mut right.first, e, first);
-        put_halves(&mut left.second, &mut right.second, e, second);
-        put_halves(&mut left.third, &mut right.third, e, third);
-    }
-}
-
-/// The horizontal pass over 21 rows of the reference, to two strips. It reads directly from the plane if all rows are
-/// inside.
-#[inline(always)]
-fn filter_rows_of_16(
-    left: &mut Strip,
-    right: &mut Strip,
-    plane: &Plane,
-    top: i32,
-    filter: &WideFilter,
-    weights: &[i16; 6],
-)
-    requires height { 0 < plane.now.height }
-    requires room { filter.now.left.start + 16 ≤ plane.now.width }
-    requires right { filter.now.right.start + 16 ≤ plane.now.width }
-    requires lanes { AreLanes filter.now.left × AreLanes filter.now.right }
-    requires turns { AreFar weights.now filter.now.left.weights }
-    requires gentle { SumsFitI16 weights.now }
-    requires beside { IsNear top }
-    ensures { (column : ℤ) → SelectsWide filter.now plane.now.width column
-        → AreStrips left.new right.new (horizontal_pass weights.now plane.now column top) }
-{
-    if lies_inside(plane, 0, top, 0, 21) {
-        rows_to_strips::<true>(left, right, plane, top, filter, weights);
-    } else {
-        rows_to_strips::<false>(left, right, plane, top, filter, weights);
-    }
-}
-
 /// The horizontal pass over `rows` rows of the reference. If `INSIDE`, they are inside the plane.
 #[inline(never)]
 fn rows_to_block<const INSIDE: bool>(
@@ -212,24 +154,15 @@ fn rows_to_block<const INSIDE: bool>(
 
 /// The horizontal pass over `rows` rows of the reference, which has at least sixteen columns. It takes the columns
 /// beyond the plane like any others.
-pub(crate) fn filter_wide_rows(
-    pixels: &mut [u8],
-    plane: &Plane,
-    left: i32,
-    top: i32,
-    weights: &[i16; 6],
-    rows: usize,
-)
+pub(crate) fn filter_wide_rows(pixels: &mut [u8], patch: &Patch, weights: &[i16; 6], rows: usize)
     requires rows { rows ≤ 22 }
     requires all { length pixels.old ≡ rows * 16 }
     requires gentle { SumsFitI16 weights.now }
-    requires columns { 16 ≤ plane.now.width }
-    requires height { 0 < plane.now.height }
-    requires near { IsNear left }
-    requires beside { IsNear top }
+    requires columns { 16 ≤ patch.now.plane.now.width }
     ensures { (i c : ℕ) → i < rows → c < 16 → slice_index pixels.new (i * 16 + c)
-        ≡ horizontal_pass weights.now plane.now left top i c }
+        ≡ patch_pass weights.now patch.now i c }
 {
+    let Patch { plane, left, top } = *patch;
     let filter = wide_filter(plane.width(), left, weights);
     if lies_inside(plane, 0, top, 0, rows) {
         rows_to_block::<true>(pixels, plane, top, &filter, weights, rows);
@@ -358,33 +291,23 @@ pub(crate) fn filter_columns_of_16(
 /// Both passes over a block of the reference, which has at least sixteen columns.
 pub(crate) fn six_tap_2d_block(
     pixels: &mut [u8],
-    plane: &Plane,
-    left: i32,
-    top: i32,
+    patch: &Patch,
     row_weights: &[i16; 6],
     column_weights: &[i16; 6],
 )
     requires whole { length pixels.old ≡ 256 }
     requires rows { SumsFitI16 row_weights.now }
     requires columns { SumsFitI16 column_weights.now }
-    requires width { 16 ≤ plane.now.width }
-    requires height { 0 < plane.now.height }
-    requires near { IsNear left }
-    requires beside { IsNear top }
+    requires width { 16 ≤ patch.now.plane.now.width }
     ensures { (r c : ℕ) → r < 16 → c < 16 → slice_index pixels.new (r * 16 + c)
-        ≡ filter_six column_weights.now (λ k. horizontal_pass row_weights.now plane.now left top (r + k) c) }
+        ≡ filter_six column_weights.now (λ k. patch_pass row_weights.now patch.now (r + k) c) }
 {
+    let Patch { plane, left, top } = *patch;
     let filter = wide_filter(plane.width(), left, row_weights);
     let mut left_strip = empty_strip();
     let mut right_strip = empty_strip();
-    filter_rows_of_16(
-        &mut left_strip,
-        &mut right_strip,
-        plane,
-        top,
-        &filter,
-        row_weights,
-    );
+    filter_to_strip::<21>(&mut left_strip, plane, top, &filter.left, row_weights);
+    filter_to_strip::<21>(&mut right_strip, plane, top, &filter.right, row_weights);
     let down = strip_filter(column_weights);
     filter_strips(pixels, &left_strip, &right_strip, column_weights, &down);
 }

@@ -1,13 +1,13 @@
 //! The vertical pass over strips of eight columns, by multiply-add of bytes (RFC 6386, chapter 18.3). Each row of a
 //! strip is followed by the row three below, so that one load gives both.
 
-ghost use Rattle.std.specs.Prelude.{◌≡◌, ℕ, ℤ, pos, ◌+◌, ◌*◌, ◌<◌, ◌≤◌, ◌+ℤ◌, ◌<ℤ◌, ◌≤ℤ◌, length, slice_index};
-ghost use Rattle.std.specs.Prelude.{IsTrue};
+ghost use Rattle.std.specs.Prelude.{◌≡◌, ℕ, ℤ, pos, ◌+◌, ◌*◌, ◌<◌, ◌≤◌, ◌+ℤ◌, ◌<ℤ◌, ◌≤ℤ◌, ◌⊎◌, length};
+ghost use Rattle.std.specs.Prelude.{slice_index, IsTrue};
 ghost use Rattle.vp_base.specs.Raster.{pixel};
 ghost use Rattle.vp_inter.specs.Filter.{filter_six};
 ghost use Rattle.vp_inter.specs.Inter.{nearest, horizontal_pass, IsInside};
 ghost use Rattle.vp_inter.specs.Narrow.{IsNear, SumsFitI16};
-ghost use Rattle.vp_inter.specs.Strips.{HoldsRows, IsShortStrip, IsPaired, Interleave};
+ghost use Rattle.vp_inter.specs.Strips.{HasRows, HoldsRows, IsStrip, IsShortStrip, IsPaired, Interleave};
 ghost use Rattle.vp_inter.specs.Turns.{AreFar, AreLanes, SelectsPairs};
 
 use crate::block::put_lanes;
@@ -223,132 +223,131 @@ pub(crate) fn put_halves(left: &mut [u8], right: &mut [u8], e: usize, row: u8x16
     put_lanes::<8>(right, e, back_of(row));
 }
 
-/// Filters eight pixels of both chroma planes horizontally, of the row that is `i` rows below `top`. If `INSIDE`, it is
-/// inside the planes.
+/// Filters eight pixels horizontally of each of two rows: `i` rows below `top`, and three rows below that. If `INSIDE`,
+/// both are inside the plane.
 #[inline(always)]
-fn chroma_row<const INSIDE: bool>(
-    u: &Flat,
-    v: &Flat,
+fn three_apart<const INSIDE: bool>(
+    plane: &Flat,
     top: i32,
     i: usize,
     filter: &RowFilter,
     weights: &[i16; 6],
     far: &ColumnWeights,
 ) -> u8x16
-    requires u_room { filter.now.start + 16 ≤ u.now.width }
-    requires v_room { filter.now.start + 16 ≤ v.now.width }
-    requires some { 0 < u.now.height }
-    requires alike { u.now.height ≡ v.now.height }
-    requires near { i ≤ 21 }
+    requires room { filter.now.start + 16 ≤ plane.now.width }
+    requires some { 0 < plane.now.height }
+    requires near { i ≤ 18 }
     requires beside { IsNear top }
-    requires inside { IsTrue INSIDE → (pos 0 ≤ℤ top) × ((top +ℤ pos i) <ℤ pos u.now.height) }
+    requires inside { IsTrue INSIDE → (pos 0 ≤ℤ top) × ((top +ℤ pos (i + 3)) <ℤ pos plane.now.height) }
     requires lanes { AreLanes filter.now }
     requires gentle { SumsFitI16 weights.now }
     requires turns { AreFar weights.now far.now }
-    ensures front { (left : ℤ) → SelectsPairs filter.now (λ c. nearest u.now.width (left +ℤ pos c)) → (c : ℕ)
-        → c < 8 → slice_index result c ≡ horizontal_pass weights.now u.now left top i c }
-    ensures back { (left : ℤ) → SelectsPairs filter.now (λ c. nearest v.now.width (left +ℤ pos c)) → (c : ℕ)
-        → c < 8 → slice_index result (8 + c) ≡ horizontal_pass weights.now v.now left top i c }
+    ensures upper { (left : ℤ) → SelectsPairs filter.now (λ c. nearest plane.now.width (left +ℤ pos c)) → (c : ℕ)
+        → c < 8 → slice_index result c ≡ horizontal_pass weights.now plane.now left top i c }
+    ensures lower { (left : ℤ) → SelectsPairs filter.now (λ c. nearest plane.now.width (left +ℤ pos c)) → (c : ℕ)
+        → c < 8 → slice_index result (8 + c) ≡ horizontal_pass weights.now plane.now left top (i + 3) c }
 {
     joined(
-        filtered_row::<INSIDE>(u, top, i, filter, weights, far),
-        filtered_row::<INSIDE>(v, top, i, filter, weights, far),
+        filtered_row::<INSIDE>(plane, top, i, filter, weights, far),
+        filtered_row::<INSIDE>(plane, top, i + 3, filter, weights, far),
     )
 }
 
-/// The horizontal pass over 13 rows of both chroma planes, to two strips. If `INSIDE`, they are inside the planes. The
-/// loop reads three rows before it writes them, since it reloads the weights after a write.
-#[inline(never)]
-fn chroma_to_strips<const INSIDE: bool>(
-    u_strip: &mut Strip,
-    v_strip: &mut Strip,
-    u: &Plane,
-    v: &Plane,
+/// The horizontal pass over rows `6 * e` to `6 * e + 5` of the reference, to a strip that has those above. If `INSIDE`,
+/// they are inside the plane.
+#[inline(always)]
+fn put_six_rows<const INSIDE: bool>(
+    strip: &mut Strip,
+    plane: &Flat,
     top: i32,
+    e: usize,
     filter: &RowFilter,
     weights: &[i16; 6],
+    far: &ColumnWeights,
 )
-    requires room { filter.now.start + 16 ≤ u.now.width }
-    requires height { 0 < u.now.height }
-    requires wide { u.now.width ≡ v.now.width }
-    requires high { u.now.height ≡ v.now.height }
-    requires inside { IsTrue INSIDE → IsInside u.now (pos 0) top 0 13 }
+    requires place { e < 3 }
+    requires room { filter.now.start + 16 ≤ plane.now.width }
+    requires some { 0 < plane.now.height }
+    requires beside { IsNear top }
+    requires inside { IsTrue INSIDE → (pos 0 ≤ℤ top) × ((top +ℤ pos (6 * e + 5)) <ℤ pos plane.now.height) }
     requires lanes { AreLanes filter.now }
     requires gentle { SumsFitI16 weights.now }
-    requires turns { AreFar weights.now filter.now.weights }
-    requires beside { IsNear top }
-    ensures u { (left : ℤ) → SelectsPairs filter.now (λ c. nearest u.now.width (left +ℤ pos c))
-        → IsShortStrip u_strip.new (horizontal_pass weights.now u.now left top) }
-    ensures v { (left : ℤ) → SelectsPairs filter.now (λ c. nearest v.now.width (left +ℤ pos c))
-        → IsShortStrip v_strip.new (horizontal_pass weights.now v.now left top) }
+    requires turns { AreFar weights.now far.now }
+    ensures { (left : ℤ) → SelectsPairs filter.now (λ c. nearest plane.now.width (left +ℤ pos c))
+        → IsStrip strip.old (horizontal_pass weights.now plane.now left top) (2 * e)
+        → IsStrip strip.new (horizontal_pass weights.now plane.now left top) (2 * (e + 1)) }
 {
-    let u_flat = Flat::of(u);
-    let v_flat = Flat::of(v);
-    let own = *filter;
-    for e in 0..4 {
-        let first = chroma_row::<INSIDE>(
-            &u_flat,
-            &v_flat,
-            top,
-            3 * e,
-            &own,
-            weights,
-            &filter.weights,
-        );
-        let second = chroma_row::<INSIDE>(
-            &u_flat,
-            &v_flat,
-            top,
-            3 * e + 1,
-            &own,
-            weights,
-            &filter.weights,
-        );
-        let third = chroma_row::<INSIDE>(
-            &u_flat,
-            &v_flat,
-            top,
-            3 * e + 2,
-            &own,
-            weights,
-            &filter.weights,
-        );
-        put_halves(&mut u_strip.first, &mut v_strip.first, e, first);
-        put_halves(&mut u_strip.second, &mut v_strip.second, e, second);
-        put_halves(&mut u_strip.third, &mut v_strip.third, e, third);
-    }
-    let last = chroma_row::<INSIDE>(&u_flat, &v_flat, top, 12, &own, weights, &filter.weights);
-    put_halves(&mut u_strip.first, &mut v_strip.first, 4, last);
+    let first = three_apart::<INSIDE>(plane, top, 6 * e, filter, weights, far);
+    let second = three_apart::<INSIDE>(plane, top, 6 * e + 1, filter, weights, far);
+    let third = three_apart::<INSIDE>(plane, top, 6 * e + 2, filter, weights, far);
+    put_two::<8>(&mut strip.first, e, first);
+    put_two::<8>(&mut strip.second, e, second);
+    put_two::<8>(&mut strip.third, e, third);
 }
 
-/// The horizontal pass over 13 rows of both chroma planes of the reference, to two strips. It reads directly from the
-/// planes if all rows are inside.
-#[inline(always)]
-pub(crate) fn filter_chroma_rows(
-    u_strip: &mut Strip,
-    v_strip: &mut Strip,
-    u: &Plane,
-    v: &Plane,
+/// The horizontal pass over 13 or 21 rows of the reference, to a strip. If `INSIDE`, they are inside the plane. Rows
+/// are read before others are written, since the weights are reloaded after a write.
+#[inline(never)]
+fn put_rows<const INSIDE: bool, const ROWS: usize>(
+    strip: &mut Strip,
+    plane: &Plane,
     top: i32,
     filter: &RowFilter,
     weights: &[i16; 6],
 )
-    requires room { filter.now.start + 16 ≤ u.now.width }
-    requires height { 0 < u.now.height }
-    requires wide { u.now.width ≡ v.now.width }
-    requires high { u.now.height ≡ v.now.height }
+    requires rows { (ROWS ≡ 13) ⊎ (ROWS ≡ 21) }
+    requires height { 0 < plane.now.height }
+    requires inside { IsTrue INSIDE → IsInside plane.now (pos 0) top 0 ROWS }
+    requires room { filter.now.start + 16 ≤ plane.now.width }
     requires lanes { AreLanes filter.now }
     requires gentle { SumsFitI16 weights.now }
     requires turns { AreFar weights.now filter.now.weights }
     requires beside { IsNear top }
-    ensures u { (left : ℤ) → SelectsPairs filter.now (λ c. nearest u.now.width (left +ℤ pos c))
-        → IsShortStrip u_strip.new (horizontal_pass weights.now u.now left top) }
-    ensures v { (left : ℤ) → SelectsPairs filter.now (λ c. nearest v.now.width (left +ℤ pos c))
-        → IsShortStrip v_strip.new (horizontal_pass weights.now v.now left top) }
+    ensures { (left : ℤ) → SelectsPairs filter.now (λ c. nearest plane.now.width (left +ℤ pos c))
+        → HasRows ROWS strip.new (horizontal_pass weights.now plane.now left top) }
 {
-    if lies_inside(u, 0, top, 0, 13) {
-        chroma_to_strips::<true>(u_strip, v_strip, u, v, top, filter, weights);
+    let flat = Flat::of(plane);
+    let own = *filter;
+    let far = &filter.weights;
+    put_six_rows::<INSIDE>(strip, &flat, top, 0, &own, weights, far);
+    put_six_rows::<INSIDE>(strip, &flat, top, 1, &own, weights, far);
+    if ROWS == 13 {
+        let last = filtered_row::<INSIDE>(&flat, top, 12, &own, weights, far);
+        put_lanes::<8>(&mut strip.first, 4, last);
+        return;
+    }
+    put_six_rows::<INSIDE>(strip, &flat, top, 2, &own, weights, far);
+    let first = filtered_row::<INSIDE>(&flat, top, 18, &own, weights, far);
+    let second = filtered_row::<INSIDE>(&flat, top, 19, &own, weights, far);
+    let third = filtered_row::<INSIDE>(&flat, top, 20, &own, weights, far);
+    put_lanes::<8>(&mut strip.first, 6, first);
+    put_lanes::<8>(&mut strip.second, 6, second);
+    put_lanes::<8>(&mut strip.third, 6, third);
+}
+
+/// The horizontal pass over 13 or 21 rows of the reference, to a strip. It reads directly from the plane if all rows
+/// are inside.
+#[inline(always)]
+pub(crate) fn filter_to_strip<const ROWS: usize>(
+    strip: &mut Strip,
+    plane: &Plane,
+    top: i32,
+    filter: &RowFilter,
+    weights: &[i16; 6],
+)
+    requires rows { (ROWS ≡ 13) ⊎ (ROWS ≡ 21) }
+    requires height { 0 < plane.now.height }
+    requires room { filter.now.start + 16 ≤ plane.now.width }
+    requires lanes { AreLanes filter.now }
+    requires gentle { SumsFitI16 weights.now }
+    requires turns { AreFar weights.now filter.now.weights }
+    requires beside { IsNear top }
+    ensures { (left : ℤ) → SelectsPairs filter.now (λ c. nearest plane.now.width (left +ℤ pos c))
+        → HasRows ROWS strip.new (horizontal_pass weights.now plane.now left top) }
+{
+    if lies_inside(plane, 0, top, 0, ROWS) {
+        put_rows::<true, ROWS>(strip, plane, top, filter, weights);
     } else {
-        chroma_to_strips::<false>(u_strip, v_strip, u, v, top, filter, weights);
+        put_rows::<false, ROWS>(strip, plane, top, filter, weights);
     }
 }

@@ -6,23 +6,27 @@ use Rattle.vp_inter.proofs.PassLemmas.{rows_more}
 use Rattle.vp_inter.proofs.block.copied_rows.Goals as goal
 
 pub plain_row-row-requires : goal.plain_row-row-requires
-plain_row-row-requires g c = (
-  omega arith,
-  (
-    omega arith,
-    (
-      (λ t. let i = c.lies_inside-inside.ensures t in (i.0, omega (arith, ints), omega (arith, ints), omega (arith, ints))),
-      (rw c.of-flat.ensures.width c.requires.columns, (rw c.of-flat.ensures.height c.requires.height, (omega (arith, ints), omega (arith, ints)))),
-    ),
-  ),
-)
+plain_row-row-requires g c =
+    let near = c.args.patch.now.near in
+    let beside = c.args.patch.now.beside in (
+      omega arith,
+      (
+        omega arith,
+        (
+          (λ t. let i = c.lies_inside-inside.ensures t in (i.0, omega (arith, ints), omega (arith, ints), omega (arith, ints))),
+          (rw c.of-flat.ensures.width c.args.patch.now.wide, (rw c.of-flat.ensures.height c.args.patch.now.high, (omega (arith, ints), omega (arith, ints)))),
+        ),
+      ),
+    )
 
 pub loop-r-preserved : goal.loop-r-preserved
 loop-r-preserved g c =
-    let p : Raster = c.args.plane.now in
-    let left : ℤ = to_z w32 (of_z w32 c.args.left) in
-    let top : ℤ = to_z w32 (of_z w32 c.args.top) in
+    let p : Raster = c.args.patch.now.plane.now in
+    let left : ℤ = to_z w32 (of_z w32 c.args.patch.now.left) in
+    let top : ℤ = to_z w32 (of_z w32 c.args.patch.now.top) in
     let value : ℕ → ℕ → ℕ = λ (k i : ℕ). reference_pixel p (left +ℤ pos i) (top +ℤ pos k) in
+    let near = c.args.patch.now.near in
+    let beside = c.args.patch.now.beside in
     let row : to_z w32 (of_z w32 (top +ℤ to_z w32 c.loop-r.r)) ≡ top +ℤ pos c.loop-r.r = omega (arith, ints) in
     let last : (k : ℕ) → k < g.row.N → get_or c.plain_row-row.result k 0 ≡ value c.loop-r.r k =
     λ k kin. c.plain_row-row.ensures k kin

@@ -5,5 +5,5 @@ use Rattle.vp_inter.proofs.block.copied_rows.Given as goal
 abbrev pub invariant-loop-r : goal.invariant-loop-r
 invariant-loop-r g l = record {
   size : length l.pixels ≡ g.row.L;
-  done : (k c : ℕ) → k < l.r → c < g.row.N → get_or l.pixels (k * g.row.N + c) 0 ≡ reference_pixel l.plane (l.left +ℤ pos c) (l.top +ℤ pos k);
+  done : (k c : ℕ) → k < l.r → c < g.row.N → get_or l.pixels (k * g.row.N + c) 0 ≡ reference_pixel l.patch.plane.now (l.left +ℤ pos c) (l.top +ℤ pos k);
 }

@@ -23,9 +23,9 @@ returns-then-this-ne0 g c k kin =
     ∙ filter_six-same w (λ i. get_or line (start + i * 1 + k) 0) (λ i. reference_pixel p (c.args.left +ℤ pos (k + i)) c.args.row)
     (λ i iin.
     let place : start + i * 1 + k ≡ start + (k + i) = omega arith in
-    let below : k + i < g.row.W = omega arith in
+    let below : k + i < g.row.N + 5 = omega arith in
     ap (λ (j : ℕ). get_or line j 0) place
-    ∙ line_straight p line c.args.left c.args.row start y g.row.W (k + i) (c.requires.inside (is_set g.row.INSIDE c.if-this-ne0.true)) c.row.ensures.value c.row.ensures.len
+    ∙ line_straight p line c.args.left c.args.row start y (g.row.N + 5) (k + i) (c.requires.inside (is_set g.row.INSIDE c.if-this-ne0.true)) c.row.ensures.value c.row.ensures.len
     (ap nat_abs (to_z-of_z w32 c.args.left c.ranges.left)) (ap nat_abs (to_z-of_z w32 c.args.row c.ranges.row)) below)
 
 pub returns : goal.returns
@@ -38,7 +38,7 @@ returns g c k kin =
     ∙ filter_six-same w (λ i. get_or line (0 + i * 1 + k) 0) (λ i. reference_pixel p (c.args.left +ℤ pos (k + i)) c.args.row)
     (λ i iin.
     let place : 0 + i * 1 + k ≡ k + i = omega arith in
-    let below : k + i < g.row.W = omega arith in
+    let below : k + i < g.row.N + 5 = omega arith in
     ap (λ (j : ℕ). get_or line j 0) place
     ∙ c.reference_line-line.ensures (k + i) (omega arith)
     ∙ ap (λ (z : ℤ). reference_pixel p (z +ℤ pos (k + i)) row) (to_z-of_z w32 c.args.left c.ranges.left)

@@ -1,7 +1,13 @@
-use Rattle.std.proofs.Common.{◌≡◌, ◌∙◌, ◌+◌, ◌*◌, ◌<◌, ℕ, ℤ, ap, get_or, arith, to_z, of_z, w32}
-use Rattle.std.proofs.lemmas.Int.{to_z-of_z}
-use Rattle.vp_inter.specs.Inter.{horizontal_pass}
+use Rattle.std.proofs.Common.{◌≡◌, ◌∙◌, ◌+◌, ◌*◌, ◌<◌, ℕ, ap, refl, get_or, arith}
+use Rattle.std.proofs.lemmas.Int.{ints}
 use Rattle.vp_inter.proofs.block.other_rows.Goals as goal
+
+pub horizontal_by_taps-requires-clause-inside : goal.horizontal_by_taps-requires-clause-inside
+horizontal_by_taps-requires-clause-inside g c t =
+    let i = c.if-lies_inside.ensures refl in
+    let near = c.args.patch.now.near in
+    let beside = c.args.patch.now.beside in
+    (omega (arith, ints), omega (arith, ints), omega (arith, ints), omega (arith, ints))
 
 pub returns-then-has_six_taps : goal.returns-then-has_six_taps
 returns-then-has_six_taps g c i k iin kin =
@@ -9,5 +15,3 @@ returns-then-has_six_taps g c i k iin kin =
     let within : k < 16 = omega arith in
     ap (λ (n : ℕ). get_or c.filter_wide_rows.new.pixels (i * n + k) 0) sixteen
     ∙ c.filter_wide_rows.ensures i k iin within
-    ∙ ap (λ (z : ℤ). horizontal_pass c.args.weights.now c.args.plane.now z (to_z w32 (of_z w32 c.args.top)) i k) (to_z-of_z w32 c.args.left c.ranges.left)
-    ∙ ap (λ (z : ℤ). horizontal_pass c.args.weights.now c.args.plane.now c.args.left z i k) (to_z-of_z w32 c.args.top c.ranges.top)

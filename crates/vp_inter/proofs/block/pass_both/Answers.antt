@@ -1,7 +1,5 @@
-use Rattle.std.proofs.Common.{◌≡◌, ◌∙◌, ◌+◌, ◌*◌, ◌<◌, ℕ, ℤ, List, ap, get_or, arith, to_z, of_z, w32}
-use Rattle.std.proofs.lemmas.Int.{to_z-of_z}
-use Rattle.vp_inter.specs.Filter.{filter_six}
-use Rattle.vp_inter.specs.Inter.{horizontal_pass}
+use Rattle.std.proofs.Common.{◌≡◌, ◌∙◌, ◌+◌, ◌*◌, ◌<◌, ℕ, List, ap, get_or, arith}
+use Rattle.vp_inter.specs.Patches.{patch_pass}
 use Rattle.vp_inter.proofs.FilterLemmas.{filter_six-same}
 use Rattle.vp_inter.proofs.block.pass_both.Goals as goal
 
@@ -10,14 +8,10 @@ returns-then-has_six_taps g c r k rin kin =
     let sixteen : g.row.N ≡ 16 = c.if-this-eq16.true in
     ap (λ (n : ℕ). get_or c.six_tap_2d_block.new.pixels (r * n + k) 0) sixteen
     ∙ c.six_tap_2d_block.ensures r k (let h : r < 16 = omega arith in h) (let h : k < 16 = omega arith in h)
-    ∙ ap (λ (z : ℤ). filter_six c.args.column_weights.now (λ j. horizontal_pass c.args.row_weights.now c.args.plane.now z (to_z w32 (of_z w32 c.args.top)) (r + j) k)) (to_z-of_z w32 c.args.left c.ranges.left)
-    ∙ ap (λ (z : ℤ). filter_six c.args.column_weights.now (λ j. horizontal_pass c.args.row_weights.now c.args.plane.now c.args.left z (r + j) k)) (to_z-of_z w32 c.args.top c.ranges.top)
 
 pub returns : goal.returns
 returns g c r k rin kin =
     let rows : List ℕ = c.pass_rows.new.pixels in
     c.pass_columns.ensures r k rin kin
-    ∙ filter_six-same c.args.column_weights.now (λ j. get_or rows ((r + j) * g.row.N + k) 0) (λ j. horizontal_pass c.args.row_weights.now c.args.plane.now c.args.left c.args.top (r + j) k)
-    (λ j jin. c.pass_rows.ensures (r + j) k (let h : r + j < g.row.W = omega arith in h) kin
-    ∙ ap (λ (z : ℤ). horizontal_pass c.args.row_weights.now c.args.plane.now z (to_z w32 (of_z w32 c.args.top)) (r + j) k) (to_z-of_z w32 c.args.left c.ranges.left)
-    ∙ ap (λ (z : ℤ). horizontal_pass c.args.row_weights.now c.args.plane.now c.args.left z (r + j) k) (to_z-of_z w32 c.args.top c.ranges.top))
+    ∙ filter_six-same c.args.column_weights.now (λ j. get_or rows ((r + j) * g.row.N + k) 0) (λ j. patch_pass c.args.row_weights.now c.args.patch.now (r + j) k)
+    (λ j jin. c.pass_rows.ensures (r + j) k (let h : r + j < g.row.N + 5 = omega arith in h) kin)

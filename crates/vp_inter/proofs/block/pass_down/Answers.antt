@@ -1,6 +1,7 @@
-use Rattle.std.proofs.Common.{◌≡◌, ◌∙◌, ℕ, ℤ, pos, ◌+◌, ◌*◌, ◌<◌, ◌+ℤ◌, List, ap, sym, refl, get_or, arith, w32}
+use Rattle.std.proofs.Common.{◌≡◌, ◌∙◌, ℕ, ℤ, pos, ◌+◌, ◌*◌, ◌<◌, ◌+ℤ◌, List, ap, sym, refl, get_or, arith, rules, w32}
 use Rattle.std.proofs.lemmas.Int.{ints, to_z-of_z}
 use lib.IntN.{nat_abs}
+use mir.Val.{SFits}
 use Rattle.vp_base.specs.Raster.{Raster, pixel}
 use Rattle.vp_inter.specs.Inter.{reference_pixel, IsInside}
 use Rattle.vp_inter.proofs.FilterLemmas.{filter_six-same}
@@ -24,38 +25,41 @@ pub returns : goal.returns
 returns g c r k rin kin =
     let rows : List ℕ = c.copied_rows-rows.result in
     c.pass_columns.ensures r k rin kin
-    ∙ filter_six-same c.args.weights.now (λ j. get_or rows ((r + j) * g.row.N + k) 0) (λ j. reference_pixel c.args.plane.now (c.args.left +ℤ pos k) (c.args.top +ℤ pos (r + j)))
+    ∙ filter_six-same c.args.weights.now (λ j. get_or rows ((r + j) * g.row.N + k) 0) (λ j. reference_pixel c.args.patch.now.plane.now (c.args.patch.now.left +ℤ pos k) (c.args.patch.now.top +ℤ pos (r + j)))
     (λ j jin.
-    let within : r + j < g.row.W = omega arith in
-    c.copied_rows-rows.ensures.value (r + j) k within kin
-    ∙ moved c.args.plane.now (same c.args.left) (same c.args.top) c.args.left c.args.top (r + j) k (to_z-of_z w32 c.args.left c.ranges.left) (to_z-of_z w32 c.args.top c.ranges.top))
+    let within : r + j < g.row.N + 5 = omega arith in
+    c.copied_rows-rows.ensures.value (r + j) k within kin)
 
 pub returns-then-lies_inside : goal.returns-then-lies_inside
 returns-then-lies_inside g c r k rin kin =
-    let p : Raster = c.args.plane.now in
-    let left : ℕ = nat_abs (same c.args.left) in
-    let top : ℕ = nat_abs (same c.args.top) in
+    let p : Raster = c.args.patch.now.plane.now in
+    let left : ℕ = nat_abs (same c.args.patch.now.left) in
+    let top : ℕ = nat_abs (same c.args.patch.now.top) in
     let inside = c.if-lies_inside.ensures refl in
-    let el : same c.args.left ≡ c.args.left = to_z-of_z w32 c.args.left c.ranges.left in
-    let et : same c.args.top ≡ c.args.top = to_z-of_z w32 c.args.top c.ranges.top in
+    let left_fits : SFits w32 c.args.patch.now.left = search rules in
+    let top_fits : SFits w32 c.args.patch.now.top = search rules in
+    let el : same c.args.patch.now.left ≡ c.args.patch.now.left = to_z-of_z w32 c.args.patch.now.left left_fits in
+    let et : same c.args.patch.now.top ≡ c.args.patch.now.top = to_z-of_z w32 c.args.patch.now.top top_fits in
     let size : g.row.N ≡ 8 = c.if-this-eq8.true in
     ap (λ (n : ℕ). get_or c.filter_columns_of_8.new.pixels (r * n + k) 0) size
     ∙ c.filter_columns_of_8.ensures r k (let h : r < 8 = omega arith in h) (let h : k < 8 = omega arith in h)
-    ∙ filter_six-same c.args.weights.now (λ j. pixel p (left + k) (top + (r + j))) (λ j. reference_pixel p (c.args.left +ℤ pos k) (c.args.top +ℤ pos (r + j)))
-    (λ j jin. within p left top k (r + j) g.row.N g.row.W (same c.args.left) (same c.args.top) (natural (same c.args.left) inside.0) (natural (same c.args.top) inside.2) inside kin (let h : r + j < g.row.W = omega arith in h)
-    ∙ moved p (same c.args.left) (same c.args.top) c.args.left c.args.top (r + j) k el et)
+    ∙ filter_six-same c.args.weights.now (λ j. pixel p (left + k) (top + (r + j))) (λ j. reference_pixel p (c.args.patch.now.left +ℤ pos k) (c.args.patch.now.top +ℤ pos (r + j)))
+    (λ j jin. within p left top k (r + j) g.row.N (g.row.N + 5) (same c.args.patch.now.left) (same c.args.patch.now.top) (natural (same c.args.patch.now.left) inside.0) (natural (same c.args.patch.now.top) inside.2) inside kin (let h : r + j < g.row.N + 5 = omega arith in h)
+    ∙ moved p (same c.args.patch.now.left) (same c.args.patch.now.top) c.args.patch.now.left c.args.patch.now.top (r + j) k el et)
 
 pub returns-then-lies_inside-2 : goal.returns-then-lies_inside-2
 returns-then-lies_inside-2 g c r k rin kin =
-    let p : Raster = c.args.plane.now in
-    let left : ℕ = nat_abs (same c.args.left) in
-    let top : ℕ = nat_abs (same c.args.top) in
+    let p : Raster = c.args.patch.now.plane.now in
+    let left : ℕ = nat_abs (same c.args.patch.now.left) in
+    let top : ℕ = nat_abs (same c.args.patch.now.top) in
     let inside = c.if-lies_inside-2.ensures refl in
-    let el : same c.args.left ≡ c.args.left = to_z-of_z w32 c.args.left c.ranges.left in
-    let et : same c.args.top ≡ c.args.top = to_z-of_z w32 c.args.top c.ranges.top in
+    let left_fits : SFits w32 c.args.patch.now.left = search rules in
+    let top_fits : SFits w32 c.args.patch.now.top = search rules in
+    let el : same c.args.patch.now.left ≡ c.args.patch.now.left = to_z-of_z w32 c.args.patch.now.left left_fits in
+    let et : same c.args.patch.now.top ≡ c.args.patch.now.top = to_z-of_z w32 c.args.patch.now.top top_fits in
     let size : g.row.N ≡ 16 = c.if-this-eq16.true in
     ap (λ (n : ℕ). get_or c.filter_columns_of_16.new.pixels (r * n + k) 0) size
     ∙ c.filter_columns_of_16.ensures r k (let h : r < 16 = omega arith in h) (let h : k < 16 = omega arith in h)
-    ∙ filter_six-same c.args.weights.now (λ j. pixel p (left + k) (top + (r + j))) (λ j. reference_pixel p (c.args.left +ℤ pos k) (c.args.top +ℤ pos (r + j)))
-    (λ j jin. within p left top k (r + j) g.row.N g.row.W (same c.args.left) (same c.args.top) (natural (same c.args.left) inside.0) (natural (same c.args.top) inside.2) inside kin (let h : r + j < g.row.W = omega arith in h)
-    ∙ moved p (same c.args.left) (same c.args.top) c.args.left c.args.top (r + j) k el et)
+    ∙ filter_six-same c.args.weights.now (λ j. pixel p (left + k) (top + (r + j))) (λ j. reference_pixel p (c.args.patch.now.left +ℤ pos k) (c.args.patch.now.top +ℤ pos (r + j)))
+    (λ j jin. within p left top k (r + j) g.row.N (g.row.N + 5) (same c.args.patch.now.left) (same c.args.patch.now.top) (natural (same c.args.patch.now.left) inside.0) (natural (same c.args.patch.now.top) inside.2) inside kin (let h : r + j < g.row.N + 5 = omega arith in h)
+    ∙ moved p (same c.args.patch.now.left) (same c.args.patch.now.top) c.args.patch.now.left c.args.patch.now.top (r + j) k el et)

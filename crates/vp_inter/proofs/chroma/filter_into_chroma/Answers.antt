@@ -1,4 +1,4 @@
-use Rattle.std.proofs.Common.{◌≡◌, ◌∙◌, ◌+◌, ◌*◌, ◌<◌, ℕ, ℤ, pos, ◌+ℤ◌, List, get_or, sym, ap, subst, arith, w32, rules}
+use Rattle.std.proofs.Common.{◌≡◌, ◌∙◌, ◌+◌, ◌*◌, ◌<◌, ℕ, ℤ, pos, ◌+ℤ◌, List, get_or, refl, sym, ap, subst, arith, w32, rules}
 use Rattle.std.proofs.lemmas.Int.{ints, to_z-of_z}
 use mir.Val.{SFits}
 use Rattle.vp_base.specs.Raster.{Raster}
@@ -32,6 +32,11 @@ module _ (version x y : ℕ) (v : PlaneVector) (rows columns : List ℤ) (left t
       ∙ ap (λ (s : Raster). filter_six down (λ k. horizontal_pass across s (first_tap x v.column) (first_tap y v.row) (r + k) c)) is
       ∙ inter_passes version ref x y v r c)
 
+pub filter_to_strip-requires-2-clause-beside : goal.filter_to_strip-requires-2-clause-beside
+filter_to_strip-requires-2-clause-beside c =
+    let r = c.first_tap-top.ensures.range in
+    (omega (arith, ints), omega (arith, ints))
+
 pub returns : goal.returns
 returns c =
     let p : Image = c.args.picture.now in
@@ -60,8 +65,8 @@ returns c =
     let block = filtered c.args.version x y v c.taps-rows.result.now c.taps-columns.result.now left (same c.first_tap-top.result) el et er ec in
     let first = c.write_block.ensures
     ∙ ap (with_plane p 1) (block c.plane-u.result.now ref.u p.u c.filter_strip.new.pixels c.plane-u.ensures
-    (c.filter_strip.ensures (horizontal_pass c.taps-rows.result.now c.plane-u.result.now left (same c.first_tap-top.result)) (c.filter_chroma_rows.ensures.u left (selects c.plane-u.result.now.width c.width-2.ensures.value)))) in
+    (c.filter_strip.ensures (horizontal_pass c.taps-rows.result.now c.plane-u.result.now left (same c.first_tap-top.result)) ((c.filter_to_strip.ensures left (selects c.plane-u.result.now.width c.width-2.ensures.value)).0 refl))) in
     c.write_block-2.ensures
     ∙ ap (with_plane now 2) (block c.plane-v.result.now ref.v (plane_of now 2) c.filter_strip-2.new.pixels c.plane-v.ensures
-    (c.filter_strip-2.ensures (horizontal_pass c.taps-rows.result.now c.plane-v.result.now left (same c.first_tap-top.result)) (c.filter_chroma_rows.ensures.v left (selects c.plane-v.result.now.width wide_v))))
+    (c.filter_strip-2.ensures (horizontal_pass c.taps-rows.result.now c.plane-v.result.now left (same c.first_tap-top.result)) ((c.filter_to_strip-2.ensures left (selects c.plane-v.result.now.width wide_v)).0 refl)))
     ∙ ap (λ (i : Image). with_plane i 2 (with_block (plane_of i 2) x y 8 8 (inter_pixel c.args.version ref.v x y v))) first

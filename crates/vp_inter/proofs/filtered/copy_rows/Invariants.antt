@@ -6,5 +6,5 @@ use Rattle.vp_inter.proofs.filtered.copy_rows.Given as goal
 abbrev pub invariant-loop-i : goal.invariant-loop-i
 invariant-loop-i l = record {
   size : length l.rows ≡ 352;
-  done : AreRows l.rows l.i (λ i c. reference_pixel l.plane (l.left +ℤ pos c) (l.top +ℤ pos i));
+  done : AreRows l.rows l.i (λ i c. reference_pixel l.patch.plane.now (l.left +ℤ pos c) (l.top +ℤ pos i));
 }
