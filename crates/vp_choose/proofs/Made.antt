@@ -81,7 +81,7 @@ first_behind true b i h = absurd (omega arith)
 first_behind false true i h = absurd (omega arith)
 first_behind false false i h = (omega arith, refl, refl)
 
--- Only luma blocks behind a Y2 block begin at position 1.
+-- Only luma blocks after a Y2 block begin at position 1.
 only_luma : (k i : ℕ) → i < first_of (kind_of true k) → (i ≡ 0) × (0 < k) × (k ≤ 16)
 only_luma k i h =
     let is = first_behind (k == 0) (nat_lt 16 k) i h in

@@ -67,7 +67,7 @@ pub record IsRebuiltLuma (factors : Factors) (place : Place) (p : Raster) (s : S
 
 -- The prediction of the macroblock at a place of p. With B_PRED its luma is rebuilt already, by whatever tokens have
 -- the levels of its subblocks.
-pub record IsPredicted (predictor : Predictor) (factors : Factors) (place : Place) (p : Image) (c : Coding)
+pub record HasPrediction (predictor : Predictor) (factors : Factors) (place : Place) (p : Image) (c : Coding)
     : Type 0 where
   pub sub_modes : has_sub_modes predictor ≡ is_some c.subblocks
   pub y2 : has_y2 predictor ≡ not (is_some c.subblocks)

@@ -6,7 +6,7 @@ ghost use Rattle.vp_recon.specs.Predictor.{Predictor, macroblock_of, has_y2};
 ghost use Rattle.vp_recon.specs.Rebuilt.{rebuilt};
 ghost use Rattle.vp_choose.specs.Costs.{HasMacroblock};
 ghost use Rattle.vp_choose.specs.Levels.{ArePositive};
-ghost use Rattle.vp_choose.specs.Coding.{AreCut, AreSmall, AreWritable, IsPredicted, HasLevels, Completes};
+ghost use Rattle.vp_choose.specs.Coding.{AreCut, AreSmall, AreWritable, HasPrediction, HasLevels, Completes};
 
 use crate::frame::Choice;
 use crate::subblocks::Subblocks;
@@ -30,8 +30,7 @@ pub(crate) struct Coding {
 }
 
 impl Coding {
-    /// Completes the choice by the levels of the macroblock with these source pixels, and rebuilds it: adds their
-    /// residue to the prediction.
+    /// Quantises source minus prediction, adds the residue to the prediction in the picture, and returns the choice.
     pub(crate) fn complete(
         &self,
         source: &MacroblockPixels,
@@ -44,11 +43,11 @@ impl Coding {
         requires small { IfSome self.now.subblocks (λ s. AreSmall s.levels) }
         ensures completes { Completes self.now result }
         ensures levels { (original : Image) (predictor : Predictor) → AreCut original place source.now
-            → IsPredicted predictor factors.now place picture.old self.now
+            → HasPrediction predictor factors.now place picture.old self.now
             → HasLevels original predictor factors.now place picture.old self.now result.tokens }
-        ensures writable { (predictor : Predictor) → IsPredicted predictor factors.now place picture.old self.now
+        ensures writable { (predictor : Predictor) → HasPrediction predictor factors.now place picture.old self.now
             → AreWritable (has_y2 predictor) result.tokens }
-        ensures rebuilt { (predictor : Predictor) → IsPredicted predictor factors.now place picture.old self.now
+        ensures rebuilt { (predictor : Predictor) → HasPrediction predictor factors.now place picture.old self.now
             → picture.new ≡ rebuilt (macroblock_of predictor result.tokens factors.now) place picture.old }
     {
         let tokens = tokens_of(self, source, factors);

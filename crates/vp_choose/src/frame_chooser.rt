@@ -48,7 +48,7 @@ impl<'a> Model for FrameChooser<'a> {
 
 impl<'a> FrameChooser<'a> {
     /// Prepares the choice for the macroblocks of `frame`, whose search range is at most 64. May ask for the memory of
-    /// a motion searcher for each reference that is searched; where it is refused, choices take longer and are the
+    /// a motion searcher for each reference that is searched; if memory is refused, choices take longer and are the
     /// same.
     pub fn new(alloc: Global, frame: &FrameSearch<'a>) -> FrameChooser<'a>
         requires range { IfSome (lent_frame frame.now).search (λ s. s.range ≤ 64) }

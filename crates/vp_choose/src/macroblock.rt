@@ -18,7 +18,7 @@ ghost use Rattle.vp_recon.specs.Prediction.{luma_prediction, chroma_prediction};
 ghost use Rattle.vp_recon.specs.Rebuilt.{rebuilt};
 ghost use Rattle.vp_choose.specs.Costs.{HasMacroblock};
 ghost use Rattle.vp_choose.specs.Levels.{ArePositive};
-ghost use Rattle.vp_choose.specs.Coding.{AreCut, AreSmall, IsPredicted, HasLevels, Completes, IsRebuiltLuma};
+ghost use Rattle.vp_choose.specs.Coding.{AreCut, AreSmall, HasPrediction, HasLevels, Completes, IsRebuiltLuma};
 ghost use Rattle.vp_choose.specs.Intra.{IsIntra};
 ghost use Rattle.vp_choose.specs.Frame.{lent_frame, search_of, source_by, no_biases};
 ghost use Rattle.vp_choose.specs.Inter.{IsInter, IsInSearchRange, moved_source};
@@ -40,7 +40,7 @@ use vp_recon::MacroblockPixels;
 use vp_search::QuarterVector;
 use vp_tables::{ChromaMode, LumaMode, SubMode, VectorMode};
 
-/// Returns the luma that is kept of an intra macroblock: its prediction, or with B_PRED its rebuilt subblocks.
+/// Returns the luma prediction of an intra macroblock, or with B_PRED its rebuilt subblocks.
 fn kept_luma(plane: &Plane, place: Place, luma: &RebuiltLuma) -> [u8; 256]
     requires columns { 16 * place.column + 16 ≤ plane.now.width }
     requires rows { 16 * place.row + 16 ≤ plane.now.height }
@@ -89,7 +89,7 @@ fn intra_coding(
     requires { HasMacroblock picture.now place }
     ensures predicted { (factors : Factors) (c : Choice) → Completes result c
         → IsRebuiltLuma factors place picture.now.luma luma.now.luma.subblocks luma.now.rebuilt
-        → IsPredicted (Intra c.modes) factors place picture.now result }
+        → HasPrediction (Intra c.modes) factors place picture.now result }
     ensures intra { (source : Image) (factors : Factors) (c : Choice) → AreCut source place blocks.now
         → Completes result c → HasLevels source (Intra c.modes) factors place picture.now result c.tokens
         → IsIntra source factors place picture.now luma.now.luma c.modes c.tokens }
@@ -168,7 +168,7 @@ fn inter_coding(search: &Search, vectors: &VectorMap, place: Place, moved: &Move
     requires map { AreWithin 511 vectors.now }
     requires short { IsInSearchRange moved.now.vector }
     ensures predicted { (factors : Factors) (p : Image) (c : Choice) → Completes result c
-        → IsPredicted (moved_source (search_of search.now) moved.now c) factors place p result }
+        → HasPrediction (moved_source (search_of search.now) moved.now c) factors place p result }
     ensures inter { (source p : Image) (factors : Factors) (c : Choice) → Completes result c
         → HasLevels source (moved_source (search_of search.now) moved.now c) factors place p result c.tokens
         → IsInter source factors (search_of search.now) vectors.now place p moved.now c }

@@ -30,7 +30,7 @@ impl<'a> Searchers<'a> {
     }
 }
 
-/// Whether golden is searched for itself. Where it is the last frame's picture each vector costs the same in both, and
+/// Whether golden is searched for itself. If it is the last frame's picture, each vector costs the same in both, and
 /// the last frame is chosen.
 pub(crate) fn searches_golden(search: &Search) -> bool
     ensures asked { result ≡ true → search.now.golden ≡ true }
@@ -72,7 +72,7 @@ fn make_searchers<'a>(alloc: Global, search: &Search<'a>) -> Result<Searchers<'a
     Ok(Searchers { last, golden })
 }
 
-/// Makes the motion searchers; none where their range is too small to pay, where memory is refused, and in a key frame.
+/// Makes the motion searchers; none if their range is too small to pay, if memory is refused, or in a key frame.
 pub(crate) fn searchers_of<'a>(alloc: Global, frame: &FrameSearch<'a>) -> Searchers<'a>
     requires { IfSome (lent_frame frame.now).search (λ s. s.range ≤ 64) }
     ensures { AreSearchersOf (lent_frame frame.now).search result }

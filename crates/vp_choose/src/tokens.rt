@@ -8,7 +8,7 @@ ghost use Rattle.vp_recon.specs.Predictor.{Predictor};
 ghost use Rattle.vp_choose.specs.Levels.{ArePositive, HasLumaAndY2, HasChroma};
 ghost use Rattle.vp_choose.specs.Intra.{HasSubblocks};
 ghost use Rattle.vp_choose.specs.Coding.{AreCut, AreMade, AreOthersKept, AreSmall, AreWritable, HasLevels, HaveNoDc};
-ghost use Rattle.vp_choose.specs.Coding.{IsPredicted};
+ghost use Rattle.vp_choose.specs.Coding.{HasPrediction};
 
 use crate::coding::Coding;
 use crate::levels::{coefficients, part_of, quantised_levels};
@@ -98,7 +98,7 @@ pub(crate) fn tokens_of(coding: &Coding, source: &MacroblockPixels, factors: &Fa
     requires factors { ArePositive factors.now }
     requires small { IfSome coding.now.subblocks (λ s. AreSmall s.levels) }
     ensures levels { (picture old : Image) (place : Place) (predictor : Predictor) → AreCut picture place source.now
-        → IsPredicted predictor factors.now place old coding.now
+        → HasPrediction predictor factors.now place old coding.now
         → HasLevels picture predictor factors.now place old coding.now result }
     ensures by_subblocks { IfSome coding.now.subblocks (λ s. HasSubblocks s result) }
     ensures writable { AreWritable (not (is_some coding.now.subblocks)) result }

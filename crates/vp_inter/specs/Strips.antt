@@ -22,8 +22,8 @@ IsShortStrip strip pixel =
     HoldsRows strip.first pixel 0 5 × HoldsRows strip.second pixel 1 4 × HoldsRows strip.third pixel 2 4
 
 -- a strip with this many rows, 13 or 21
-abbrev pub HasRows : ℕ → Strip → (ℕ → ℕ → ℕ) → Type 0
-HasRows rows strip pixel = (rows ≡ 13 → IsShortStrip strip pixel) × (rows ≡ 21 → IsStrip strip pixel 7)
+abbrev pub IsStripOf : ℕ → Strip → (ℕ → ℕ → ℕ) → Type 0
+IsStripOf rows strip pixel = (rows ≡ 13 → IsShortStrip strip pixel) × (rows ≡ 21 → IsStrip strip pixel 7)
 
 -- row r and the row three below, interleaved
 abbrev pub IsPaired : List ℕ → (ℕ → ℕ → ℕ) → ℕ → Type 0

@@ -156,8 +156,8 @@ fn pass_down<const N: usize, const L: usize, const M: usize>(
     pass_columns::<N, M>(pixels, &rows, weights);
 }
 
-/// Both passes, with `N + 5` rows of `N` pixels, `L` in all, between them. A 16x16 block with six nonzero weights in both
-/// uses `six_tap_2d`.
+/// Both passes, with `N + 5` rows of `N` pixels, `L` in all, between them. A 16x16 block with six nonzero row weights
+/// uses `six_tap_2d_block`, if the plane has at least sixteen columns.
 fn pass_both<const N: usize, const L: usize, const M: usize>(
     pixels: &mut [u8],
     patch: &Patch,

@@ -24,7 +24,7 @@ pub(crate) struct ColumnWeights {
     third: i8x16,
 }
 
-/// The weights in bytes, in the order 0 1 2 3 2 3 4 5, which takes two loads. The middle two stand there twice.
+/// The weights in bytes, in the order 0 1 2 3 2 3 4 5, which takes two loads. The middle two are there twice.
 fn byte_weights(weights: &[i16; 6]) -> i8x8
     requires { SumsFitI16 weights.now }
     ensures first { (lane result 0 ≡ weight weights.now 0) × (lane result 3 ≡ weight weights.now 3) }

@@ -1,4 +1,4 @@
-//! The vertical pass over strips of eight columns, by multiply-add of bytes (RFC 6386, chapter 18.3). Each row of a
+//! The horizontal pass to strips of eight columns and the vertical pass over them, by multiply-add of bytes (RFC 6386, chapter 18.3). Each row of a
 //! strip is followed by the row three below, so that one load gives both.
 
 ghost use Rattle.std.specs.Prelude.{◌≡◌, ℕ, ℤ, pos, ◌+◌, ◌*◌, ◌<◌, ◌≤◌, ◌+ℤ◌, ◌<ℤ◌, ◌≤ℤ◌, ◌⊎◌, length};
@@ -7,7 +7,7 @@ ghost use Rattle.vp_base.specs.Raster.{pixel};
 ghost use Rattle.vp_inter.specs.Filter.{filter_six};
 ghost use Rattle.vp_inter.specs.Inter.{nearest, horizontal_pass, IsInside};
 ghost use Rattle.vp_inter.specs.Narrow.{IsNear, SumsFitI16};
-ghost use Rattle.vp_inter.specs.Strips.{HasRows, HoldsRows, IsStrip, IsShortStrip, IsPaired, Interleave};
+ghost use Rattle.vp_inter.specs.Strips.{IsStripOf, HoldsRows, IsStrip, IsShortStrip, IsPaired, Interleave};
 ghost use Rattle.vp_inter.specs.Turns.{AreFar, AreLanes, SelectsPairs};
 
 use crate::block::put_lanes;
@@ -304,7 +304,7 @@ fn put_rows<const INSIDE: bool, const ROWS: usize>(
     requires turns { AreFar weights.now filter.now.weights }
     requires beside { IsNear top }
     ensures { (left : ℤ) → SelectsPairs filter.now (λ c. nearest plane.now.width (left +ℤ pos c))
-        → HasRows ROWS strip.new (horizontal_pass weights.now plane.now left top) }
+        → IsStripOf ROWS strip.new (horizontal_pass weights.now plane.now left top) }
 {
     let flat = Flat::of(plane);
     let own = *filter;
@@ -343,7 +343,7 @@ pub(crate) fn filter_to_strip<const ROWS: usize>(
     requires turns { AreFar weights.now filter.now.weights }
     requires beside { IsNear top }
     ensures { (left : ℤ) → SelectsPairs filter.now (λ c. nearest plane.now.width (left +ℤ pos c))
-        → HasRows ROWS strip.new (horizontal_pass weights.now plane.now left top) }
+        → IsStripOf ROWS strip.new (horizontal_pass weights.now plane.now left top) }
 {
     if lies_inside(plane, 0, top, 0, ROWS) {
         put_rows::<true, ROWS>(strip, plane, top, filter, weights);

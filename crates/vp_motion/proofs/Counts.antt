@@ -5,7 +5,7 @@ use Rattle.std.proofs.lemmas.Bool.{cases_Bool, and_parts, eqb-true, false≢true
 use Rattle.vp_motion.specs.declared.vector.Nearby.{Nearby}
 use Rattle.vp_motion.specs.declared.vector.Weighted.{Weighted}
 use Rattle.vp_motion.specs.Vector.{Vector, zero_vector}
-use Rattle.vp_motion.specs.Near.{from_entries, from_two, first_candidate, weighted_at, same, same_number, still_weight, moving, onto, runs, nobody, weighed, Counts}
+use Rattle.vp_motion.specs.Near.{from_entries, from_two, first_candidate, weighted_at, same, same_number, still_weight, moving, onto, runs, nobody, weighted_vector, Counts}
 
 same_number-true : (m n : ℤ) → same_number m n ≡ true → m ≡ n
 same_number-true (pos m) (pos n) h = ap pos (eqb-true m n h)

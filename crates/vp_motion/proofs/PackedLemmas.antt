@@ -41,7 +41,7 @@ pub same-same : (v : Vector) → same v v ≡ true
 unfolding same
 same-same v = rw (same_number-same v.row, same_number-same v.column) refl
 
--- Two vectors are the same where their bits are.
+-- Two vectors are the same if their bits are.
 pub same-bits : (m n : ℕ) → m < 18446744073709551616 → n < 18446744073709551616 → nat_eq m n ≡ same (unpacked m) (unpacked n)
 same-bits m n h k = elim (cases_Bool (nat_eq m n)) [
   | inl t ↦ let e : m ≡ n = eqb-true m n t in t ∙ sym (rw e (same-same (unpacked n)))

@@ -170,9 +170,9 @@ abbrev pub best_of : Nearby → Vector
 best_of n = if nat_le n.zeros n.nearest.weight then n.nearest.vector else zero_vector
 
 -- the vector of a neighbour with its weight, if the neighbour has one
-abbrev pub weighed : ℕ → Option Vector → List Weighted
-weighed weight None = []
-weighed weight (Some v) = record { vector = v; weight = weight } ∷ []
+abbrev pub weighted_vector : ℕ → Option Vector → List Weighted
+weighted_vector weight None = []
+weighted_vector weight (Some v) = record { vector = v; weight = weight } ∷ []
 
 -- n counts zero vectors of this weight, and these entries
 abbrev pub Counts : Nearby → ℕ → List Weighted → Type 0

@@ -6,7 +6,7 @@ ghost use Rattle.vp_base.specs.Grid.{Has, look};
 ghost use Rattle.vp_motion.specs.Map.{intra};
 ghost use Rattle.vp_motion.specs.Vector.{IsWithin};
 ghost use Rattle.vp_motion.specs.Near.{bias_corrected, bias_of, candidates, candidates_by, clamped, clamped_vector};
-ghost use Rattle.vp_motion.specs.Near.{negated, same, splits, split_count, weighed, weighted_neighbour, AreLight};
+ghost use Rattle.vp_motion.specs.Near.{negated, same, splits, split_count, weighted_vector, weighted_neighbour, AreLight};
 
 use crate::map::VectorMap;
 use crate::nearby::count;
@@ -153,7 +153,7 @@ fn seen_vector(
     biases: SignBiases,
     neighbour: &MacroblockMotion,
 ) -> Option<PackedVector>
-    ensures { (weight : ℕ) → weighed weight result ≡ weighted_neighbour reference biases weight neighbour.now }
+    ensures { (weight : ℕ) → weighted_vector weight result ≡ weighted_neighbour reference biases weight neighbour.now }
 {
     if neighbour.reference.is_intra() {
         None

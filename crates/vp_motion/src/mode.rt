@@ -14,7 +14,7 @@ use vp_base::Place;
 use vp_bool::BoolDecoder;
 use vp_tables::{VECTOR_MODE_PROBABILITIES, VectorMode};
 
-/// Probability `i` of the vector mode, from weight `i` of the candidates. It is looked up only where it is used.
+/// Probability `i` of the vector mode, from weight `i` of the candidates. It is looked up only when it is used.
 #[inline(always)]
 fn mode_probability(weight: u8, i: usize) -> u8
     requires index { i < 4 }

@@ -4,12 +4,12 @@
 //! are. So the entries stay in registers, and none is looked up. A neighbour has no vector if it is intra.
 
 ghost use Rattle.std.specs.Prelude.{◌≡◌, ◌+◌, ◌≤◌, ◌++◌, [], ◌∷◌, false};
-ghost use Rattle.vp_motion.specs.Near.{weighed, still_weight, moving, onto, runs, same, nobody, Counts, AreLight};
+ghost use Rattle.vp_motion.specs.Near.{weighted_vector, still_weight, moving, onto, runs, same, nobody, Counts, AreLight};
 
 use crate::packed::PackedVector;
 use crate::vector::{Nearby, Weighted};
 
-/// What stands where there is no entry.
+/// The zero vector with weight 0, in place of an entry that is absent.
 #[inline(always)]
 fn nobody() -> Weighted
     ensures { result ≡ nobody }
@@ -20,7 +20,7 @@ fn nobody() -> Weighted
     }
 }
 
-/// The count where nothing moves.
+/// The count if no vector is nonzero.
 #[inline(always)]
 fn none(zeros: u8) -> Nearby
     requires { zeros ≤ 5 }
@@ -69,7 +69,7 @@ fn two(zeros: u8, first: Weighted, second: Weighted) -> Nearby
 #[inline(always)]
 fn corner_after_none(zeros: u8, corner: Option<PackedVector>) -> Nearby
     requires { zeros ≤ 4 }
-    ensures value { Counts result (zeros + still_weight (weighed 1 corner)) (runs (moving (weighed 1 corner))) }
+    ensures value { Counts result (zeros + still_weight (weighted_vector 1 corner)) (runs (moving (weighted_vector 1 corner))) }
     ensures light { AreLight result }
 {
     let Some(vector) = corner else {
@@ -88,8 +88,8 @@ fn corner_after_one(zeros: u8, first: Weighted, corner: Option<PackedVector>) ->
     requires zeros { zeros ≤ 4 }
     requires heavy { 1 ≤ first.weight }
     requires light { first.weight ≤ 4 }
-    ensures value { Counts result (zeros + still_weight (weighed 1 corner))
-        (onto first (runs (moving (weighed 1 corner)))) }
+    ensures value { Counts result (zeros + still_weight (weighted_vector 1 corner))
+        (onto first (runs (moving (weighted_vector 1 corner)))) }
     ensures light { AreLight result }
 {
     let Some(vector) = corner else {
@@ -112,9 +112,9 @@ fn corner_after_one(zeros: u8, first: Weighted, corner: Option<PackedVector>) ->
 #[inline(always)]
 fn corner_after_two(above: PackedVector, left: PackedVector, corner: Option<PackedVector>) -> Nearby
     requires { same above left ≡ false }
-    ensures value { Counts result (still_weight (weighed 1 corner))
+    ensures value { Counts result (still_weight (weighted_vector 1 corner))
         (onto (record { vector = above; weight = 2 })
-        (onto (record { vector = left; weight = 2 }) (runs (moving (weighed 1 corner))))) }
+        (onto (record { vector = left; weight = 2 }) (runs (moving (weighted_vector 1 corner))))) }
     ensures light { AreLight result }
 {
     let first = Weighted {
@@ -158,12 +158,12 @@ fn corner_after_two(above: PackedVector, left: PackedVector, corner: Option<Pack
     }
 }
 
-/// Counts the left neighbour and the corner where nothing moves above.
+/// Counts the left neighbour and the corner, if the one above has no nonzero vector.
 #[inline(always)]
 fn left_after_none(zeros: u8, left: Option<PackedVector>, corner: Option<PackedVector>) -> Nearby
     requires { zeros ≤ 2 }
-    ensures value { Counts result (zeros + still_weight (weighed 2 left ++ weighed 1 corner))
-        (runs (moving (weighed 2 left ++ weighed 1 corner))) }
+    ensures value { Counts result (zeros + still_weight (weighted_vector 2 left ++ weighted_vector 1 corner))
+        (runs (moving (weighted_vector 2 left ++ weighted_vector 1 corner))) }
     ensures light { AreLight result }
 {
     let Some(vector) = left else {
@@ -183,8 +183,8 @@ fn left_after_one(
     left: Option<PackedVector>,
     corner: Option<PackedVector>,
 ) -> Nearby
-    ensures value { Counts result (still_weight (weighed 2 left ++ weighed 1 corner))
-        (onto (record { vector = above; weight = 2 }) (runs (moving (weighed 2 left ++ weighed 1 corner)))) }
+    ensures value { Counts result (still_weight (weighted_vector 2 left ++ weighted_vector 1 corner))
+        (onto (record { vector = above; weight = 2 }) (runs (moving (weighted_vector 2 left ++ weighted_vector 1 corner)))) }
     ensures light { AreLight result }
 {
     let first = Weighted {
@@ -215,8 +215,8 @@ pub(crate) fn count(
     corner: Option<PackedVector>,
 ) -> Nearby
     ensures value { Counts result
-        (still_weight (weighed 2 above ++ (weighed 2 left ++ weighed 1 corner)))
-        (runs (moving (weighed 2 above ++ (weighed 2 left ++ weighed 1 corner)))) }
+        (still_weight (weighted_vector 2 above ++ (weighted_vector 2 left ++ weighted_vector 1 corner)))
+        (runs (moving (weighted_vector 2 above ++ (weighted_vector 2 left ++ weighted_vector 1 corner)))) }
     ensures light { AreLight result }
 {
     let Some(vector) = above else {

@@ -7,7 +7,7 @@ ghost use Rattle.vp_motion.specs.Vector.{zero_vector};
 use crate::vector::Vector;
 use std::marker::Model;
 
-/// A motion vector in one word, so that two vectors are loaded, compared and moved at once.
+/// A motion vector in one 64-bit word: one instruction loads, compares or moves it.
 #[derive(Drop)]
 pub(crate) struct PackedVector {
     /// The row in the lower half, and the column in the upper half, each in two's complement.

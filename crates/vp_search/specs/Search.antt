@@ -18,9 +18,9 @@ abbrev pub first_rows_in : SearchWindow → ℕ → ℕ → ℕ
 first_rows_in w i j = sum_of_differences 4 16 (strided_block w.block.now 0 16)
     (strided_block w.pixels.now (i * WINDOW_WIDTH + j) WINDOW_WIDTH)
 
--- the block of a vector begins at row i and column j
-abbrev pub IsInside : SearchWindow → ℕ → ℕ → Type 0
-IsInside w i j = (i ≤ 2 * w.range) × (j ≤ 2 * w.range)
+-- row i and column j are where the block of a vector within range begins
+abbrev pub IsInRange : SearchWindow → ℕ → ℕ → Type 0
+IsInRange w i j = (i ≤ 2 * w.range) × (j ≤ 2 * w.range)
 
 -- a vector within range, with its cost if that is below the limit
 pub record IsFound (w : SearchWindow) (found : Found) : Type 0 where
@@ -31,7 +31,7 @@ pub record IsFound (w : SearchWindow) (found : Found) : Type 0 where
 abbrev pub IsNoWorseAt : SearchWindow → Found → ℕ → ℕ → Type 0
 IsNoWorseAt w found i j = IsNoWorse found.cost found.vector (cost_in w (vector_at w.range i j)) (vector_at w.range i j)
 
--- new is the best of old and of the vectors of row i from one column to another, without that
+-- new is no worse than old, nor than the vectors of row i within range from column `from` to before column `to`
 pub record IsBestInRow (w : SearchWindow) (i from to : ℕ) (old new : Found) : Type 0 where
   pub found : IsFound w new
   pub better : IsNoWorse new.cost new.vector old.cost old.vector

@@ -6,7 +6,7 @@ ghost use Rattle.vp_search.specs.declared.vector.WholeVector.{WholeVector};
 ghost use Rattle.vp_search.specs.Vectors.{IsNear};
 ghost use Rattle.vp_search.specs.Least.{IsNoWorse};
 ghost use Rattle.vp_search.specs.Window.{vector_at};
-ghost use Rattle.vp_search.specs.Search.{cost_in, first_rows_in, IsInside, IsFound, IsBestInRow};
+ghost use Rattle.vp_search.specs.Search.{cost_in, first_rows_in, IsInRange, IsFound, IsBestInRow};
 
 use crate::difference::{first_rows, rest_within, sad};
 use crate::search_window::SearchWindow;
@@ -90,7 +90,7 @@ impl<'a> SearchWindow<'a> {
     /// The better of the best vector and the one at `spot`, whose cost is known.
     pub(crate) fn take(&self, best: Found, spot: Spot, cost: u32) -> Found
         requires best { IsFound self.now best }
-        requires spot { IsInside self.now spot.row spot.column }
+        requires spot { IsInRange self.now spot.row spot.column }
         requires cost { cost ≡ cost_in self.now (vector_at self.now.range spot.row spot.column) }
         ensures { IsBestInRow self.now spot.row spot.column (spot.column + 1) best result }
     {
@@ -108,7 +108,7 @@ impl<'a> SearchWindow<'a> {
         first: u32,
     ) -> Found
         requires best { IsFound self.now best }
-        requires spot { IsInside self.now spot.row spot.column }
+        requires spot { IsInRange self.now spot.row spot.column }
         requires first { first ≡ first_rows_in self.now spot.row spot.column }
         requires bound { first ≤ 4 * 16 * 255 }
         ensures { IsBestInRow self.now spot.row spot.column (spot.column + 1) best result }
@@ -128,7 +128,7 @@ impl<'a> SearchWindow<'a> {
     #[inline(always)]
     pub(crate) fn consider(&self, best: Found, spot: Spot) -> Found
         requires best { IsFound self.now best }
-        requires spot { IsInside self.now spot.row spot.column }
+        requires spot { IsInRange self.now spot.row spot.column }
         ensures { IsBestInRow self.now spot.row spot.column (spot.column + 1) best result }
     {
         self.consider_rest::<false>(best, spot, self.first_rows(spot))

@@ -52,7 +52,7 @@ pub(crate) fn sad(block: &Block, window: &[u8], at: usize, stride: usize) -> u32
         + four_rows(block, 3, window, at + 12 * stride, stride)
 }
 
-/// As `sad`, where the sum of the first four rows is known, if the sum is at most `limit`; else None. It is compared
+/// As `sad`, given the sum of the first four rows; None if the sum is above `limit`. It is already compared
 /// after twelve rows: after eight few vectors are above it.
 pub(crate) fn rest_within(
     block: &Block,

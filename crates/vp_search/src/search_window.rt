@@ -12,7 +12,7 @@ pub(crate) struct SearchWindow<'a> {
     pub(crate) pixels: &'a [u8],
     /// The greatest row and column of a vector.
     pub(crate) range: u8,
-    /// What a vector has to cost less than.
+    /// Only vectors that cost less than this are sought; `u32::MAX` if all are.
     pub(crate) limit: u32,
     ghost small: { range ≤ 64 },
     ghost room: { (2 * range + 16) * WINDOW_WIDTH ≤ length pixels.now },

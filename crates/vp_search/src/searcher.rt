@@ -216,7 +216,7 @@ fn limited(found: Found, limit: u32) -> Found
     }
 }
 
-/// Searches for a macroblock in memory that is lent, with the sums that are kept. Also returns which are kept after it,
+/// Searches for one macroblock in the caller's buffers, with the sums that are kept. Also returns which are kept after it,
 /// and the macroblocks that follow without sums.
 fn search_kept(
     block: &Block,

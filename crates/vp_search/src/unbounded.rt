@@ -1,4 +1,4 @@
-//! How many rows, or macroblocks, are searched without bounds: where these exclude less than half of the vectors, as in
+//! How many rows, or macroblocks, are searched without bounds. They are if bounds exclude less than half of the vectors, as in
 //! noise and in fine texture.
 
 ghost use Rattle.std.specs.Prelude.{◌+◌, ◌*◌, ◌≤◌, length};
@@ -51,7 +51,7 @@ impl Unbounded {
     }
 
     /// How many macroblocks are searched without sums after one whose last rows are these: 1 if they had no bounds;
-    /// where vectors are compared after four rows, 1, then 3, then 7 each time. `distance` is the number of columns
+    /// if vectors are compared after four rows too, 1, then 3, then 7 each time. `distance` is the number of columns
     /// since the last one with sums in this row; in another row it is only a guess.
     pub(crate) fn macroblocks(self, distance: usize) -> Unbounded {
         if self.left == 0 {

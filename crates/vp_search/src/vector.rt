@@ -42,7 +42,7 @@ pub struct Refined {
     pub cost: u32,
 }
 
-/// A row and a column of a window; of eight places in a row, the first column.
+/// A row and a column of a window. Of eight places side by side it is the first.
 #[derive(Clone, Copy)]
 pub(crate) struct Spot {
     pub(crate) row: usize,
