@@ -1,6 +1,6 @@
 //! Chooses for one macroblock: intra or inter.
 
-ghost use Rattle.std.specs.Prelude.{◌≡◌, ℕ, ◌+◌, ◌*◌, ◌<◌, ◌≤◌, true, false, None, IfSome, replicate, slice_index};
+ghost use Rattle.std.specs.Prelude.{◌≡◌, ◌+◌, ◌*◌, ◌<◌, ◌≤◌, true, false, None, IfSome, replicate};
 ghost use Rattle.vp_base.specs.Grid.{Has};
 ghost use Rattle.vp_base.specs.Image.{Image};
 ghost use Rattle.vp_base.specs.Raster.{Raster};
@@ -18,7 +18,7 @@ ghost use Rattle.vp_recon.specs.Prediction.{luma_prediction, chroma_prediction};
 ghost use Rattle.vp_recon.specs.Rebuilt.{rebuilt};
 ghost use Rattle.vp_choose.specs.Costs.{HasMacroblock};
 ghost use Rattle.vp_choose.specs.Levels.{ArePositive};
-ghost use Rattle.vp_choose.specs.Coding.{AreCut, AreSmall, HasPrediction, HasLevels, Completes, IsRebuiltLuma};
+ghost use Rattle.vp_choose.specs.Coding.{AreCut, HasPrediction, HasLevels, Completes, IsRebuiltLuma};
 ghost use Rattle.vp_choose.specs.Intra.{IsIntra};
 ghost use Rattle.vp_choose.specs.Frame.{lent_frame, search_of, source_by, no_biases};
 ghost use Rattle.vp_choose.specs.Inter.{IsInter, IsInSearchRange, moved_source};

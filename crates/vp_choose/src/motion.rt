@@ -1,6 +1,6 @@
 //! Chooses a macroblock's reference frame, motion vector and vector mode.
 
-ghost use Rattle.std.specs.Prelude.{◌≡◌, ℕ, ◌+◌, ◌*◌, ◌<◌, ◌≤◌, true, false, unsigned_abs, replicate, IfSome};
+ghost use Rattle.std.specs.Prelude.{◌≡◌, ◌*◌, ◌<◌, ◌≤◌, false, replicate, IfSome};
 ghost use Rattle.std.specs.Prelude.{MatchOption};
 ghost use Rattle.vp_base.specs.Grid.{Has};
 ghost use Rattle.vp_base.specs.Raster.{Raster};

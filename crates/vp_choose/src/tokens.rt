@@ -1,6 +1,6 @@
 //! Computes a macroblock's tokens from its source and its prediction.
 
-ghost use Rattle.std.specs.Prelude.{◌≡◌, ℕ, ◌*◌, ◌≤◌, true, false, not, None, is_some, IfSome};
+ghost use Rattle.std.specs.Prelude.{◌≡◌, ℕ, ◌*◌, ◌≤◌, not, None, is_some, IfSome};
 ghost use Rattle.vp_base.specs.declared.place.Place.{Place};
 ghost use Rattle.vp_base.specs.Image.{Image};
 ghost use Rattle.vp_intra.specs.Edges.{block as listed};

@@ -1,6 +1,6 @@
 //! The interpolation filters (RFC 6386, chapter 18.3), with one pixel per lane.
 
-ghost use Rattle.std.specs.Prelude.{◌≡◌, ℕ, ℤ, pos, negsuc, ◌+◌, ◌*◌, ◌<◌, ◌≤◌, ◌*ℤ◌, ◌+ℤ◌, ◌-ℤ◌, ◌≤ℤ◌, length};
+ghost use Rattle.std.specs.Prelude.{◌≡◌, ℕ, ℤ, pos, negsuc, ◌+◌, ◌*◌, ◌<◌, ◌≤◌, ◌+ℤ◌, ◌-ℤ◌, ◌≤ℤ◌, length};
 ghost use Rattle.std.specs.Prelude.{slice_index, IsTrue};
 ghost use lib.Signed.{shr_z as floor_div};
 ghost use Rattle.vp_lanes.specs.Lane.{lane, clamp_to_byte};

@@ -1,6 +1,6 @@
 //! Blocks of several vectors, predicted from one horizontal pass (RFC 6386, chapter 18.3).
 
-ghost use Rattle.std.specs.Prelude.{◌≡◌, ℕ, ℤ, pos, negsuc, ◌+◌, ◌*◌, ◌<◌, ◌≤◌, ◌+ℤ◌, ◌≤ℤ◌, length, slice_index};
+ghost use Rattle.std.specs.Prelude.{◌≡◌, ℕ, ℤ, pos, negsuc, ◌+◌, ◌*◌, ◌<◌, ◌≤◌, length, slice_index};
 ghost use Rattle.vp_inter.specs.Filter.{taps, filter_six};
 ghost use Rattle.vp_inter.specs.Narrow.{IsFrom, SumsFitI16};
 ghost use Rattle.vp_inter.specs.Patches.{patch_pass, patch_pixel};

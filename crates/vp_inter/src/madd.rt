@@ -1,7 +1,7 @@
 //! Multiply-add of bytes: products of bytes and weights, added in pairs. The compiler turns this form, with weights
 //! that it loads from memory, into one instruction for eight sums.
 
-ghost use Rattle.std.specs.Prelude.{◌≡◌, ℕ, pos, negsuc, ◌+◌, ◌*◌, ◌<◌, ◌≤◌, ◌+ℤ◌, ◌*ℤ◌, slice_index};
+ghost use Rattle.std.specs.Prelude.{◌≡◌, ℕ, pos, negsuc, ◌+◌, ◌*◌, ◌<◌, ◌+ℤ◌, ◌*ℤ◌, slice_index};
 ghost use Rattle.std.specs.Int.{int_max, int_min};
 ghost use Rattle.vp_lanes.specs.Lane.{lane};
 ghost use Rattle.vp_inter.specs.Narrow.{IsFrom, IsShort, pair, ArePairable};

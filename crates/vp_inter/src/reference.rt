@@ -1,6 +1,6 @@
 //! Reading a reference plane, which is extended by its border pixels (RFC 6386, chapter 5).
 
-ghost use Rattle.std.specs.Prelude.{◌≡◌, ℕ, ℤ, pos, negsuc, ◌+◌, ◌-◌, ◌<◌, ◌≤◌, ◌+ℤ◌, ◌≤ℤ◌, length, min, slice_index};
+ghost use Rattle.std.specs.Prelude.{◌≡◌, ℕ, ℤ, pos, ◌+◌, ◌-◌, ◌<◌, ◌≤◌, ◌+ℤ◌, length, min, slice_index};
 ghost use Rattle.std.specs.Prelude.{IsTrue};
 ghost use Rattle.vp_base.specs.Raster.{row_of};
 ghost use Rattle.vp_inter.specs.Inter.{nearest, reference_pixel, IsInside};

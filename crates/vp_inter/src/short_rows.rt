@@ -1,6 +1,6 @@
 //! The horizontal pass over rows of four and eight pixels (RFC 6386, chapter 18.3), by multiply-add of bytes.
 
-ghost use Rattle.std.specs.Prelude.{◌≡◌, ℕ, ℤ, pos, negsuc, ◌+◌, ◌*◌, ◌<◌, ◌≤◌, ◌+ℤ◌, ◌≤ℤ◌, ◌⊎◌, length};
+ghost use Rattle.std.specs.Prelude.{◌≡◌, ℕ, ℤ, pos, ◌+◌, ◌*◌, ◌<◌, ◌≤◌, ◌+ℤ◌, ◌≤ℤ◌, ◌⊎◌, length};
 ghost use Rattle.std.specs.Prelude.{◌<ℤ◌, IsTrue, slice_index};
 ghost use Rattle.vp_inter.specs.Filter.{filter_six};
 ghost use Rattle.vp_inter.specs.Inter.{nearest, horizontal_pass, IsInside};

@@ -1,7 +1,6 @@
 //! Motion vectors of a plane: whole pixels, fractions, and chroma vectors.
 
-ghost use Rattle.std.specs.Prelude.{◌≡◌, ℕ, ℤ, pos, negsuc, ◌+◌, ◌<◌, ◌≤◌, ◌+ℤ◌, ◌-ℤ◌, ◌*ℤ◌, ◌≤ℤ◌, unsigned_abs, ◌^◌};
-ghost use lib.Signed.{shr_z as floor_div};
+ghost use Rattle.std.specs.Prelude.{◌≡◌, ℤ, pos, negsuc, ◌+◌, ◌<◌, ◌≤◌, ◌+ℤ◌, ◌≤ℤ◌};
 ghost use Rattle.vp_inter.specs.Vectors.{whole_pixels, fraction, first_tap, IsFarBelowI32, AreFarBelowI32};
 ghost use Rattle.vp_inter.specs.Vectors.{mean_of_four, chroma_eighths, luma_vector, chroma_vector};
 

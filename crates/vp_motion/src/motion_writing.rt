@@ -1,6 +1,6 @@
 //! Writing the motion of a macroblock.
 
-ghost use Rattle.std.specs.Prelude.{◌≡◌, ◌<◌, ◌≤◌, ◌↔◌, ℕ, IsTrue, OnOk, replicate, slice_index};
+ghost use Rattle.std.specs.Prelude.{◌<◌, ◌↔◌, ℕ, IsTrue, OnOk, replicate, slice_index};
 ghost use Rattle.vp_base.specs.declared.place.Place.{Place};
 ghost use Rattle.vp_base.specs.Grid.{Grid, Has};
 ghost use Rattle.vp_bool.specs.Writing.{Writes};

@@ -1,6 +1,6 @@
 //! Writing a motion vector.
 
-ghost use Rattle.std.specs.Prelude.{◌≡◌, ◌<◌, ◌≤◌, nat_lt, pos, neg_ℤ, ◌≤ℤ◌, OnOk};
+ghost use Rattle.std.specs.Prelude.{◌<◌, ◌≤◌, nat_lt, pos, neg_ℤ, ◌≤ℤ◌, OnOk};
 ghost use Rattle.vp_bool.specs.Reader.{when};
 ghost use Rattle.vp_bool.specs.Writing.{Writes};
 ghost use Rattle.vp_motion.specs.Vector.{IsWithin};

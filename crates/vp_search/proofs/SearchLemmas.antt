@@ -92,11 +92,6 @@ cost_here w i j at e =
     ap (λ (k : ℕ). sum_of_differences 16 16 (strided_block w.block.now 0 16) (strided_block w.pixels.now k WINDOW_WIDTH)) e
     ∙ sym (cost_at w.block.now w.pixels.now w.range i j)
 
--- the first four rows of the block at an index of the window
-pub first_here : (w : SearchWindow) (i j at : ℕ) → at ≡ i * WINDOW_WIDTH + j
-    → sum_of_differences 4 16 (strided_block w.block.now 0 16) (strided_block w.pixels.now at WINDOW_WIDTH) ≡ first_rows_in w i j
-first_here w i j at e = ap (λ (k : ℕ). sum_of_differences 4 16 (strided_block w.block.now 0 16) (strided_block w.pixels.now k WINDOW_WIDTH)) e
-
 -- one part of a row after another
 pub further : (w : SearchWindow) (i a b c : ℕ) (x y z : Found) → IsBestInRow w i a b x y → IsBestInRow w i b c y z → IsBestInRow w i a c x z
 further w i a b c x y z p q = record {

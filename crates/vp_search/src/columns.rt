@@ -1,6 +1,6 @@
 //! The costs of vectors of one column, from rows that they share. A cost is only followed as far as a limit.
 
-ghost use Rattle.std.specs.Prelude.{◌≡◌, ℕ, ℤ, pos, ◌+◌, ◌*◌, ◌<◌, ◌≤◌, ◌+ℤ◌, ◌*ℤ◌, slice_index};
+ghost use Rattle.std.specs.Prelude.{◌≡◌, ℤ, pos, ◌+◌, ◌*◌, ◌<◌, ◌≤◌, ◌+ℤ◌, ◌*ℤ◌, slice_index};
 ghost use Rattle.vp_base.specs.Raster.{Raster};
 ghost use Rattle.vp_inter.specs.Filter.{taps};
 ghost use Rattle.vp_search.specs.Differences.{sum_of_differences, block16};

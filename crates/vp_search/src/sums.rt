@@ -1,7 +1,7 @@
 //! Sums of the pixels of 8x8 squares, in lanes. They bound the costs of vectors from below (successive elimination, Li
 //! and Salari 1995): the difference of two sums is at most the sum of differences.
 
-ghost use Rattle.std.specs.Prelude.{◌≡◌, ℕ, ◌+◌, ◌-◌, ◌*◌, ◌<◌, ◌≤◌, [], ◌∷◌, length, slice_index, false, IfSome, None};
+ghost use Rattle.std.specs.Prelude.{◌≡◌, ℕ, ◌+◌, ◌-◌, ◌*◌, ◌<◌, ◌≤◌, length, slice_index, false, IfSome, None};
 ghost use Rattle.std.specs.Int.{abs_diff, bit_at};
 ghost use Rattle.vp_search.specs.Sums.{sum_below};
 ghost use Rattle.vp_search.specs.Bounds.{capped, column_sum, row_sum, square_sum, block_sums, bound_of};
