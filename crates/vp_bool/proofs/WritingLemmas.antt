@@ -1,12 +1,11 @@
 -- How what is written is read again.
 use Rattle.std.proofs.Common.{◌≡◌, ℕ, zero, suc, ◌+◌, ◌<◌, ◌^◌, Bool, List, [], ◌∷◌, ◌++◌, refl, sym, ap, ◌∙◌, arith, add-one}
 use Rattle.std.specs.Prelude.{slice_index_or, slice_set}
-use Rattle.vp_bool.specs.Bools.{State, read, literal, initial_state}
+use Rattle.vp_bool.specs.Bools.{State, read, literal}
 use Rattle.vp_bool.specs.Reader.{Reader, bind, ◌>>=◌, give, each, rows, Reads}
 use Rattle.vp_bool.specs.Intervals.{Interval, whole_interval, write, write_literal}
 use Rattle.vp_bool.specs.Writing.{write_all, AreProbabilities, HasWritten, Continues, Writes}
-use Rattle.vp_bool.specs.RoundTrip.{literal_bools, AreReadBack}
-use Rattle.vp_bool.specs.Window.{AreBytes}
+use Rattle.vp_bool.specs.RoundTrip.{literal_bools}
 use Rattle.vp_bool.proofs.RoundTripLemmas.{write_all-append, write_literal-all, literal-probabilities, reads_literal}
 
 pub pair_is : {A B : Type 0} (x : A × B) (a : A) (b : B) → x.0 ≡ a → x.1 ≡ b → x ≡ (a, b)
@@ -114,13 +113,6 @@ unfolding write_all
 written-one xs b p old new h e = written-more xs ((b, p) ∷ []) old new h e
 
 -- ---- what is said by bytes that were written
-
--- What was written from nothing on is read from the bytes, whatever bytes stand behind them.
-pub written-said : {A : Type 0} (m : Reader A) (a : A) (old new : Interval) (bytes more : List ℕ) → Writes m old new a → old ≡ whole_interval → AreReadBack new bytes → AreBytes more
-    → (t : State) × (m (initial_state (bytes ++ more)) ≡ (a, t))
-written-said m a old new bytes more w o back are =
-    let r = back w.bools more w.probabilities (w.appended ∙ ap (write_all w.bools) o) are in
-    (r.0, w.taken (initial_state (bytes ++ more)) r.0 r.1)
 
 -- ---- rows
 

@@ -1,5 +1,5 @@
 -- What a cache keeps after a question.
-use Rattle.std.proofs.Common.{◌≡◌, ◌≢◌, ℕ, zero, suc, ◌-◌, ◌<◌, ◌≤◌, ◌^◌, ◌⊎◌, Bool, true, false, ◌&&◌, nat_eq, List, [], ◌∷◌, take, Contains, Option, Some, None, refl, sym, ap, subst, inl, inr, ◌∙◌, arith}
+use Rattle.std.proofs.Common.{◌≡◌, ℕ, zero, suc, ◌-◌, ◌<◌, Bool, true, false, ◌&&◌, nat_eq, List, [], ◌∷◌, take, Contains, Option, Some, None, refl, sym, ap, subst, inl, inr, ◌∙◌, arith}
 use Rattle.std.specs.Prelude.{Result, Ok, Err, OnErr, length, slice_get}
 use Rattle.std.specs.Option.{option_map_or}
 use Rattle.std.specs.Map.{lookup, lookup_entry, remove_entry}
@@ -7,15 +7,15 @@ use Rattle.std.proofs.lemmas.Bool.{eqb-true}
 use Rattle.std.proofs.lemmas.Option.{same_Some}
 use Rattle.lru.specs.LruCache.{LruCache, lru_cache, promoted, put_entries}
 use Rattle.lru.proofs.Splits.{Contains-cons}
-use Rattle.lru.proofs.CallerLemmas.{Contains-lookup, Contains-remove_entry, Contains-take}
+use Rattle.lru.proofs.CallerLemmas.{Contains-lookup, Contains-remove_entry}
 use Rattle.vp_ivf.specs.declared.packet.Packet.{Packet}
-use Rattle.vp_stream.specs.Seeking.{AnswerValue, Shown, Hidden, Fault, NoPacket, answer_at, work_of, saturating_count}
+use Rattle.vp_stream.specs.Seeking.{AnswerValue, NoPacket, answer_at}
 use Rattle.vp_base.specs.declared.limits.Limits.{Limits}
 use Rattle.vp_decode.specs.Step.{step, DecoderState}
 use Rattle.vp_stream.specs.Answers.{answers_from}
 use Rattle.vp_stream.specs.Seeking.{answer_or_none}
 use Rattle.vp_stream.specs.Stream.{Stream as StreamState}
-use Rattle.vp_cache.specs.Cache.{CachedPicture, CacheEntry, Cache, AreAnswersOf, IsAfter, IsAnswerIf, moved_to_front, cached_answer, option_shown, pair_eq, cached, in_front, put, work_beside}
+use Rattle.vp_cache.specs.Cache.{CachedPicture, CacheEntry, Cache, AreAnswersOf, IsAnswerIf, moved_to_front, cached_answer, option_shown, pair_eq, cached, in_front}
 
 both : (a b : Bool) → (a && b) ≡ true → (a ≡ true) × (b ≡ true)
 both true b h = (refl, h)
@@ -74,91 +74,11 @@ pub found : (o : Option CachedPicture) (a : AnswerValue) → Some a ≡ option_s
 found (Some p) a h = (p, refl, same_Some a (cached_answer p) h)
 found None a h = cc
 
-pub not_found : (o : Option CachedPicture) → None ≡ option_shown o → o ≡ None
-not_found (Some p) h = cc
-not_found None h = refl
-
 -- a cache as its entries and its capacity
 abbrev pub seen : LruCache (ℕ × ℕ) CachedPicture → Cache
 seen c = record { entries = c.entries; capacity = c.cap }
 
-after_hit : (old : Cache) (number n : ℕ) (a : AnswerValue) → Some a ≡ option_shown (cached number n old.entries)
-    → IsAfter old number n (cached number n old.entries) a (record { entries = promoted (pair_eq (number, n)) old.entries; capacity = old.capacity })
-after_hit old number n a h =
-    let f = found (cached number n old.entries) a h in
-    rw f.1 (ap (λ (es : List CacheEntry). record old { entries = es }) (promoted-found (number, n) old.entries f.0 f.1))
-
-pub after_found : (old : Cache) (inside new : LruCache (ℕ × ℕ) CachedPicture) (number n : ℕ) (a : AnswerValue) → seen inside ≡ old
-    → new ≡ lru_cache (promoted (pair_eq (number, n)) inside.entries) inside.cap → Some a ≡ option_shown (cached number n old.entries)
-    → IsAfter old number n (cached number n old.entries) a (seen new)
-after_found old inside new number n a was is h =
-    let e : seen new ≡ record { entries = promoted (pair_eq (number, n)) old.entries; capacity = old.capacity } =
-    ap seen is ∙ ap (λ (s : Cache). record { entries = promoted (pair_eq (number, n)) s.entries; capacity = s.capacity }) was in
-    subst (λ (s : Cache). IsAfter old number n (cached number n old.entries) a s) (sym e) (after_hit old number n a h)
-
-abbrev pub IsPutOrNot : ℕ × ℕ → AnswerValue → LruCache (ℕ × ℕ) CachedPicture → LruCache (ℕ × ℕ) CachedPicture → Type 0
-IsPutOrNot key a old new = (new ≡ old) ⊎ (new ≡ lru_cache (put key a old.cap old.entries) old.cap)
-
-after_miss : (old new : Cache) (number n : ℕ) (a : AnswerValue) → None ≡ option_shown (cached number n old.entries)
-    → (new ≡ old) ⊎ (new ≡ record old { entries = put (number, n) a old.capacity old.entries })
-    → IsAfter old number n (cached number n old.entries) a new
-after_miss old new number n a h is = rw (not_found (cached number n old.entries) h) is
-
-pub after_not_found : (old : Cache) (inside new : LruCache (ℕ × ℕ) CachedPicture) (number n : ℕ) (a : AnswerValue) → seen inside ≡ old
-    → IsPutOrNot (number, n) a inside new → None ≡ option_shown (cached number n old.entries)
-    → IsAfter old number n (cached number n old.entries) a (seen new)
-after_not_found old inside new number n a was is h = after_miss old (seen new) number n a h (elim is [
-  | inl same ↦ inl (ap seen same ∙ was)
-  | inr fresh ↦ inr (ap seen fresh ∙ ap (λ (s : Cache). record s { entries = put (number, n) a s.capacity s.entries }) was)
-])
-
 -- ---- each entry was there, or is the answer
-
-abbrev pub IsNew : AnswerValue → ℕ → ℕ → CacheEntry → Type 0
-IsNew a number n e = (e.0 ≡ (number, n)) × (a ≡ cached_answer e.1)
-
-put_entry : (old : Cache) (number n : ℕ) (a : AnswerValue) (e : CacheEntry) → Contains (put (number, n) a old.capacity old.entries) e
-    → Contains old.entries e ⊎ IsNew a number n e
-put_entry old number n (Shown width height pixels) e c =
-    let p : CachedPicture = record { width = width; height = height; pixels = pixels } in
-    elim (Contains-cons ((number, n), p) old.entries e (Contains-take old.capacity (((number, n), p) ∷ old.entries) e c)) [
-      | inl same ↦ inr (ap (λ (x : CacheEntry). x.0) (sym same), ap (λ (x : CacheEntry). cached_answer x.1) same)
-      | inr was ↦ inl was
-    ]
-put_entry old number n Hidden e c = inl c
-put_entry old number n (Fault f) e c = inl c
-put_entry old number n NoPacket e c = inl c
-
-pub entry_after : (old new : Cache) (number n : ℕ) (o : Option CachedPicture) (a : AnswerValue) (e : CacheEntry) → cached number n old.entries ≡ o
-    → IsAfter old number n o a new → Contains new.entries e → Contains old.entries e ⊎ IsNew a number n e
-entry_after old new number n (Some p) a e h is c =
-    let was = Contains-lookup (pair_eq (number, n)) old.entries p h in
-    elim (Contains-cons ((number, n), p) (remove_entry (pair_eq (number, n)) old.entries) e (subst (λ (s : Cache). Contains s.entries e) is c)) [
-      | inl same ↦ inl (subst (Contains old.entries) ((λ i. (sym (same_key (number, n) was.0 was.2) i, p)) ∙ same) was.1)
-      | inr more ↦ inl (Contains-remove_entry (pair_eq (number, n)) old.entries e more)
-    ]
-entry_after old new number n None a e h is c = elim is [
-  | inl same ↦ inl (subst (λ (s : Cache). Contains s.entries e) same c)
-  | inr fresh ↦ put_entry old number n a e (subst (λ (s : Cache). Contains s.entries e) fresh c)
-]
-
-pub kept_on : (old new : Cache) (number n : ℕ) (a : AnswerValue) (s : StreamState) → a ≡ answer_at s.limits s.reading.packets n
-    → IsAfter old number n (cached number n old.entries) a new → AreAnswersOf number s old.entries → AreAnswersOf number s new.entries
-kept_on old new number n a s answer is kept = record {
-  each = λ e c same. elim (entry_after old new number n (cached number n old.entries) a e refl is c) [
-    | inl was ↦ kept.each e was same
-    | inr fresh ↦ ap (λ (k : ℕ × ℕ). answer_at s.limits s.reading.packets k.1) fresh.0 ∙ (sym answer ∙ fresh.1)
-  ];
-}
-
-pub others_on : (old new : Cache) (number n : ℕ) (a : AnswerValue) (other : ℕ) (s : StreamState) → other ≢ number
-    → IsAfter old number n (cached number n old.entries) a new → AreAnswersOf other s old.entries → AreAnswersOf other s new.entries
-others_on old new number n a other s apart is kept = record {
-  each = λ e c same. elim (entry_after old new number n (cached number n old.entries) a e refl is c) [
-    | inl was ↦ kept.each e was same
-    | inr fresh ↦ absurd (apart (sym same ∙ ap (λ (k : ℕ × ℕ). k.0) fresh.0))
-  ];
-}
 
 -- ---- the answer that was found is the stream's
 
@@ -172,19 +92,6 @@ found_is_answer number n a s es h kept =
     ∙ ap (λ (k : ℕ × ℕ). answer_at s.limits s.reading.packets k.1) (sym key))
 
 -- ---- the count
-
-pub counted_hit : (o : Option CachedPicture) (a : AnswerValue) (ps : List Packet) (n work : ℕ) → work < 2 ^ 64 → Some a ≡ option_shown o
-    → work ≡ saturating_count work (work_beside o ps n)
-counted_hit (Some p) a ps n work range h = omega (arith, range)
-counted_hit None a ps n work range h = cc
-
-pub counted_miss : (o : Option CachedPicture) (ps : List Packet) (n : ℕ) → None ≡ option_shown o → work_of ps n ≡ work_beside o ps n
-counted_miss (Some p) ps n h = cc
-counted_miss None ps n h = refl
-
-pub nothing_counted : {X Y : Type 0} (r : Result X Y) (work more : ℕ) → work < 2 ^ 64 → OnErr r ((work ≤ work) × (work ≤ saturating_count work more))
-nothing_counted (Ok x) work more range = tt
-nothing_counted (Err y) work more range = (omega arith, omega (arith, range))
 
 -- ---- a picture that is moved_to_front to the front
 

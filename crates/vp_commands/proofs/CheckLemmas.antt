@@ -4,7 +4,7 @@ use Rattle.std.specs.Prelude.{Result, Err, ◌&&◌, if◌then◌else◌}
 use Rattle.std.specs.List.{list_all}
 use Rattle.std.specs.Borrow.{Bor}
 use Rattle.std.specs.Io.KnownBytes.{Appends}
-use Rattle.std.proofs.lemmas.List.{append-nil, length-append, length-map, map-append, take_more, take-append-drop}
+use Rattle.std.proofs.lemmas.List.{append-nil, length-append, map-append, take_more, take-append-drop}
 use Rattle.std.proofs.lemmas.List.Folds.{list_all-append}
 use Rattle.clap.specs.Walk.{texts}
 use Rattle.vp_base.proofs.Writes.{appends_none, appends_both}
@@ -14,7 +14,7 @@ use Rattle.vp_args.specs.declared.file_limits.FileLimits.{FileLimits}
 use Rattle.vp_check.specs.declared.checked.Checked.{Checked}
 use Rattle.vp_lines.specs.declared.styles.LineStyle.{LineStyle}
 use Rattle.vp_lines.specs.declared.counts.Counts.{Counts}
-use Rattle.vp_lines.specs.CheckLines.{both_counts, checks_text, counts_of, file_text, files_text, is_well, total_text, no_counts, total_from}
+use Rattle.vp_lines.specs.CheckLines.{both_counts, checks_text, counts_of, file_text, files_text, is_well, no_counts, total_from}
 use Rattle.vp_commands.specs.Commands.{AreFilesChecked, ChecksFile, ChecksInput, PrintsChecks, Side, is_stream}
 use Rattle.vp_commands.proofs.CommandLemmas.{over_file, over_stream, over_work, unopened}
 
@@ -111,17 +111,6 @@ stopped most style names k d dones done total well i m j a b lt h checked =
     let whole : texts names ≡ texts (take (k + 1) names) ++ texts (drop (k + 1) names) =
     ap texts (take_drop names (k + 1)) ∙ map-append (λ (s : Bor (List ℕ)). s.now) (take (k + 1) names) (drop (k + 1) names) in
     subst (λ ns. AreFilesChecked most ns (dones ++ done ∷ []) i j) (sym whole) more
-
--- all files are checked, and the sums are printed
-pub all_done : (most : FileLimits) (style : LineStyle) (names : List (Bor (List ℕ))) (dones : List (Result Checked DecodeFault)) (total : Counts) (well : Bool) (i j : Side)
-    (a b c : Option (List ℕ)) → AreDone most style (texts names) dones total well i j a b → Appends b c (total_text style (length names) total)
-    → Appends a c (checks_text style (texts names) dones)
-all_done most style names dones total well i j a b c h sums =
-    let long : length names ≡ length dones = let e = h.long in omega (arith, e, length-texts names) in
-    appends_both a b c _ _ h.printed (subst (λ t. Appends b c (total_text style (length dones) t)) h.total_is (subst (λ n. Appends b c (total_text style n total)) long sums))
-  where
-    length-texts : (ns : List (Bor (List ℕ))) → length (texts ns) ≡ length ns
-    length-texts ns = length-map ns (λ (s : Bor (List ℕ)). s.now)
 
 -- ---- the laws
 

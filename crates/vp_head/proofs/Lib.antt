@@ -7,4 +7,3 @@ pub mod Mixed
 pub mod Halves
 pub mod TailLemmas
 pub mod SpelledLemmas
-pub mod Restated

@@ -12,17 +12,6 @@ counted_append : (c : PacketCount) (xs ys : List ℕ) → counted_after c (xs ++
 counted_append c [] ys = refl
 counted_append c (x ∷ xs) ys = counted_append (count_after c x) xs ys
 
--- some bytes pass at once, and others are left
-pub first_passed : (c d : PacketCount) (bytes first others : List ℕ) → d ≡ counted_after c first → bytes ≡ first ++ others
-    → counted_after d others ≡ counted_after c bytes
-first_passed c d bytes first others is split = rw (is, split) (sym (counted_append c first others))
-
--- one byte passes
-pub byte_passed : (c d : PacketCount) (bytes others : List ℕ) → 0 < length bytes → d ≡ count_after c (slice_index bytes 0) → others ≡ drop 1 bytes
-    → counted_after d others ≡ counted_after c bytes
-byte_passed c d [] others some is split = absurd (not-suc-le-zero some)
-byte_passed c d (b ∷ bytes) others some is split = rw (is, split) refl
-
 -- then some inside a packet pass
 pub then_inside : (c d e : PacketCount) (bytes others inside rest : List ℕ) → counted_after d others ≡ counted_after c bytes
     → others ≡ inside ++ rest → e ≡ counted_after d inside → counted_after e rest ≡ counted_after c bytes
@@ -71,12 +60,6 @@ inside_passed old new left n bytes is le small made =
     (take n bytes, sym (take-append-drop n bytes), made ∙ skipped old left n bytes is le small)
 
 -- ---- a packet's head
-
--- one more byte of a time passes
-pub time_passed : (t u : ℕ) (bytes others : List ℕ) → 0 < length bytes → u ≡ time_with t (slice_index bytes 0) → others ≡ drop 1 bytes
-    → time_behind u others ≡ time_behind t bytes
-time_passed t u [] others some is split = absurd (not-suc-le-zero some)
-time_passed t u (b ∷ bytes) others some is split = rw (is, split) refl
 
 headed : (passed size whole time byte : ℕ) → nat_lt passed 4 ≡ false → nat_lt passed 11 ≡ true → (passed == 11) ≡ false
     → count_after (record { place = PacketHead passed size; whole = whole; time = time }) byte

@@ -1,18 +1,9 @@
 -- Lemmas on the two passes pixel by pixel.
-use Rattle.std.proofs.Common.{◌≡◌, ◌∙◌, ℕ, ◌+◌, ◌*◌, ◌<◌, ◌≤◌, ℤ, pos, ◌+ℤ◌, List, length, get_or, slice_range, ap, arith, rules}
+use Rattle.std.proofs.Common.{◌≡◌, ◌∙◌, ℕ, ◌+◌, ◌*◌, ◌<◌, ◌≤◌, ℤ, List, length, get_or, slice_range, ap, arith, rules}
 use Rattle.std.proofs.lemmas.List.{places}
 use Rattle.std.proofs.lemmas.Nat.{row_fits}
-use Rattle.vp_base.specs.Raster.{Raster}
 use Rattle.vp_inter.specs.Filter.{filter_six}
-use Rattle.vp_inter.specs.Inter.{reference_pixel}
 use Rattle.vp_inter.proofs.FilterLemmas.{filter_six-same}
-
--- the horizontal pass over a line of the reference
-pub across_line : (weights : List ℤ) (p : Raster) (left row : ℤ) (n w : ℕ) (line : List ℕ) → w ≡ n + 5
-    → ((c : ℕ) → c < w → get_or line c 0 ≡ reference_pixel p (left +ℤ pos c) row)
-    → (c : ℕ) → c < n → filter_six weights (λ k. get_or line (c + k) 0) ≡ filter_six weights (λ k. reference_pixel p (left +ℤ pos (c + k)) row)
-across_line weights p left row n w line e same c cin =
-    filter_six-same weights (λ k. get_or line (c + k) 0) (λ k. reference_pixel p (left +ℤ pos (c + k)) row) (λ k kin. same (c + k) (omega arith))
 
 in_six : (rows : List ℕ) (n r k c : ℕ) → r < n → k < 6 → c < n → length rows ≡ (n + 5) * n
     → get_or (slice_range rows (r * n) (r * n + 6 * n)) (k * n + c) 0 ≡ get_or rows ((r + k) * n + c) 0

@@ -1,11 +1,10 @@
 -- Lemmas on the pixels of a reference.
-use Rattle.std.proofs.Common.{◌≡◌, ◌∙◌, ℕ, ◌+◌, ◌-◌, ◌<◌, min, true, refl, ℤ, pos, negsuc, ◌+ℤ◌, ◌-ℤ◌, ◌≤◌, ◌≤ℤ◌, inl, inr, List, length, get_or, ap, sym, arith, rules, to_z, of_z, w32}
+use Rattle.std.proofs.Common.{◌≡◌, ◌∙◌, ℕ, ◌+◌, ◌-◌, ◌<◌, min, refl, ℤ, pos, negsuc, ◌+ℤ◌, ◌-ℤ◌, ◌≤◌, ◌≤ℤ◌, inl, inr, List, length, get_or, ap, sym, arith, rules, to_z, of_z, w32}
 use Rattle.std.proofs.lemmas.List.{places}
 use Rattle.std.proofs.lemmas.Bool.{cases_lt}
 use Rattle.std.proofs.lemmas.Int.{ints, clamps}
 use Rattle.std.specs.Int.{int_min, int_max}
 use lib.IntN.{nat_abs}
-use lib.Signed.{le_z}
 use Rattle.vp_base.specs.Raster.{Raster, pixel, row_of}
 use Rattle.vp_inter.specs.Inter.{nearest, reference_pixel, IsInside}
 
@@ -35,10 +34,6 @@ line_beyond p line column row e long some =
     ap (λ (n : ℕ). get_or line (nearest n column) 0) long
     ∙ ap (λ (l : List ℕ). get_or l (nearest p.width column) 0) e
     ∙ row_pixel p (nearest p.width column) (nearest p.height row) (ap length (sym e) ∙ long) (nearest_below p.width column some)
-
-pub at_or_above : (w z : ℤ) → le_z (pos 0) w ≡ true → w ≡ z → z ≡ pos (nat_abs w)
-at_or_above (pos n) z t e = sym e
-at_or_above (negsuc n) z t e = cc
 
 pub natural : (z : ℤ) → pos 0 ≤ℤ z → z ≡ pos (nat_abs z)
 natural (pos n) h = refl

@@ -1,7 +1,6 @@
 -- Sums that an i32 holds.
-use Rattle.std.proofs.Common.{◌≡◌, ◌∙◌, ℕ, ◌^◌, ◌<◌, ap, arith, ℤ, pos, negsuc, ◌≤ℤ◌, ◌+ℤ◌, ◌*ℤ◌, to_z, of_z, w16, w32}
+use Rattle.std.proofs.Common.{◌≡◌, ◌∙◌, ℕ, ap, arith, ℤ, pos, negsuc, ◌≤ℤ◌, ◌+ℤ◌, ◌*ℤ◌, to_z, of_z, w16, w32}
 use Rattle.std.proofs.lemmas.Int.{to_z-of_z, ints}
-use lib.Signed.{shr_z as floor_div, mag_shr, mag}
 use mir.Val.{SFits}
 use Rattle.vp_inter.specs.Vectors.{IsFarBelowI32}
 
@@ -18,13 +17,6 @@ small_fits (negsuc n) p = record { sfits = omega (arith, ints) }
 
 pub small_same : (z : ℤ) → IsSmall z → same z ≡ z
 small_same z p = to_z-of_z w32 z (small_fits z p)
-
-pub shift_same : (z : ℤ) (k : ℕ) → IsSmall z → same (floor_div (same z) k) ≡ floor_div z k
-shift_same z k p =
-    let f : SFits w32 z = small_fits z p in
-    let h : mag z < 2 ^ 31 = f.sfits in
-    let g : SFits w32 (floor_div z k) = record { sfits = omega (arith, mag_shr z k) } in
-    rw (small_same z p) (to_z-of_z w32 (floor_div z k) g)
 
 -- the sum of three numbers and 64, as the code computes it
 pub two : (x y : ℤ) → IsSmall x → IsSmall y → same x +ℤ same y ≡ x +ℤ y

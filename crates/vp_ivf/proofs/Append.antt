@@ -8,7 +8,7 @@ use Rattle.vp_ivf.specs.declared.packet.Packet.{Packet}
 use Rattle.vp_ivf.specs.declared.packet.IvfHead.{IvfHead}
 use Rattle.vp_ivf.specs.declared.fault.FileFault.{FileFault}
 use Rattle.vp_ivf.specs.declared.fault.FileFault.TheVariants.{Signature, Codec, TooMany, PacketTooLarge}
-use Rattle.vp_ivf.specs.Ivf.{Contents, packet_size, packet_at, parsed_ivf_head, next_size, next_head, cuts, read_file, read_from, with_prefix, stop, resume, resume_at}
+use Rattle.vp_ivf.specs.Ivf.{Contents, packet_size, packet_at, parsed_ivf_head, next_size, next_head, cuts, read_file, read_from, with_prefix, resume, resume_at}
 use Rattle.vp_ivf.proofs.Cuts.{cuts-whole, cuts-stop, cuts-fault, with_prefix-front}
 
 -- a number that stands whole in the bytes stays
@@ -31,11 +31,6 @@ decided_suc l m max size r h ne = grind (arith, nat_tests)
 -- the header stands whole where anything was decided
 has_header : (l : ℕ) (x : Result (Option ℕ) FileFault) (r : Result (Option ℕ) FileFault) → cond (nat_lt l 12) (Ok None) x ≡ r → r ≢ Ok None → 12 ≤ l
 has_header l x r h ne = grind (arith, nat_tests)
-
-pub next_size-header : (max n : ℕ) (xs : List ℕ) (r : Result (Option ℕ) FileFault) → next_size max n xs ≡ r → r ≢ Ok None → 12 ≤ length xs
-unfolding next_size
-next_size-header max zero xs r h ne = has_header (length xs) _ r h ne
-next_size-header max (suc n) xs r h ne = has_header (length xs) _ r h ne
 
 pub next_size-append : (max n : ℕ) (xs ys : List ℕ) (r : Result (Option ℕ) FileFault) → next_size max n xs ≡ r → r ≢ Ok None → next_size max n (xs ++ ys) ≡ r
 unfolding next_size
@@ -63,10 +58,6 @@ packet_at-append s xs ys h =
     let room : s ≤ length (drop 12 xs) = omega (arith, length-drop 12 xs) in
     let t : take s (drop 12 (xs ++ ys)) ≡ take s (drop 12 xs) = rw (drop-append-le 12 xs ys le) (take-append-le s (drop 12 xs) ys room) in
     rw (e, t) refl
-
--- more bytes behind a stop for want of bytes
-pub stop-resume : (max n : ℕ) (h : IvfHead) (xs ys : List ℕ) → resume max (stop (Some h) n None xs) ys ≡ cuts (Some h) max n (xs ++ ys)
-stop-resume max n h xs ys = refl
 
 -- the packet in front stays, whatever comes
 pub with_prefix-resume : (h : IvfHead) (max n : ℕ) (front : List Packet) (f : Option FileFault) (r : Contents) (ys : List ℕ)

@@ -59,9 +59,6 @@ both_true true true e = (refl, refl)
 both_true true false e = cc
 both_true false b e = cc
 
-pub no_faults : (a : Option (List ℕ)) → Appends a a (fault_lines [])
-no_faults a = appends_none a
-
 lines_of_both : (front some : List (ℕ × PacketFault)) → fault_lines (front ++ some) ≡ fault_lines front ++ fault_lines some
 lines_of_both front some = ap concat (map-append fault_line front some) ∙ concat-append (map fault_line front) (map fault_line some)
 

@@ -17,5 +17,3 @@ pub mod RowWrites
 pub mod WriteLemmas
 pub mod KeptLemmas
 pub mod LevelLemmas
-pub mod SentinelLemmas
-pub mod RestatedLemmas

@@ -1,5 +1,5 @@
 -- Sides of smaller planes, and the mean of a square.
-use Rattle.std.proofs.Common.{◌≡◌, ℕ, ◌+◌, ◌*◌, ◌/◌, ◌<◌, ◌≤◌, sum, length, sym, subst, arith, inl, inr}
+use Rattle.std.proofs.Common.{◌≡◌, ℕ, ◌+◌, ◌*◌, ◌/◌, ◌<◌, sum, length, sym, subst, arith, inl, inr}
 use Rattle.vp_base.specs.Raster.{Raster}
 use Rattle.vp_base.proofs.BlockLemmas.{length-numbers}
 use Rattle.vp_scale.specs.Scale.{IsFactor, scaled_side}
@@ -20,20 +20,9 @@ by_factor P k is one two four eight =
 pub begins_inside : (k x n : ℕ) → IsFactor k → x < scaled_side k n → x * k < n
 begins_inside k x n is = by_factor (λ k. x < scaled_side k n → x * k < n) k is (λ h. omega arith) (λ h. omega arith) (λ h. omega arith) (λ h. omega arith)
 
--- a side that is not empty stays so, and gets no longer
-pub side_range : (k n : ℕ) → IsFactor k → 0 < n → (0 < scaled_side k n) × (scaled_side k n ≤ n)
-side_range k n is some = by_factor (λ k. (0 < scaled_side k n) × (scaled_side k n ≤ n)) k is (omega arith, omega arith) (omega arith, omega arith) (omega arith, omega arith) (omega arith, omega arith)
-
 -- half of the smaller side is half of the side, made smaller
 pub halves : (k n : ℕ) → IsFactor k → scaled_side k (half n) ≡ half (scaled_side k n)
 halves k n is = by_factor (λ k. scaled_side k (half n) ≡ half (scaled_side k n)) k is (omega arith) (omega arith) (omega arith) (omega arith)
-
--- a mean of bytes is a byte
-pub mean_is_byte : (k total : ℕ) → IsFactor k → total ≤ 255 * (k * k) → (total + k * k / 2) / (k * k) ≤ 255
-mean_is_byte k total is = by_factor (λ k. total ≤ 255 * (k * k) → (total + k * k / 2) / (k * k) ≤ 255) k is (λ h. omega arith) (λ h. omega arith) (λ h. omega arith) (λ h. omega arith)
-
-pub few_numbers : (k : ℕ) → IsFactor k → (0 < k * k) × (k * k ≤ 64) × (k ≤ 8)
-few_numbers k is = by_factor (λ k. (0 < k * k) × (k * k ≤ 64) × (k ≤ 8)) k is (omega arith, omega arith, omega arith) (omega arith, omega arith, omega arith) (omega arith, omega arith, omega arith) (omega arith, omega arith, omega arith)
 
 pub mean_is : (k total x y : ℕ) (p : Raster) → total ≡ sum (square k p (x * k) (y * k)) → (total + k * k / 2) / (k * k) ≡ mean_at k p x y
 unfolding mean_at

@@ -1,15 +1,13 @@
 -- A server and a transport, one step after another.
-use Rattle.std.proofs.Common.{ℕ, ◌≤◌, length, take, ◌≡◌, ◌++◌, ◌∷◌, ◌∙◌, [], List, Option, Some, None, refl, ap, sym, subst, append_assoc, append-nil, flat_map, option_map, inl}
+use Rattle.std.proofs.Common.{ℕ, ◌≤◌, length, take, ◌≡◌, ◌++◌, ◌∷◌, ◌∙◌, [], List, Option, Some, None, refl, ap, sym, subst, append_assoc, append-nil, flat_map, option_map}
 use Rattle.std.proofs.lemmas.List.{take-take, take-append-le}
 use Rattle.std.proofs.lemmas.List.Concat.{flat_map-append}
 use Rattle.vp_hub.specs.declared.event.HubFault.{HubFault}
 use Rattle.vp_hub.specs.declared.event.HubFault.TheVariants as fault
 use Rattle.vp_serve.specs.declared.connection.NextAction.{NextAction}
-use Rattle.vp_serve.specs.declared.connection.NextAction.TheVariants.{Close}
-use Rattle.vp_serve.specs.declared.options.ServeOptions.{ServeOptions}
 use Rattle.vp_serve.specs.Connection.{Connection}
 use Rattle.vp_serve.specs.Connections.{connection_of, next_action}
-use Rattle.vp_serve.specs.Reasons.{reason_by, IsReason}
+use Rattle.vp_serve.specs.Reasons.{reason_by}
 use Rattle.vp_serve.specs.Transfer.{Transfer, Logs}
 use Rattle.vp_serve.specs.ServerLoop.{LoopState, Action, IsTransition}
 use Rattle.vp_serve.specs.Transport.{ContinuesLoop, transfers_of, ended_names, causes}
@@ -86,17 +84,3 @@ no_cause c (Some fault.UnknownConn) = refl
 no_cause c (Some fault.AlreadyOpen) = refl
 no_cause c (Some fault.TooMany) = refl
 no_cause c (Some fault.Failed) = refl
-
--- a connection that the hub closed is closed for the reason that the hub gives
-pub is_hub_reason : (options : ServeOptions) (now : ℕ) (t : Connection) → next_action t ≡ Close → IsReason options now t (reason_by t.fault)
-is_hub_reason options now t h = at t.fault refl
-  where
-    at : (f : Option HubFault) → t.fault ≡ f → IsReason options now t (reason_by f)
-    at None e = (h, ap reason_by e)
-    at (Some fault.Memory) e = inl (h, ap reason_by e)
-    at (Some fault.UnknownStream) e = (h, ap reason_by e)
-    at (Some fault.Ended) e = (h, ap reason_by e)
-    at (Some fault.UnknownConn) e = (h, ap reason_by e)
-    at (Some fault.AlreadyOpen) e = (h, ap reason_by e)
-    at (Some fault.TooMany) e = (h, ap reason_by e)
-    at (Some fault.Failed) e = (h, ap reason_by e)

@@ -14,9 +14,6 @@ use Rattle.vp_serve.specs.Turns.{IsNextOpen, is_due, is_due_action}
 use Rattle.vp_serve.proofs.Changes.{first_of, connection_of-push}
 use Rattle.vp_serve.proofs.OneConnection.{none_some, same_some}
 
-pub next_open_none : (from : ℕ) → IsNextOpen from [] None
-next_open_none from = λ c h. refl
-
 -- a connection of another number changes nothing
 push_other : (c : ℕ) (x : Connection) (xs : List Connection) → (x.number == c) ≡ false → connection_of c xs ≡ None → connection_of c (xs ++ x ∷ []) ≡ None
 push_other c x xs h k = connection_of-push c x xs ∙ ap (λ (o : Option Connection). first_of o (cond (x.number == c) (Some x) None)) k ∙ ap (λ t. cond t (Some x) None) h

@@ -275,10 +275,3 @@ module _ (first s same : PacketReader) (r0 r : Option (List ℕ))
         subst (λ (file : List ℕ). IsReading limits new file given) (append_assoc fed now.0 took.0)
             (subst (λ (z : PacketReader). IsReading limits z ((fed ++ now.0) ++ took.0) given) (sym parts.2) on),
       )
-
--- a turn takes a piece of those that may be read
-pub fewer_turns : (b : Bool) (old new : PacketReader) (left : Option (List ℕ)) → b ≡ true → (piece : List ℕ) → Took (Ok b) old new left piece → new.turns < old.turns
-fewer_turns b old new left always piece t =
-    let parts = took_some b old new left piece always t in
-    let some = parts.1 in
-    rw parts.2 (omega arith)

@@ -13,11 +13,10 @@ use Rattle.vp_decode.specs.Step.{DecoderState, Answer, step, outcome}
 use Rattle.vp_stream.specs.declared.form.Form.TheVariants.{I420}
 use Rattle.vp_stream.specs.Answers.{answers_from}
 use Rattle.vp_stream.specs.Reports.{outcomes}
-use Rattle.vp_stream.specs.PacketReader.{PacketReader, IsReading, EndsReading, before_first_read}
+use Rattle.vp_stream.specs.PacketReader.{PacketReader, IsReading, EndsReading}
 use Rattle.vp_stream.specs.Transcode.{TranscodeState, fresh, after_packet, after_packets, answer_to}
 use Rattle.vp_stream.specs.Written.{IsSurveyed}
 use Rattle.vp_stream.proofs.CountLemmas.{count-read}
-use Rattle.vp_stream.proofs.IncomingLemmas.{at_start}
 use Rattle.vp_stream.proofs.ReportLemmas.{after_packets-append, answers_to-append, length-answers_to}
 
 -- the state of a decoder after these packets
@@ -29,9 +28,6 @@ pub record IsTold (limits : Limits) (file : PacketReader) (reader : OutcomeReade
   pub reading : IsReading limits file fed given
   pub beside : reader ≡ reader_at limits (state_after limits given)
   pub is_told : told ≡ outcomes given (answers_from limits None given)
-
-pub told_first : (limits : Limits) (reader : OutcomeReader) → reader ≡ record { limits = limits; shown = None } → IsTold limits (before_first_read limits) reader [] [] []
-told_first limits reader e = record { reading = at_start limits; beside = e; is_told = refl }
 
 zip-last : {A B : Type 0} (xs : List A) (ys : List B) (x : A) (y : B) → length xs ≡ length ys → zip (xs ++ x ∷ []) (ys ++ y ∷ []) ≡ zip xs ys ++ (x, y) ∷ []
 zip-last [] [] x y e = refl

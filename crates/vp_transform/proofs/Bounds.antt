@@ -113,9 +113,6 @@ idct-first_alone z =
     let e : map (λ v. rounded v) (turned z (pos 0) (pos 0) (pos 0)) ≡ replicate 4 (rounded z) = ap (λ v. map (λ w. rounded w) v) (turned-first z) in
     ap (λ v. horizontal v) columns ∙ rows_along e e e e
 
-pub idct-zeros : idct (replicate 16 (pos 0)) ≡ replicate 16 (pos 0)
-idct-zeros = idct-first_alone (pos 0)
-
 mixed-first : (z : ℤ) → mixed z (pos 0) (pos 0) (pos 0) ≡ z ∷ z ∷ z ∷ z ∷ []
 mixed-first z = four (omega (arith, ints)) (omega (arith, ints)) (omega (arith, ints)) (omega (arith, ints))
 
@@ -129,9 +126,6 @@ iwht-first_alone z =
     let row : (r : ℕ) → mixed (element_at all r 0) (element_at all r 1) (element_at all r 2) (element_at all r 3) ≡ z ∷ z ∷ z ∷ z ∷ [] → map (λ v. floor_div (v +ℤ pos 3) 8) (row_product all r) ≡ replicate 4 (floor_div (z +ℤ pos 3) 8) =
     λ r e. ap (λ v. map (λ w. floor_div (w +ℤ pos 3) 8) v) (sym (mixed-row all r) ∙ e) in
     ap (λ v. times_hadamard_rounded v) columns ∙ rows_along (row 0 (mixed-first z)) (row 1 (mixed-first z)) (row 2 (mixed-first z)) (row 3 (mixed-first z))
-
-pub iwht-zeros : iwht (replicate 16 (pos 0)) ≡ replicate 16 (pos 0)
-iwht-zeros = iwht-first_alone (pos 0)
 
 -- of a block whose numbers are known
 pub idct_fits_tested : (block : List ℤ) → T (are_within (2 ^ 40) block) → IdctFits block

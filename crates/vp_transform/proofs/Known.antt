@@ -45,7 +45,3 @@ read_shifted m {u = u} h l = read-along (ap (λ v. floor_div v m) h.same) (fits-
 
 pub constant : (k : ℕ) → Is k (pos k) (pos k)
 constant k = record { same = λ i. pos k; size = record { size = omega arith } }
-
--- the result of a sum that is no part of another
-pub read_last : {n : ℕ} {x u : ℤ} → Is n x u → x ≡ u
-read_last h = h.same

@@ -137,9 +137,6 @@ below_four P p0 p1 p2 p3 (suc (suc zero)) h = p2
 below_four P p0 p1 p2 p3 (suc (suc (suc zero))) h = p3
 below_four P p0 p1 p2 p3 (suc (suc (suc (suc n)))) h = absurd (omega arith)
 
-pub row-within : (xs : List ℤ) → EachWithin 8192 xs → (r : ℕ) (v : List ℤ) → ((j : ℕ) → j < 4 → lane v j ≡ element_at xs r j) → LanesWithin 8192 v
-row-within xs small r v e j h = subst (λ z. unsigned_abs z ≤ 8192) (sym (e j h)) (small (4 * r + j))
-
 -- ---- a block and its rows
 module _ (n : ℕ) (a b c d : List ℤ) (w : EachWithin n (block_in a b c d)) where
   pub within_first : LanesWithin n a
@@ -183,9 +180,6 @@ module _ (xs : List ℤ) (small : EachWithin 8191 xs) (k : ℕ) where
   short_read =
       let l = small k in
       ap (λ z. coded32 z) (to_z-of_z w16 (get xs k) (short16_fits (get xs k) (omega arith))) ∙ to_z-of_z w32 (get xs k) (short_fits (get xs k) (omega arith))
-
-pub short-row-within : (xs : List ℤ) → EachWithin 8191 xs → (r : ℕ) (v : List ℤ) → ((j : ℕ) → j < 4 → lane v j ≡ element_at xs r j) → LanesWithin 8191 v
-short-row-within xs small r v e j h = subst (λ z. unsigned_abs z ≤ 8191) (sym (e j h)) (small (4 * r + j))
 
 module _ (a : List ℤ) {xs : List ℕ} (p : Signed 4 (lane a) xs) (w : LanesWithin 32764 a) where
   pub short_cast : Each1 (Asks1 (cast signed signed w16) (s_int w32)) xs
