@@ -1,11 +1,12 @@
 -- The count of a macroblock's neighbours.
-use Rattle.std.proofs.Common.{◌≡◌, ◌∙◌, ℕ, ◌+◌, ◌*◌, ◌<◌, ◌≤◌, Bool, true, false, List, [], ◌∷◌, ◌++◌, refl, ap, sym, arith, inl, inr, ℤ, pos, negsuc, add_assoc}
-use Rattle.std.specs.Prelude.{Option, Some, None, nat_lt}
+use Rattle.std.proofs.Common.{◌≡◌, ◌∙◌, ℕ, ◌+◌, ◌<◌, ◌≤◌, true, false, List, [], ◌∷◌, refl, ap, arith, inl, inr, ℤ, pos, negsuc, add_assoc}
+use Rattle.std.specs.Prelude.{nat_lt}
 use Rattle.std.proofs.lemmas.Bool.{cases_Bool, and_parts, eqb-true, false≢true, lt-ltb, le-ltb}
 use Rattle.vp_motion.specs.declared.vector.Nearby.{Nearby}
 use Rattle.vp_motion.specs.declared.vector.Weighted.{Weighted}
 use Rattle.vp_motion.specs.Vector.{Vector, zero_vector}
-use Rattle.vp_motion.specs.Near.{from_entries, from_two, first_candidate, weighted_at, same, same_number, still_weight, moving, onto, runs, nobody, weighted_vector, Counts}
+use Rattle.vp_motion.specs.Near.{from_entries, first_candidate, same, same_number, still_weight, moving, onto, runs, nobody}
+use Rattle.vp_motion.specs.Counting.{Counts}
 
 same_number-true : (m n : ℤ) → same_number m n ≡ true → m ≡ n
 same_number-true (pos m) (pos n) h = ap pos (eqb-true m n h)

@@ -1,8 +1,8 @@
 -- The candidate vectors of a macroblock: best, nearest and near, with their weights, sign biases and clamping (RFC
 -- 6386, chapter 16.3). Pinned by the law `near_of_three_neighbours`, the test `vectors_by_their_neighbours`, and
 -- streams of other encoders in the gate.
-use Rattle.std.specs.Prelude.{◌≡◌, ◌<◌, ℕ, ◌+◌, ◌-◌, ◌*◌, ◌&&◌, Bool, true, false, not, nat_lt, nat_le, eqb, List, []}
-use Rattle.std.specs.Prelude.{Option, Some, None, ◌∷◌, ◌++◌, length, replicate, slice_index_or, ℤ, pos, negsuc, neg_ℤ}
+use Rattle.std.specs.Prelude.{ℕ, ◌+◌, ◌-◌, ◌*◌, ◌&&◌, Bool, true, false, not, nat_lt, nat_le, eqb, List, []}
+use Rattle.std.specs.Prelude.{◌∷◌, ◌++◌, length, slice_index_or, ℤ, pos, negsuc, neg_ℤ}
 use Rattle.std.specs.Prelude.{int_lt, if◌then◌else◌}
 use Rattle.std.specs.Int.{from_bool}
 use Rattle.vp_head.specs.declared.fields.Reference.{Reference}
@@ -14,7 +14,6 @@ use Rattle.vp_head.specs.Reference.{is_intra}
 use Rattle.vp_base.specs.declared.place.Place.{Place}
 use Rattle.vp_base.specs.Place.{above, left, corner}
 use Rattle.vp_base.specs.Grid.{Grid, look}
-use Rattle.vp_motion.specs.declared.vector.Nearby.{Nearby}
 use Rattle.vp_motion.specs.declared.vector.Weighted.{Weighted}
 use Rattle.vp_motion.specs.Vector.{Vector, MacroblockMotion, Candidates, zero_vector}
 use Rattle.vp_motion.specs.Map.{intra, own}
@@ -140,49 +139,3 @@ unfoldable pub candidates : Grid MacroblockMotion → Place → Reference → Si
 candidates g p r b =
     let ws = neighbours g p r b in
     from_entries (clamped_vector g p) (still_weight ws) (split_count g p) (runs (moving ws))
-
--- ---- A worked example: the centre of 3x3 macroblocks
-
-abbrev pub example_vector : Vector
-example_vector = record { row = pos 4; column = pos 0 }
-
--- the motion of a macroblock that uses the last frame and one new vector
-abbrev pub inter : Vector → MacroblockMotion
-inter v = record { reference = reference_is.Last; mode = vector_is.New; vectors = replicate 16 v }
-
--- (4, 0) above and to the left, zero above left
-unfoldable pub example_grid : Grid MacroblockMotion
-example_grid = record {
-  columns = 3;
-  rows = 3;
-  entries = inter zero_vector ∷ inter example_vector ∷ intra
-      ∷ inter example_vector ∷ intra ∷ intra ∷ intra ∷ intra ∷ intra ∷ [];
-}
-
--- ---- The count that the code keeps of the neighbours: for its contracts, not for the candidates
-
--- the candidates that are counted, with these weights of split neighbours
-abbrev pub candidates_by : (Vector → Vector) → ℕ → Nearby → Candidates
-candidates_by clamp splits n = from_two clamp n.zeros splits n.nearest n.near
-
--- the best candidate, before it is clamped
-abbrev pub best_of : Nearby → Vector
-best_of n = if nat_le n.zeros n.nearest.weight then n.nearest.vector else zero_vector
-
--- the vector of a neighbour with its weight, if the neighbour has one
-abbrev pub weighted_vector : ℕ → Option Vector → List Weighted
-weighted_vector weight None = []
-weighted_vector weight (Some v) = record { vector = v; weight = weight } ∷ []
-
--- n counts zero vectors of this weight, and these entries
-abbrev pub Counts : Nearby → ℕ → List Weighted → Type 0
-Counts n zeros es = (clamp : Vector → Vector) (splits : ℕ)
-    → candidates_by clamp splits n ≡ from_entries clamp zeros splits es
-
--- the weights are at most 5
-abbrev pub AreLight : Nearby → Type 0
-AreLight n = (n.zeros < 6) × ((n.nearest.weight < 6) × (n.near.weight < 6))
-
--- the weights by which the vector mode is read
-abbrev pub weights_of : ℕ → Nearby → List ℕ
-weights_of splits n = n.zeros ∷ n.nearest.weight ∷ n.near.weight ∷ splits ∷ []

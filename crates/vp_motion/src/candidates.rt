@@ -5,8 +5,9 @@ ghost use Rattle.std.specs.Int.{from_bool};
 ghost use Rattle.vp_base.specs.Grid.{Has, look};
 ghost use Rattle.vp_motion.specs.Map.{intra};
 ghost use Rattle.vp_motion.specs.Vector.{IsWithin};
-ghost use Rattle.vp_motion.specs.Near.{bias_corrected, bias_of, candidates, candidates_by, clamped, clamped_vector};
-ghost use Rattle.vp_motion.specs.Near.{negated, same, splits, split_count, weighted_vector, weighted_neighbour, AreLight};
+ghost use Rattle.vp_motion.specs.Near.{bias_corrected, bias_of, candidates, clamped, clamped_vector};
+ghost use Rattle.vp_motion.specs.Near.{negated, same, splits, split_count, weighted_neighbour};
+ghost use Rattle.vp_motion.specs.Counting.{candidates_by, weighted_vector, AreLight};
 
 use crate::map::VectorMap;
 use crate::nearby::count;

@@ -5,7 +5,8 @@ ghost use Rattle.vp_base.specs.Grid.{Has};
 ghost use Rattle.vp_tables.specs.declared.mode_probabilities.TheConstants.{VECTOR_MODE_PROBABILITIES};
 ghost use Rattle.vp_motion.specs.Motion.{vector_mode};
 ghost use Rattle.vp_motion.specs.ModeWalk.{any_mode, above_zero, above_nearest, above_near};
-ghost use Rattle.vp_motion.specs.Near.{split_count, weights_of, AreLight};
+ghost use Rattle.vp_motion.specs.Near.{split_count};
+ghost use Rattle.vp_motion.specs.Counting.{weights_of, AreLight};
 
 use crate::candidates::split_count;
 use crate::map::VectorMap;

@@ -1,8 +1,8 @@
-use Rattle.std.proofs.Common.{◌≡◌, ◌∙◌, ◌++◌, ap}
+use Rattle.std.proofs.Common.{◌∙◌, ◌++◌, ap}
 use Rattle.vp_base.specs.Grid.{look}
 use Rattle.vp_motion.specs.Map.{intra}
 use Rattle.vp_motion.specs.Vector.{MacroblockMotion}
-use Rattle.vp_motion.specs.Near.{candidates, clamped_vector, from_entries, neighbours, moving, runs, split_count, still_weight, weighted_vector, weighted_neighbour}
+use Rattle.vp_motion.specs.Near.{candidates, clamped_vector, from_entries, neighbours, moving, runs, split_count, still_weight, weighted_neighbour}
 use Rattle.vp_motion.proofs.candidates.nearby.Goals as goal
 
 pub returns-clause-value : goal.returns-clause-value

@@ -1,5 +1,6 @@
 use Rattle.std.proofs.Common.{ap, ◌∙◌}
-use Rattle.vp_motion.specs.Near.{split_count, weights_of}
+use Rattle.vp_motion.specs.Near.{split_count}
+use Rattle.vp_motion.specs.Counting.{weights_of}
 use Rattle.vp_motion.proofs.ModeWalkLemmas.{mode_walked}
 use Rattle.vp_motion.proofs.mode.read_mode.Goals as goal
 

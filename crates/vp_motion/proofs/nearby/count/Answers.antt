@@ -1,6 +1,6 @@
 use Rattle.std.proofs.Common.{◌∙◌, List, ◌++◌, sym}
 use Rattle.vp_motion.specs.declared.vector.Weighted.{Weighted}
-use Rattle.vp_motion.specs.Near.{moving, runs, weighted_vector}
+use Rattle.vp_motion.specs.Counting.{weighted_vector}
 use Rattle.vp_motion.proofs.Counts.{recount, runs-moving, runs-still, still-moving, still-still}
 use Rattle.vp_motion.proofs.nearby.count.Goals as goal
 
