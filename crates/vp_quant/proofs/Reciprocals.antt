@@ -150,6 +150,11 @@ module _ {n : ℕ} {Z : ℕ → ℤ} {xs : List ℕ} (p : Signed n Z xs) (small 
   sizes_fit = each_lane (Asks1 (cast signed unsigned w16) (s_int w16)) (lanes_of 0 n abs_of magnitudes.long)
       (λ j h. subst (λ (y : ℤ). T (non_neg y) × Fits w16 (unsigned_abs y)) (sym (magnitudes.at j h).is) (let s = small j h in (tt, record { fits = omega arith })))
 
+  pub plain_sizes : (j : ℕ) → j < n → get_or (map (act1 (cast signed unsigned w16) (s_int w16) (s_int w16)) abs_of) j 0 ≡ unsigned_abs (Z j)
+  plain_sizes j h =
+      lane_is 0 (mapped (act1 (cast signed unsigned w16) (s_int w16) (s_int w16)) (lanes_of 0 n abs_of magnitudes.long)) j h
+      ∙ ap (λ (y : ℤ). unsigned_abs y) (magnitudes.at j h).is
+
   -- .. plus a number
   pub raised_sizes : (k : ℕ) → k ≤ 32767 → (j : ℕ) → j < n
       → get_or (zip2 (act2 wrap_add (s_int w16) (s_int w16) (s_int w16)) (map (act1 (cast signed unsigned w16) (s_int w16) (s_int w16)) abs_of) (replicate n k)) j 0 ≡ unsigned_abs (Z j) + k

@@ -158,14 +158,34 @@ pub short_of : (z : ℤ) → unsigned_abs z ≤ 2200 → IsShort z
 short_of (pos n) h = (omega (arith, ints), omega (arith, ints))
 short_of (negsuc n) h = (omega (arith, ints), omega (arith, ints))
 
-module _ (z : ℤ) (dc ac d a : ℕ) (near : HasSmallProduct z dc ac) (first : d ≡ min dc 2200) (others : a ≡ min ac 2200) where
-  pub by_factor : (t : Bool) → z *ℤ pos (if t then d else a) ≡ z *ℤ pos (if t then dc else ac)
-  by_factor true = ap (λ k. z *ℤ pos k) first ∙ near_factor z dc ac dc near (omega arith)
-  by_factor false = ap (λ k. z *ℤ pos k) others ∙ near_factor z dc ac ac near (omega arith)
+-- a factor that is at most 2200
+pub least_factor : (d a dc ac : ℕ) → d ≡ min dc 2200 → a ≡ min ac 2200 → (t : Bool) → pos (if t then d else a) ≡ pos (min (if t then dc else ac) 2200)
+least_factor d a dc ac first others true = ap (λ (n : ℕ). pos n) first
+least_factor d a dc ac first others false = ap (λ (n : ℕ). pos n) others
 
-  pub product_short : (t : Bool) → IsShort (z *ℤ pos (if t then d else a))
-  product_short true = short_of _ (subst (λ v. unsigned_abs v ≤ 2200) (sym (by_factor true)) (near_product z dc ac dc near (omega arith)))
-  product_short false = short_of _ (subst (λ v. unsigned_abs v ≤ 2200) (sym (by_factor false)) (near_product z dc ac ac near (omega arith)))
+module _ (z f : ℤ) (dc ac : ℕ) (near : HasSmallProduct z dc ac) where
+  pub least_product : (t : Bool) → f ≡ pos (min (if t then dc else ac) 2200) → z *ℤ f ≡ z *ℤ pos (if t then dc else ac)
+  least_product true e = ap (λ (y : ℤ). z *ℤ y) e ∙ near_factor z dc ac dc near (omega arith)
+  least_product false e = ap (λ (y : ℤ). z *ℤ y) e ∙ near_factor z dc ac ac near (omega arith)
+
+  pub least_small : (t : Bool) → f ≡ pos (min (if t then dc else ac) 2200) → unsigned_abs (z *ℤ f) ≤ 2200
+  least_small true e = subst (λ v. unsigned_abs v ≤ 2200) (sym (least_product true e)) (near_product z dc ac dc near (omega arith))
+  least_small false e = subst (λ v. unsigned_abs v ≤ 2200) (sym (least_product false e)) (near_product z dc ac ac near (omega arith))
+
+-- .. as it is handed on
+pub factor_handed : (fs : List ℤ) (j n : ℕ) → get_or fs j (pos 0) ≡ pos (min n 2200) → get_or (map (to_z w16) (map (of_z w16) fs)) j (pos 0) ≡ get_or fs j (pos 0)
+factor_handed fs j n e =
+    get_or-map (to_z w16) (map (of_z w16) fs) j 0 ∙ ap (to_z w16) (get_or-map (of_z w16) fs j (pos 0))
+    ∙ ap (λ (z : ℤ). to_z w16 (of_z w16 z)) e ∙ plain_at (min n 2200) (omega arith) ∙ sym e
+  where
+    plain_at : (k : ℕ) → k ≤ 2200 → to_z w16 (of_z w16 (pos k)) ≡ pos k
+    plain_at k h = omega (arith, ints)
+
+-- a level below the bound
+pub below_bound : (z : ℤ) (bound dc ac : ℕ) → bound ≡ 2200 / largest dc ac + 1 → unsigned_abs z < bound → HasSmallProduct z dc ac
+below_bound z bound dc ac is below =
+    let m : unsigned_abs z * largest dc ac ≤ 2200 / largest dc ac * largest dc ac = mul-le-mul (omega arith) (omega arith) in
+    omega (arith, m, div-mul-le_self 2200 (largest dc ac))
 
 -- ---- the places
 module _ (f g : ℕ → ℤ) (same : (k : ℕ) → k < 16 → f k ≡ g k) where

@@ -12,4 +12,4 @@ pub use block::dequant;
 pub use factors::{Factors, segment_index};
 pub use level::quantise;
 pub use quantised_block::quantise_block;
-pub use short::dequant_short;
+pub use short::{ShortFactors, dequant_short};

@@ -59,7 +59,7 @@ fn rounded_sizes(v: i16x16, factor: u16) -> u16x16
 }
 
 /// Whether each lane is less than the bound.
-fn are_below(v: u16x16, bound: u16) -> bool
+pub(crate) fn are_below(v: u16x16, bound: u16) -> bool
     ensures { result ≡ true → (j : ℕ) → j < 16 → slice_index v j < bound }
 {
     v.simd_lt(u16x16::splat(bound)).all()

@@ -1,11 +1,12 @@
 //! Dequantisation in i16 lanes, for coefficients from -2,200 to 2,200.
 
-ghost use Rattle.std.specs.Prelude.{◌≡◌, ◌≢◌, ℕ, ◌*◌, ◌/◌, ◌<◌, ◌≤◌, pos, ◌*ℤ◌, ℤ, List, Some, None, true, false, max};
-ghost use Rattle.std.specs.Prelude.{min, unsigned_abs, slice_index_or, ◌==◌, if◌then◌else◌};
+ghost use Rattle.std.specs.Prelude.{◌≡◌, ◌≢◌, ℕ, ◌*◌, ◌/◌, ◌<◌, ◌≤◌, pos, ◌*ℤ◌, ℤ, List, Some, None, true, max, min};
+ghost use Rattle.std.specs.Prelude.{unsigned_abs, slice_index, slice_index_or, ◌==◌, if◌then◌else◌};
 ghost use Rattle.vp_lanes.specs.Lane.{lane};
 ghost use Rattle.vp_quant.specs.Quant.{position_at, dequantised};
-ghost use Rattle.vp_quant.specs.Short.{largest, AreShort, HasSmallProduct};
+ghost use Rattle.vp_quant.specs.Short.{largest, AreFactors, AreShort, HasSmallProduct};
 
+use crate::quantised_block::are_below;
 use std::simd::prelude::*;
 use vp_lanes::clamp_i16;
 
@@ -24,10 +25,68 @@ pub fn dequant_short(levels: [i16; 16], dc: u16, ac: u16) -> Option<[i16; 16]>
     let most = greatest_level(dc, ac);
     let held = clamp_i16(read, -most, most);
     if are_same(held, read) {
-        Some(placed(products(read, dc, ac)).to_array())
+        Some(ShortFactors::of(dc, ac).dequant(levels))
     } else {
         None
     }
+}
+
+/// The factors of blocks whose coefficients fit in 16 bits.
+#[derive(Clone, Copy)]
+pub struct ShortFactors {
+    /// More than the magnitude of any level.
+    bound: u16,
+    /// The factor of each position in zigzag order.
+    factors: i16x16,
+}
+
+impl ShortFactors {
+    /// The factors of blocks whose first level is multiplied by `dc`, the others by `ac`.
+    pub fn of(dc: u16, ac: u16) -> ShortFactors
+        ensures { AreFactors result dc ac }
+    {
+        ShortFactors {
+            bound: COEFFICIENT_BOUND / dc.max(ac).max(1) + 1,
+            factors: factor_lanes(dc, ac),
+        }
+    }
+
+    /// Whether all levels of two blocks are small enough for these factors.
+    pub fn are_small(&self, left: [i16; 16], right: [i16; 16]) -> bool
+        requires left { (i : ℕ) → unsigned_abs (slice_index_or left i (pos 0)) ≤ 32767 }
+        requires right { (i : ℕ) → unsigned_abs (slice_index_or right i (pos 0)) ≤ 32767 }
+        ensures left { result ≡ true → (dc ac : ℕ) → AreFactors self.now dc ac → AreShort left dc ac }
+        ensures right { result ≡ true → (dc ac : ℕ) → AreFactors self.now dc ac → AreShort right dc ac }
+    {
+        let left = sizes(i16x16::from_array(left));
+        let right = sizes(i16x16::from_array(right));
+        are_below(larger(left, right), self.bound)
+    }
+
+    /// The dequantised block of levels that are small enough.
+    pub fn dequant(&self, levels: [i16; 16]) -> [i16; 16]
+        ensures value { (dc ac : ℕ) → AreFactors self.now dc ac → AreShort levels dc ac
+            → result ≡ dequantised levels dc ac }
+        ensures small { (dc ac : ℕ) → AreFactors self.now dc ac → AreShort levels dc ac → (i : ℕ)
+            → unsigned_abs (slice_index_or result i (pos 0)) ≤ 2200 }
+    {
+        placed(scaled(i16x16::from_array(levels), self.factors)).to_array()
+    }
+}
+
+/// The magnitude of each lane.
+fn sizes(v: i16x16) -> u16x16
+    requires { (j : ℕ) → j < 16 → unsigned_abs (lane v j) ≤ 32767 }
+    ensures { (j : ℕ) → j < 16 → slice_index result j ≡ unsigned_abs (lane v j) }
+{
+    v.abs().cast::<u16>()
+}
+
+/// The larger of two lanes.
+fn larger(a: u16x16, b: u16x16) -> u16x16
+    ensures { (j : ℕ) → j < 16 → slice_index result j ≡ max (slice_index a j) (slice_index b j) }
+{
+    a.simd_max(b)
 }
 
 /// The greatest magnitude of a level for these factors.
@@ -46,17 +105,23 @@ fn are_same(a: i16x16, b: i16x16) -> bool
 }
 
 /// The levels times their factors. Each product must be small.
-fn products(levels: i16x16, dc: u16, ac: u16) -> i16x16
-    requires { (j : ℕ) → j < 16 → HasSmallProduct (lane levels j) dc ac }
-    ensures { (j : ℕ) → j < 16 → lane result j ≡ lane levels j *ℤ pos (if j == 0 then dc else ac) }
+fn scaled(levels: i16x16, factors: i16x16) -> i16x16
+    ensures { ((j : ℕ) → j < 16 → unsigned_abs (lane levels j *ℤ lane factors j) ≤ 2200)
+        → (j : ℕ) → j < 16 → lane result j ≡ lane levels j *ℤ lane factors j }
+{
+    levels * factors
+}
+
+/// The factor of each position in zigzag order, at most the bound: a larger one stands beside zeros alone.
+fn factor_lanes(dc: u16, ac: u16) -> i16x16
+    ensures { (j : ℕ) → j < 16 → lane result j ≡ pos (min (if j == 0 then dc else ac) 2200) }
 {
     let first = i16x16::splat(dc.min(COEFFICIENT_BOUND) as i16);
     let others = i16x16::splat(ac.min(COEFFICIENT_BOUND) as i16);
-    levels
-        * others.shuffle::<16>(
-            first,
-            [16, 1, 2, 3, 4, 5, 6, 7, 8, 9, 10, 11, 12, 13, 14, 15],
-        )
+    others.shuffle::<16>(
+        first,
+        [16, 1, 2, 3, 4, 5, 6, 7, 8, 9, 10, 11, 12, 13, 14, 15],
+    )
 }
 
 /// Moves each lane from its zigzag position to its raster index.

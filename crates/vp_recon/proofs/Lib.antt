@@ -3,8 +3,8 @@ pub mod SumLemmas
 pub mod PlaneLemmas
 pub mod StrideLemmas
 pub mod AddLemmas
+pub mod StripLemmas
 pub mod PairLemmas
-pub mod FourLemmas
 pub mod MovedLemmas
 pub mod LumaLemmas
 pub mod ResidueLemmas

@@ -16,57 +16,61 @@ is_in x y n h u v e = (grind (arith, nat_tests), grind (arith, nat_tests), grind
 pub in_it : (x y n h u v : ℕ) → x ≤ u → u < x + n → y ≤ v → v < y + h → is_in_block x y n h u v ≡ true
 in_it x y n h u v a b c d = grind (arith, nat_tests)
 
-moved : (x y a b n u v : ℕ) → x ≤ u → y ≤ v → is_in_block (x + a) (y + b) n n u v ≡ false → is_in_block a b n n (u - x) (v - y) ≡ false
-moved x y a b n u v left top e = grind (arith, nat_tests)
+moved : (x y a b n h u v : ℕ) → x ≤ u → y ≤ v → is_in_block (x + a) (y + b) n h u v ≡ false → is_in_block a b n h (u - x) (v - y) ≡ false
+moved x y a b n h u v left top e = grind (arith, nat_tests)
+
+-- a pixel of the block at a place
+abbrev pub was : Raster → ℕ → ℕ → ℕ → ℕ → ℕ
+was p x y r c = pixel p (x + c) (y + r)
 
 -- p with a block of what it has there is p
-pub with_block_of : (p : Raster) (x y n : ℕ) → IsWhole p → p ≡ with_block p x y n n (λ r c. pixel p (x + c) (y + r))
-with_block_of p x y n whole =
-    same_raster p (with_block p x y n n (λ r c. pixel p (x + c) (y + r))) refl refl whole (IsWhole-with_block p x y n n (λ r c. pixel p (x + c) (y + r)))
+pub with_block_of : (p : Raster) (x y n h : ℕ) → IsWhole p → p ≡ with_block p x y n h (λ r c. pixel p (x + c) (y + r))
+with_block_of p x y n h whole =
+    same_raster p (with_block p x y n h (λ r c. pixel p (x + c) (y + r))) refl refl whole (IsWhole-with_block p x y n h (λ r c. pixel p (x + c) (y + r)))
     (λ u v uin vin. sym (
-    pixel-with_block p x y n n (λ r c. pixel p (x + c) (y + r)) u v uin vin
-    ∙ elim (cases_Bool (is_in_block x y n n u v)) [
+    pixel-with_block p x y n h (λ r c. pixel p (x + c) (y + r)) u v uin vin
+    ∙ elim (cases_Bool (is_in_block x y n h u v)) [
       | inl within ↦
-          let at = is_in x y n n u v within in
+          let at = is_in x y n h u v within in
           ap (λ (t : Bool). cond t (pixel p (x + (u - x)) (y + (v - y))) (pixel p u v)) within
           ∙ ap (λ (i : ℕ). pixel p i (y + (v - y))) (let e : x + (u - x) ≡ u = omega (arith, at) in e)
           ∙ ap (pixel p u) (let e : y + (v - y) ≡ v = omega (arith, at) in e)
       | inr past ↦ ap (λ (t : Bool). cond t (pixel p (x + (u - x)) (y + (v - y))) (pixel p u v)) past
     ]))
 
-with_block_inside : (p : Raster) (x y n : ℕ) (f : ℕ → ℕ → ℕ) (a b m : ℕ) (g h : ℕ → ℕ → ℕ) → a + m ≤ n → b + m ≤ n
-    → ((r c : ℕ) → r < m → c < m → g r c ≡ h (b + r) (a + c))
-    → ((r c : ℕ) → r < n → c < n → is_in_block a b m m c r ≡ false → f r c ≡ h r c)
-    → with_block (with_block p x y n n f) (x + a) (y + b) m m g ≡ with_block p x y n n h
-with_block_inside p x y n f a b m g h afits bfits inside outside =
-    same_raster (with_block (with_block p x y n n f) (x + a) (y + b) m m g) (with_block p x y n n h) refl refl
-    (IsWhole-with_block (with_block p x y n n f) (x + a) (y + b) m m g) (IsWhole-with_block p x y n n h)
+with_block_inside : (p : Raster) (x y n o : ℕ) (f : ℕ → ℕ → ℕ) (a b m l : ℕ) (g h : ℕ → ℕ → ℕ) → a + m ≤ n → b + l ≤ o
+    → ((r c : ℕ) → r < l → c < m → g r c ≡ h (b + r) (a + c))
+    → ((r c : ℕ) → r < o → c < n → is_in_block a b m l c r ≡ false → f r c ≡ h r c)
+    → with_block (with_block p x y n o f) (x + a) (y + b) m l g ≡ with_block p x y n o h
+with_block_inside p x y n o f a b m l g h afits bfits inside outside =
+    same_raster (with_block (with_block p x y n o f) (x + a) (y + b) m l g) (with_block p x y n o h) refl refl
+    (IsWhole-with_block (with_block p x y n o f) (x + a) (y + b) m l g) (IsWhole-with_block p x y n o h)
     (λ u v uin vin.
-    pixel-with_block (with_block p x y n n f) (x + a) (y + b) m m g u v uin vin
-    ∙ elim (cases_Bool (is_in_block (x + a) (y + b) m m u v)) [
+    pixel-with_block (with_block p x y n o f) (x + a) (y + b) m l g u v uin vin
+    ∙ elim (cases_Bool (is_in_block (x + a) (y + b) m l u v)) [
       | inl within ↦
-          let at = is_in (x + a) (y + b) m m u v within in
-          let whole : is_in_block x y n n u v ≡ true = in_it x y n n u v (omega (arith, at)) (omega (arith, at)) (omega (arith, at)) (omega (arith, at)) in
-          ap (λ (t : Bool). cond t (g (v - (y + b)) (u - (x + a))) (pixel (with_block p x y n n f) u v)) within
+          let at = is_in (x + a) (y + b) m l u v within in
+          let whole : is_in_block x y n o u v ≡ true = in_it x y n o u v (omega (arith, at)) (omega (arith, at)) (omega (arith, at)) (omega (arith, at)) in
+          ap (λ (t : Bool). cond t (g (v - (y + b)) (u - (x + a))) (pixel (with_block p x y n o f) u v)) within
           ∙ inside (v - (y + b)) (u - (x + a)) (omega (arith, at)) (omega (arith, at))
           ∙ ap (λ (r : ℕ). h r (a + (u - (x + a)))) (let e : b + (v - (y + b)) ≡ v - y = omega (arith, at) in e)
           ∙ ap (h (v - y)) (let e : a + (u - (x + a)) ≡ u - x = omega (arith, at) in e)
           ∙ ap (λ (t : Bool). cond t (h (v - y) (u - x)) (pixel p u v)) (sym whole)
       | inr past ↦
-          ap (λ (t : Bool). cond t (g (v - (y + b)) (u - (x + a))) (pixel (with_block p x y n n f) u v)) past
-          ∙ pixel-with_block p x y n n f u v uin vin
-          ∙ elim (cases_Bool (is_in_block x y n n u v)) [
+          ap (λ (t : Bool). cond t (g (v - (y + b)) (u - (x + a))) (pixel (with_block p x y n o f) u v)) past
+          ∙ pixel-with_block p x y n o f u v uin vin
+          ∙ elim (cases_Bool (is_in_block x y n o u v)) [
             | inl whole ↦
-                let at = is_in x y n n u v whole in
+                let at = is_in x y n o u v whole in
                 ap (λ (t : Bool). cond t (f (v - y) (u - x)) (pixel p u v)) whole
-                ∙ outside (v - y) (u - x) (omega (arith, at)) (omega (arith, at)) (moved x y a b m u v at.0 at.2 past)
+                ∙ outside (v - y) (u - x) (omega (arith, at)) (omega (arith, at)) (moved x y a b m l u v at.0 at.2 past)
                 ∙ ap (λ (t : Bool). cond t (h (v - y) (u - x)) (pixel p u v)) (sym whole)
             | inr none ↦
                 ap (λ (t : Bool). cond t (f (v - y) (u - x)) (pixel p u v)) none
                 ∙ ap (λ (t : Bool). cond t (h (v - y) (u - x)) (pixel p u v)) (sym none)
           ]
     ]
-    ∙ sym (pixel-with_block p x y n n h u v uin vin))
+    ∙ sym (pixel-with_block p x y n o h u v uin vin))
 
 -- ---- subblock after subblock
 
@@ -107,9 +111,9 @@ part_fits across k some below =
 abbrev pub until : (ℕ → ℕ → ℕ) → ℕ → (ℕ → ℕ → ℕ) → (ℕ → ℕ → ℕ) → ℕ → ℕ → ℕ
 until at k f g r c = cond (nat_lt (at r c) k) (f r c) (g r c)
 
-module _ (p : Raster) (x y n : ℕ) (at : ℕ → ℕ → ℕ) (f g : ℕ → ℕ → ℕ) where
-  pub until_none : with_block p x y n n g ≡ with_block p x y n n (until at 0 f g)
-  until_none = with_block_same p x y n n g (until at 0 f g)
+module _ (p : Raster) (x y n o : ℕ) (at : ℕ → ℕ → ℕ) (f g : ℕ → ℕ → ℕ) where
+  pub until_none : with_block p x y n o g ≡ with_block p x y n o (until at 0 f g)
+  until_none = with_block_same p x y n o g (until at 0 f g)
       (λ r c rin cin. ap (λ (t : Bool). cond t (f r c) (g r c)) (sym (le-ltb (at r c) 0 (omega arith))))
 
   later : (k r c : ℕ) → (at r c ≡ k → ⊥) → until at k f g r c ≡ until at (k + 1) f g r c
@@ -119,37 +123,24 @@ module _ (p : Raster) (x y n : ℕ) (at : ℕ → ℕ → ℕ) (f g : ℕ → �
     | inr (inr above) ↦ le-ltb (at r c) k (omega arith) ∙ sym (le-ltb (at r c) (k + 1) (omega arith))
   ])
 
-  -- part k is as it was
-  pub until_same : (k : ℕ) → ((r c : ℕ) → r < n → c < n → at r c ≡ k → f r c ≡ g r c)
-      → with_block p x y n n (until at k f g) ≡ with_block p x y n n (until at (k + 1) f g)
-  until_same k alike = with_block_same p x y n n (until at k f g) (until at (k + 1) f g)
-      (λ r c rin cin. elim (cases_order (at r c) k) [
-        | inl same ↦
-            ap (λ (t : Bool). cond t (f r c) (g r c)) (le-ltb (at r c) k (omega arith))
-            ∙ sym (alike r c rin cin same)
-            ∙ sym (ap (λ (t : Bool). cond t (f r c) (g r c)) (lt-ltb (at r c) (k + 1) (omega arith)))
-        | inr (inl below) ↦ later k r c (λ e. omega arith)
-        | inr (inr above) ↦ later k r c (λ e. omega arith)
-      ])
-
   -- part k is written: m columns and rows from column a of row b on
-  pub until_written : (k a b m : ℕ) (h : ℕ → ℕ → ℕ) → a + m ≤ n → b + m ≤ n
-      → ((r c : ℕ) → r < m → c < m → at (b + r) (a + c) ≡ k)
-      → ((r c : ℕ) → r < n → c < n → at r c ≡ k → is_in_block a b m m c r ≡ true)
-      → ((r c : ℕ) → r < m → c < m → h r c ≡ f (b + r) (a + c))
-      → with_block (with_block p x y n n (until at k f g)) (x + a) (y + b) m m h ≡ with_block p x y n n (until at (k + 1) f g)
-  until_written k a b m h afits bfits has lies is =
-      with_block_inside p x y n (until at k f g) a b m h (until at (k + 1) f g) afits bfits
+  pub until_written : (k a b m l : ℕ) (h : ℕ → ℕ → ℕ) → a + m ≤ n → b + l ≤ o
+      → ((r c : ℕ) → r < l → c < m → at (b + r) (a + c) ≡ k)
+      → ((r c : ℕ) → r < o → c < n → at r c ≡ k → is_in_block a b m l c r ≡ true)
+      → ((r c : ℕ) → r < l → c < m → h r c ≡ f (b + r) (a + c))
+      → with_block (with_block p x y n o (until at k f g)) (x + a) (y + b) m l h ≡ with_block p x y n o (until at (k + 1) f g)
+  until_written k a b m l h afits bfits has lies is =
+      with_block_inside p x y n o (until at k f g) a b m l h (until at (k + 1) f g) afits bfits
       (λ r c rin cin.
       let e : at (b + r) (a + c) ≡ k = has r c rin cin in
       is r c rin cin ∙ sym (ap (λ (t : Bool). cond t (f (b + r) (a + c)) (g (b + r) (a + c))) (lt-ltb (at (b + r) (a + c)) (k + 1) (omega arith))))
       (λ r c rin cin past. later k r c (λ same.
-      let inside : is_in_block a b m m c r ≡ true = lies r c rin cin same in
+      let inside : is_in_block a b m l c r ≡ true = lies r c rin cin same in
       let never : true ≡ false = sym inside ∙ past in cc))
 
   -- all of them
-  pub until_all : (k : ℕ) → ((r c : ℕ) → r < n → c < n → at r c < k) → with_block p x y n n (until at k f g) ≡ with_block p x y n n f
-  until_all k all = with_block_same p x y n n (until at k f g) f
+  pub until_all : (k : ℕ) → ((r c : ℕ) → r < o → c < n → at r c < k) → with_block p x y n o (until at k f g) ≡ with_block p x y n o f
+  until_all k all = with_block_same p x y n o (until at k f g) f
       (λ r c rin cin.
       let below : at r c < k = all r c rin cin in
       ap (λ (t : Bool). cond t (f r c) (g r c)) (lt-ltb (at r c) k (omega arith)))
@@ -162,7 +153,7 @@ module _ (p : Raster) (x y across : ℕ) (f g : ℕ → ℕ → ℕ) where
       ≡ with_block p x y (4 * across) (4 * across) (until (sub_at across) (k + 1) f g)
   sub_written k h some total is =
       let fits = part_fits across k some total in
-      until_written p x y (4 * across) (sub_at across) f g k (4 * (k % across)) (4 * (k / across)) 4 h fits.0 fits.1
+      until_written p x y (4 * across) (4 * across) (sub_at across) f g k (4 * (k % across)) (4 * (k / across)) 4 4 h fits.0 fits.1
       (λ r c rin cin. subblock_has across k r c some rin cin)
       (λ r c rin cin same.
       let at : (r / 4 ≡ k / across) × (c / 4 ≡ k % across) = subblock_is across k r c some cin same in
@@ -171,7 +162,7 @@ module _ (p : Raster) (x y across : ℕ) (f g : ℕ → ℕ → ℕ) where
 
   pub subs_all : (k : ℕ) → k ≡ across * across
       → with_block p x y (4 * across) (4 * across) (until (sub_at across) k f g) ≡ with_block p x y (4 * across) (4 * across) f
-  subs_all k all = until_all p x y (4 * across) (sub_at across) f g k
+  subs_all k all = until_all p x y (4 * across) (4 * across) (sub_at across) f g k
       (λ r c rin cin. let below : sub_at across r c < across * across = sub_below across r c rin cin in omega arith)
 
 -- ---- by quarters of 16 by 16 pixels
@@ -183,10 +174,10 @@ module _ (p : Raster) (x y : ℕ) (f g : ℕ → ℕ → ℕ) where
       → ((r c : ℕ) → r < 8 → c < 8 → h r c ≡ f (8 * (k / 2) + r) (8 * (k % 2) + c))
       → with_block (with_block p x y 16 16 (until quarter_at k f g)) (x + 8 * (k % 2)) (y + 8 * (k / 2)) 8 8 h ≡ with_block p x y 16 16 (until quarter_at (k + 1) f g)
   quarter_written k h total is =
-      until_written p x y 16 quarter_at f g k (8 * (k % 2)) (8 * (k / 2)) 8 h (omega arith) (omega arith)
+      until_written p x y 16 16 quarter_at f g k (8 * (k % 2)) (8 * (k / 2)) 8 8 h (omega arith) (omega arith)
       (λ r c rin cin. omega arith)
       (λ r c rin cin same. in_it (8 * (k % 2)) (8 * (k / 2)) 8 8 c r (omega arith) (omega arith) (omega arith) (omega arith))
       is
 
   pub quarters_all : (k : ℕ) → k ≡ 4 → with_block p x y 16 16 (until quarter_at k f g) ≡ with_block p x y 16 16 f
-  quarters_all k all = until_all p x y 16 quarter_at f g k (λ r c rin cin. omega arith)
+  quarters_all k all = until_all p x y 16 16 quarter_at f g k (λ r c rin cin. omega arith)

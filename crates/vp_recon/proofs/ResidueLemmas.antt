@@ -1,11 +1,12 @@
 -- The coefficients of blocks with few tokens, and of blocks whose first one stands apart.
-use Rattle.std.proofs.Common.{◌≡◌, ◌∙◌, refl, ◌*ℤ◌, ℕ, zero, suc, ◌-◌, ◌≤◌, ℤ, pos, List, [], ◌∷◌, get_or, set, length, replicate, unsigned_abs, sym, ap, arith, inl, inr, nat_lt, false, true, Bool, ◌<◌, ◌+◌, Option, None}
+use Rattle.std.proofs.Common.{◌≡◌, ◌∙◌, refl, ◌*ℤ◌, ℕ, zero, suc, ◌-◌, ◌≤◌, ℤ, pos, List, [], ◌∷◌, get_or, set, length, replicate, unsigned_abs, sym, ap, arith, inl, inr, nat_lt, false, true, Bool, ◌<◌, ◌+◌, ◌^◌, subst, Option, Some, None}
 use Rattle.std.proofs.lemmas.Bool.{cases_lt}
 use Rattle.std.proofs.lemmas.Bool.Decides.{nat_tests}
 use Rattle.std.proofs.lemmas.Int.{ints}
 use Rattle.std.proofs.lemmas.List.{ext_get_or, get_or-replicate}
 use Rattle.std.proofs.Math.IntN.{zero-*ℤ}
 use Rattle.std.specs.Borrow.{Bor}
+use Rattle.std.specs.Option.{is_some}
 use Rattle.vp_tokens.specs.Block.{Block, IsBlock}
 use Rattle.vp_transform.specs.Fits.{EachWithin}
 use Rattle.vp_transform.specs.Transform.{idct, vertical, horizontal, iwht, hadamard_times, times_hadamard_rounded}
@@ -15,7 +16,10 @@ use Rattle.vp_tokens.specs.declared.contexts.Tokens.{Tokens}
 use Rattle.vp_quant.specs.declared.factors.Factors.{Factors}
 use Rattle.vp_recon.specs.Residue.{residue, luma_firsts, luma_coefficients, luma_residue}
 use Rattle.vp_recon.specs.declared.residue.Residues.{Residues}
-use Rattle.vp_recon.specs.Parts.{with_first, residue_in}
+use Rattle.vp_recon.specs.Parts.{IsAlone, with_first, coefficients_in, residue_in}
+use Rattle.vp_recon.specs.Rebuilt.{summed}
+use Rattle.vp_transform.proofs.Words.{coded, read}
+use Rattle.vp_transform.proofs.Sizes.{fits-below}
 use Rattle.vp_recon.specs.Sums.{IsNothing}
 
 pub within_set : (b : ℕ) (zs : List ℤ) (z : ℤ) → EachWithin b zs → unsigned_abs z ≤ b → EachWithin b (set zs 0 z)
@@ -87,11 +91,12 @@ no_first levels dc ac =
     ∙ ap (λ (z : ℤ). set (dequantised levels 0 ac) 0 z) (let e : pos 0 ≡ get_or levels 0 (pos 0) *ℤ pos 0 = omega (arith, ints) in e)
     ∙ own_first levels 0 ac
 
-pub not_more : (n : ℕ) → nat_lt 1 n ≡ false → n ≤ 1
-not_more n e = grind (arith, nat_tests)
-
 pub not_above : (n : ℕ) → nat_lt 0 n ≡ false → n ≡ 0
 not_above n e = grind (arith, nat_tests)
+
+pub not_some : (o : Option (Bor (List ℤ))) → is_some o ≡ false → o ≡ None
+not_some None e = refl
+not_some (Some dc_from_y2) e = cc
 
 -- a subblock without tokens, whose first coefficient doesn't stand apart
 pub nothing_in : (r : Residues) (k : ℕ) (b : Block) → IsBlock b → b ≡ block_of r.tokens.now (r.first + k) → r.dc_from_y2 ≡ None → b.tokens ≡ 0 → IsNothing (residue_in r k)
@@ -99,6 +104,17 @@ nothing_in r k b is same apart none i below =
     ap (λ (o : Option (Bor (List ℤ))). get_or (idct (with_first o k (dequantised (block_of r.tokens.now (r.first + k)).levels r.dc r.ac))) i (pos 0)) apart
     ∙ ap (λ (a : Block). get_or (idct (dequantised a.levels r.dc r.ac)) i (pos 0)) (sym same)
     ∙ ap (λ (zs : List ℤ). get_or zs i (pos 0)) (no_residue b is r.dc r.ac none) ∙ get_or-replicate 16 i (pos 0) (pos 0) below
+
+-- ---- a subblock whose first coefficient is its only one
+pub alone_sum : (r : Residues) (k : ℕ) (l first : ℤ) → IsAlone r k → unsigned_abs first ≤ 2 ^ 40
+    → set (dequantised (block_of r.tokens.now (r.first + k)).levels 0 r.ac) 0 first ≡ coefficients_in r k
+    → ((i pixel : ℕ) → i < 16 → pixel ≤ 255 → summed pixel l ≡ summed pixel (get_or (idct (coded first ∷ replicate 15 (pos 0))) i (pos 0)))
+    → (i pixel : ℕ) → i < 16 → pixel ≤ 255 → summed pixel l ≡ summed pixel (get_or (residue_in r k) i (pos 0))
+alone_sum r k l first alone within is even =
+    let exact : coded first ≡ first = read first (fits-below first (omega (arith, within))) in
+    let all : coded first ∷ replicate 15 (pos 0) ≡ coefficients_in r k =
+    sym (alone (coded first)) ∙ ap (λ (z : ℤ). set (dequantised (block_of r.tokens.now (r.first + k)).levels 0 r.ac) 0 z) exact ∙ is in
+    subst (λ (zs : List ℤ). (i pixel : ℕ) → i < 16 → pixel ≤ 255 → summed pixel l ≡ summed pixel (get_or (idct zs) i (pos 0))) all even
 
 -- ---- the luma of a macroblock
 module _ (t : Tokens) (f : Factors) where

@@ -7,6 +7,7 @@ use lib.Lanes.{put_chunk}
 use Rattle.vp_base.specs.Raster.{Raster, pixel, pixel_index, overlay, with_pixels}
 use Rattle.vp_base.proofs.RasterLemmas.{raster}
 use Rattle.vp_base.specs.Block.{written, with_block, IsWhole}
+use Rattle.vp_recon.specs.Pairs.{LiesAt}
 use Rattle.vp_base.proofs.BlockLemmas.{with_block_none, with_block_more}
 
 pub put_over : (xs : List ℕ) (i : ℕ) (vs : List ℕ) → i + length vs ≤ length xs → put_chunk i xs vs ≡ overlay xs i vs
@@ -55,3 +56,9 @@ pixel_in p ps x y r j i w same wide here =
     ap (λ (l : List ℕ). get_or l (i + j) 0) same
     ∙ ap (λ (n : ℕ). get_or p.pixels n 0) (let e : i + j ≡ (y + r) * w + (x + j) = omega arith in e)
     ∙ ap (λ (v : ℕ). get_or p.pixels ((y + r) * v + (x + j)) 0) wide
+
+-- a block of a plane whose pixels are lent
+pub lies : (p : Raster) (x y n h stride : ℕ) (bytes : List ℕ) → IsWhole p → stride ≡ p.width → bytes ≡ p.pixels → x + n ≤ p.width → y + h ≤ p.height
+    → LiesAt p x y n h bytes (y * stride + x) stride
+lies p x y n h stride bytes whole wide same columns rows =
+    record { whole = whole; same = sym same; wide = sym wide; start = ap (λ (k : ℕ). y * k + x) wide; columns = columns; rows = rows }

@@ -1,6 +1,6 @@
 -- Private to the crate: residues clamped to 16 bits, and their sums with a prediction.
-use Rattle.std.specs.Prelude.{ℕ, ◌+◌, ◌*◌, ◌/◌, ◌%◌, ◌<◌, ◌≤◌, ◌≡◌, ℤ, pos, List, slice_index, slice_index_or}
-use Rattle.vp_base.specs.Raster.{Raster, pixel}
+use Rattle.std.specs.Prelude.{ℕ, ◌+◌, ◌*◌, ◌/◌, ◌%◌, ◌<◌, ◌≤◌, ◌≡◌, ℤ, pos, List, slice_index_or}
+use Rattle.vp_base.specs.Raster.{Raster}
 use Rattle.vp_base.specs.Image.{Image}
 use Rattle.vp_inter.specs.declared.vector.PlaneVector.{PlaneVector}
 use Rattle.vp_recon.specs.Rebuilt.{summed}
@@ -18,10 +18,6 @@ IsNothing residue = (i : ℕ) → i < 16 → slice_index_or residue i (pos 0) �
 -- the pixels of a block of n by n are bytes
 abbrev pub AreBlockBytes : ℕ → (ℕ → ℕ → ℕ) → Type 0
 AreBlockBytes n block = (r c : ℕ) → r < n → c < n → block r c ≤ 255
-
--- the n by n pixels of p from column x of row y on are bytes
-abbrev pub ArePixelBytes : Raster → ℕ → ℕ → ℕ → Type 0
-ArePixelBytes p x y n = AreBlockBytes n (λ r c. pixel p (x + c) (y + r))
 
 -- p with both chroma planes changed
 abbrev pub with_colours : Image → (ℕ → Raster → Raster) → Image

@@ -1,19 +1,21 @@
 //! Adds residues to the prediction that a picture already holds (RFC 6386, chapter 14.5).
 
-ghost use Rattle.std.specs.Prelude.{◌≡◌, ℕ, ◌+◌, ◌*◌, ◌%◌, ◌<◌, ◌≤◌, ℤ, List};
-ghost use Rattle.vp_base.specs.Raster.{pixel};
-ghost use Rattle.vp_base.specs.Block.{with_block};
-ghost use Rattle.vp_base.specs.Image.{Image, plane_of, with_plane};
+ghost use Rattle.std.specs.Prelude.{◌≡◌, ℕ, ◌+◌, ◌-◌, ◌*◌, ◌<◌, ◌≤◌, List, ℤ, length, [], slice_index, slice_index_or};
+ghost use Rattle.vp_base.specs.Raster.{Raster, pixel};
+ghost use Rattle.vp_base.specs.Block.{with_block, written};
+ghost use Rattle.vp_base.specs.Image.{plane_of, with_plane};
+ghost use Rattle.vp_quant.specs.Short.{AreFactors};
 ghost use Rattle.vp_recon.specs.Residue.{luma_residue, chroma_residue};
 ghost use Rattle.vp_recon.specs.Rebuilt.{summed, residue_at};
-ghost use Rattle.vp_recon.specs.Sums.{ArePixelBytes};
-ghost use Rattle.vp_recon.specs.Pairs.{with_both_added, with_until};
+ghost use Rattle.vp_recon.specs.Pairs.{IsAcross, LiesAt, block_sum, strip_sum, row_pixel, AreLow, AreSums};
 ghost use Rattle.vp_recon.specs.Parts.{HasBoundedY2Dc, HasResidues, IsAlone, residue_in};
+ghost use Rattle.std.specs.Simd.Lanes.{put_chunk};
+ghost use Rattle.vp_lanes.specs.Lane.{lane};
 
 use crate::residue::{Residues, block_of, luma_firsts, residues_after_y2};
-use crate::rows::add_rows;
-use vp_base::Picture;
-use vp_quant::Factors;
+use std::simd::prelude::*;
+use vp_base::{Picture, Plane};
+use vp_quant::{Factors, ShortFactors};
 use vp_tokens::Tokens;
 
 /// Adds the luma residues of a macroblock, with a Y2 block or without, to its prediction. The macroblock begins at
@@ -28,7 +30,6 @@ pub(crate) fn add_luma(
 )
     requires columns { x + 16 ≤ picture.old.luma.width }
     requires rows { y + 16 ≤ picture.old.luma.height }
-    requires bytes { ArePixelBytes picture.old.luma x y 16 }
     ensures { picture.new ≡ with_plane picture.old 0 (with_block picture.old.luma x y 16 16
         (λ r c. summed (pixel picture.old.luma (x + c) (y + r))
         (residue_at 4 (luma_residue y2 tokens.now factors.now) r c))) }
@@ -71,7 +72,6 @@ pub(crate) fn add_chroma(
     requires plane { plane < 3 }
     requires columns { x + 8 ≤ (plane_of picture.old plane).width }
     requires rows { y + 8 ≤ (plane_of picture.old plane).height }
-    requires bytes { ArePixelBytes (plane_of picture.old plane) x y 8 }
     ensures { picture.new ≡ with_plane picture.old plane (with_block (plane_of picture.old plane) x y 8 8
         (λ r c. summed (pixel (plane_of picture.old plane) (x + c) (y + r))
         (residue_at 2 (chroma_residue tokens.now factors.now plane) r c))) }
@@ -88,6 +88,7 @@ pub(crate) fn add_chroma(
 
 /// Adds the residues of a block's subblocks to its prediction. The block begins at column `x` of row `y`, and is
 /// `ACROSS` subblocks (2 or 4) wide and high.
+#[inline(always)]
 fn add_residues<const ACROSS: usize>(
     picture: &mut Picture,
     plane: usize,
@@ -96,136 +97,299 @@ fn add_residues<const ACROSS: usize>(
     residues: &Residues,
 )
     requires plane { plane < 3 }
-    requires some { 0 < ACROSS }
-    requires size { ACROSS ≤ 4 }
-    requires pairs { ACROSS % 2 ≡ 0 }
+    requires across { IsAcross ACROSS }
     requires blocks { residues.now.first + ACROSS * ACROSS ≤ 25 }
     requires small { HasBoundedY2Dc residues.now }
     requires columns { x + 4 * ACROSS ≤ (plane_of picture.old plane).width }
     requires rows { y + 4 * ACROSS ≤ (plane_of picture.old plane).height }
-    requires bytes { ArePixelBytes (plane_of picture.old plane) x y (4 * ACROSS) }
     ensures { (residue : ℕ → List ℤ) → HasResidues (ACROSS * ACROSS) residues.now residue
         → picture.new ≡ with_plane picture.old plane
         (with_block (plane_of picture.old plane) x y (4 * ACROSS) (4 * ACROSS)
         (λ r c. summed (pixel (plane_of picture.old plane) (x + c) (y + r)) (residue_at ACROSS residue r c))) }
 {
-    let _known = picture.plane(plane).width();
     let _known = picture.plane(plane).height();
-    if residues.has_none(ACROSS * ACROSS) {
+    let stride = picture.plane(plane).width();
+    know_bytes(picture.plane(plane));
+    let tokens = residues.tokens_in(0, ACROSS * ACROSS);
+    if tokens == 0 && residues.dc_from_y2.is_none() {
         return;
     }
-    for i in 0..ACROSS * ACROSS / 4 {
-        add_by_fours::<ACROSS>(picture, plane, x, y, residues, 4 * i);
+    let at = y * stride + x;
+    if tokens <= 1 {
+        add_all_firsts::<ACROSS>(picture.pixels_mut(plane), at, stride, residues);
+    } else {
+        add_strips::<ACROSS>(picture.pixels_mut(plane), at, stride, residues);
     }
 }
 
-/// Adds the residues of subblocks `k` to `k + 3` of that block. Those of the subblocks before `k` have been added.
+/// Adds the residues of a block's subblocks, which have DC coefficients only, to its pixels. The first pixel is at
+/// index `at`; rows are `stride` apart.
+#[inline(never)]
+fn add_all_firsts<const ACROSS: usize>(
+    pixels: &mut [u8],
+    at: usize,
+    stride: usize,
+    residues: &Residues,
+)
+    requires across { IsAcross ACROSS }
+    requires blocks { residues.now.first + ACROSS * ACROSS ≤ 25 }
+    requires small { HasBoundedY2Dc residues.now }
+    requires alone { (i : ℕ) → i < ACROSS * ACROSS → IsAlone residues.now i }
+    requires room { at + (4 * ACROSS - 1) * stride + 4 * ACROSS ≤ length pixels.old }
+    ensures value { (p : Raster) (x y : ℕ) (residue : ℕ → List ℤ) → HasResidues (ACROSS * ACROSS) residues.now residue
+        → LiesAt p x y (4 * ACROSS) (4 * ACROSS) pixels.old at stride
+        → pixels.new ≡ written p x y (4 * ACROSS) (4 * ACROSS) (block_sum ACROSS p x y residue) }
+    ensures len { length pixels.new ≡ length pixels.old }
+{
+    let mut start = at;
+    for i in 0..ACROSS {
+        add_firsts::<ACROSS>(pixels, start, stride, residues, ACROSS * i);
+        start += 4 * stride;
+    }
+}
+
+/// Adds the residues of a block's subblocks to its pixels.
+#[inline(never)]
+fn add_strips<const ACROSS: usize>(pixels: &mut [u8], at: usize, stride: usize, residues: &Residues)
+    requires across { IsAcross ACROSS }
+    requires blocks { residues.now.first + ACROSS * ACROSS ≤ 25 }
+    requires small { HasBoundedY2Dc residues.now }
+    requires room { at + (4 * ACROSS - 1) * stride + 4 * ACROSS ≤ length pixels.old }
+    ensures value { (p : Raster) (x y : ℕ) (residue : ℕ → List ℤ) → HasResidues (ACROSS * ACROSS) residues.now residue
+        → LiesAt p x y (4 * ACROSS) (4 * ACROSS) pixels.old at stride
+        → pixels.new ≡ written p x y (4 * ACROSS) (4 * ACROSS) (block_sum ACROSS p x y residue) }
+    ensures len { length pixels.new ≡ length pixels.old }
+{
+    let factors = ShortFactors::of(residues.dc, residues.ac);
+    let mut start = at;
+    for i in 0..ACROSS {
+        add_strip::<ACROSS>(pixels, start, stride, residues, ACROSS * i, &factors);
+        start += 4 * stride;
+    }
+}
+
+/// Adds the residues of subblocks `k` to `k + ACROSS - 1`, which are side by side and have DC coefficients only.
 #[inline(always)]
-fn add_by_fours<const ACROSS: usize>(
-    picture: &mut Picture,
-    plane: usize,
-    x: usize,
-    y: usize,
+fn add_firsts<const ACROSS: usize>(
+    pixels: &mut [u8],
+    at: usize,
+    stride: usize,
     residues: &Residues,
     k: usize,
 )
-    requires plane { plane < 3 }
-    requires some { 0 < ACROSS }
-    requires size { ACROSS ≤ 4 }
-    requires pairs { ACROSS % 2 ≡ 0 }
-    requires start { k % 4 ≡ 0 }
-    requires end { k + 3 < ACROSS * ACROSS }
-    requires blocks { residues.now.first + ACROSS * ACROSS ≤ 25 }
+    requires across { IsAcross ACROSS }
+    requires subblocks { k + ACROSS ≤ 16 }
+    requires blocks { residues.now.first + k + ACROSS ≤ 25 }
     requires small { HasBoundedY2Dc residues.now }
-    requires columns { x + 4 * ACROSS ≤ (plane_of picture.old plane).width }
-    requires rows { y + 4 * ACROSS ≤ (plane_of picture.old plane).height }
-    ensures step { (p : Image) (residue : ℕ → List ℤ) → HasResidues (ACROSS * ACROSS) residues.now residue
-        → ArePixelBytes (plane_of p plane) x y (4 * ACROSS)
-        → x + 4 * ACROSS ≤ (plane_of p plane).width → y + 4 * ACROSS ≤ (plane_of p plane).height
-        → picture.old ≡ with_plane p plane (with_until ACROSS (plane_of p plane) x y residue k)
-        → picture.new ≡ with_plane p plane (with_until ACROSS (plane_of p plane) x y residue (k + 4)) }
-    ensures wide { (plane_of picture.new plane).width ≡ (plane_of picture.old plane).width }
-    ensures high { (plane_of picture.new plane).height ≡ (plane_of picture.old plane).height }
+    requires alone { (i : ℕ) → i < ACROSS → IsAlone residues.now (k + i) }
+    requires room { at + 3 * stride + 4 * ACROSS ≤ length pixels.old }
+    ensures value { (p : Raster) (x y : ℕ) → LiesAt p x y (4 * ACROSS) 4 pixels.old at stride
+        → pixels.new ≡ written p x y (4 * ACROSS) 4 (strip_sum p x y (λ i. residue_in residues.now (k + i))) }
+    ensures len { length pixels.new ≡ length pixels.old }
 {
-    let _known = picture.plane(plane).height();
-    if ACROSS == 4 && residues.has_firsts_alone(k) {
-        add_four(picture, plane, x, y + 4 * (k / 4), residues, k);
-        return;
+    if ACROSS == 4 {
+        let row = residues.row_of_four(k);
+        add_rows::<16>(pixels, at, stride, row, row, row, row);
+    } else {
+        let row = residues.row_of_two(k);
+        add_rows::<8>(pixels, at, stride, row, row, row, row);
     }
-    add_by_twos::<ACROSS>(picture, plane, x, y, residues, k);
-    add_by_twos::<ACROSS>(picture, plane, x, y, residues, k + 2);
 }
 
-/// Adds the residues of subblocks `k` and `k + 1` of that block. Those of the subblocks before `k` have been added.
+/// Adds the residues of subblocks `k` to `k + ACROSS - 1`, which are side by side.
 #[inline(always)]
-fn add_by_twos<const ACROSS: usize>(
-    picture: &mut Picture,
-    plane: usize,
-    x: usize,
-    y: usize,
+fn add_strip<const ACROSS: usize>(
+    pixels: &mut [u8],
+    at: usize,
+    stride: usize,
     residues: &Residues,
     k: usize,
+    factors: &ShortFactors,
 )
-    requires plane { plane < 3 }
-    requires some { 0 < ACROSS }
-    requires size { ACROSS ≤ 4 }
-    requires pairs { ACROSS % 2 ≡ 0 }
-    requires start { k % 2 ≡ 0 }
-    requires end { k + 1 < ACROSS * ACROSS }
-    requires blocks { residues.now.first + ACROSS * ACROSS ≤ 25 }
+    requires across { IsAcross ACROSS }
+    requires subblocks { k + ACROSS ≤ 16 }
+    requires blocks { residues.now.first + k + ACROSS ≤ 25 }
     requires small { HasBoundedY2Dc residues.now }
-    requires columns { x + 4 * ACROSS ≤ (plane_of picture.old plane).width }
-    requires rows { y + 4 * ACROSS ≤ (plane_of picture.old plane).height }
-    ensures step { (p : Image) (residue : ℕ → List ℤ) → HasResidues (ACROSS * ACROSS) residues.now residue
-        → ArePixelBytes (plane_of p plane) x y (4 * ACROSS)
-        → x + 4 * ACROSS ≤ (plane_of p plane).width → y + 4 * ACROSS ≤ (plane_of p plane).height
-        → picture.old ≡ with_plane p plane (with_until ACROSS (plane_of p plane) x y residue k)
-        → picture.new ≡ with_plane p plane (with_until ACROSS (plane_of p plane) x y residue (k + 2)) }
-    ensures wide { (plane_of picture.new plane).width ≡ (plane_of picture.old plane).width }
-    ensures high { (plane_of picture.new plane).height ≡ (plane_of picture.old plane).height }
+    requires factors { AreFactors factors.now residues.now.dc residues.now.ac }
+    requires room { at + 3 * stride + 4 * ACROSS ≤ length pixels.old }
+    ensures value { (p : Raster) (x y : ℕ) → LiesAt p x y (4 * ACROSS) 4 pixels.old at stride
+        → pixels.new ≡ written p x y (4 * ACROSS) 4 (strip_sum p x y (λ i. residue_in residues.now (k + i))) }
+    ensures len { length pixels.new ≡ length pixels.old }
 {
-    let _known = picture.plane(plane).width();
-    let _known = picture.plane(plane).height();
-    if residues.has_in_pair(k) {
-        let column = x + 4 * (k % ACROSS);
-        let row = y + 4 * (k / ACROSS);
-        add_two(picture, plane, column, row, residues, k);
+    let tokens = residues.tokens_in(k, ACROSS);
+    if tokens == 0 && residues.dc_from_y2.is_none() {
+        return;
+    }
+    if tokens <= 1 {
+        return add_firsts::<ACROSS>(pixels, at, stride, residues, k);
+    }
+    for i in 0..ACROSS / 2 {
+        add_two(pixels, at + 8 * i, stride, residues, k + 2 * i, factors);
     }
 }
 
-/// Adds the residues of subblocks `k` to `k + 3`, which have DC coefficients only, to four adjacent subblocks. The
-/// first subblock begins at column `x` of row `y`.
-fn add_four(picture: &mut Picture, plane: usize, x: usize, y: usize, residues: &Residues, k: usize)
-    requires plane { plane < 3 }
-    requires columns { x + 16 ≤ (plane_of picture.old plane).width }
-    requires rows { y + 4 ≤ (plane_of picture.old plane).height }
-    requires subblocks { k + 3 < 16 }
-    requires blocks { residues.now.first + k + 3 < 25 }
-    requires small { HasBoundedY2Dc residues.now }
-    requires first { IsAlone residues.now k }
-    requires second { IsAlone residues.now (k + 1) }
-    requires third { IsAlone residues.now (k + 2) }
-    requires fourth { IsAlone residues.now (k + 3) }
-    ensures { picture.new ≡ with_plane picture.old plane (with_both_added
-        (with_both_added (plane_of picture.old plane) x y (residue_in residues.now k) (residue_in residues.now (k + 1)))
-        (x + 8) y (residue_in residues.now (k + 2)) (residue_in residues.now (k + 3))) }
-{
-    let row = residues.row_of_four(k);
-    add_rows::<16>(picture, plane, x, y, row, row, row, row);
-}
-
-/// Adds the residues of subblocks `k` and `k + 1` to two adjacent subblocks. The left one begins at column `x` of row
-/// `y`.
-fn add_two(picture: &mut Picture, plane: usize, x: usize, y: usize, residues: &Residues, k: usize)
-    requires plane { plane < 3 }
-    requires columns { x + 8 ≤ (plane_of picture.old plane).width }
-    requires rows { y + 4 ≤ (plane_of picture.old plane).height }
+/// Adds the residues of subblocks `k` and `k + 1`, which are side by side.
+#[inline(always)]
+fn add_two(
+    pixels: &mut [u8],
+    at: usize,
+    stride: usize,
+    residues: &Residues,
+    k: usize,
+    factors: &ShortFactors,
+)
     requires subblocks { k + 1 < 16 }
     requires blocks { residues.now.first + k + 1 < 25 }
     requires small { HasBoundedY2Dc residues.now }
-    ensures { picture.new ≡ with_plane picture.old plane (with_both_added (plane_of picture.old plane) x y
-        (residue_in residues.now k) (residue_in residues.now (k + 1))) }
+    requires factors { AreFactors factors.now residues.now.dc residues.now.ac }
+    requires room { at + 3 * stride + 8 ≤ length pixels.old }
+    ensures value { (p : Raster) (x y : ℕ) → LiesAt p x y 8 4 pixels.old at stride
+        → pixels.new ≡ written p x y 8 4 (strip_sum p x y (λ i. residue_in residues.now (k + i))) }
+    ensures len { length pixels.new ≡ length pixels.old }
 {
-    let (a, b, c, d) = residues.rows_of_two(k);
-    add_rows::<8>(picture, plane, x, y, a, b, c, d);
+    if residues.has_in_pair(k) {
+        let (a, b, c, d) = residues.rows_of_two(k, factors);
+        add_rows::<8>(pixels, at, stride, a, b, c, d);
+    }
 }
+
+/// Adds the numbers of `a`, `b`, `c` and `d` to four rows of `N` pixels, the first from index `at` on; rows are
+/// `stride` apart.
+#[inline(always)]
+fn add_rows<const N: usize>(
+    pixels: &mut [u8],
+    at: usize,
+    stride: usize,
+    a: Simd<i16, N>,
+    b: Simd<i16, N>,
+    c: Simd<i16, N>,
+    d: Simd<i16, N>,
+)
+    requires few { N ≤ 16 }
+    requires room { at + 3 * stride + N ≤ length pixels.old }
+    requires first { AreLow N a }
+    requires second { AreLow N b }
+    requires third { AreLow N c }
+    requires fourth { AreLow N d }
+    ensures value { (p : Raster) (x y : ℕ) (own : ℕ → List ℤ) → LiesAt p x y N 4 pixels.old at stride
+        → AreSums N a.entry b.entry c.entry d.entry own → pixels.new ≡ written p x y N 4 (strip_sum p x y own) }
+    ensures len { length pixels.new ≡ length pixels.old }
+{
+    let second = at + stride;
+    let third = second + stride;
+    let fourth = third + stride;
+    let a = added_row::<N>(pixels, at, a);
+    let b = added_row::<N>(pixels, second, b);
+    let c = added_row::<N>(pixels, third, c);
+    let d = added_row::<N>(pixels, fourth, d);
+    put_rows::<N>(pixels, at, stride, a, b, c, d);
+}
+
+/// Returns the `N` pixels from index `at` on, with numbers added, clamped to a byte.
+#[inline(always)]
+fn added_row<const N: usize>(pixels: &[u8], at: usize, numbers: Simd<i16, N>) -> Simd<u8, N>
+    requires few { N ≤ 16 }
+    requires room { at + N ≤ length pixels.now }
+    requires low { AreLow N numbers }
+    ensures value { (j : ℕ) → j < N → slice_index result j
+        ≡ summed (slice_index pixels.now (at + j)) (lane numbers.entry j) }
+    ensures bytes { (j : ℕ) → j < N → slice_index pixels.now (at + j) ≤ 255 }
+{
+    added::<N>(load::<N>(pixels, at), numbers)
+}
+
+/// Loads `N` pixels from index `at` on.
+#[inline(always)]
+fn load<const N: usize>(pixels: &[u8], at: usize) -> Simd<u8, N>
+    requires { at + N ≤ length pixels.now }
+    ensures { (j : ℕ) → j < N → slice_index result j ≡ slice_index pixels.now (at + j) }
+{
+    Simd::from_slice(&pixels[at..])
+}
+
+/// Adds numbers to `N` pixels, and clamps the sums to a byte.
+pub(crate) fn added<const N: usize>(pixels: Simd<u8, N>, numbers: Simd<i16, N>) -> Simd<u8, N>
+    requires few { N ≤ 16 }
+    requires low { AreLow N numbers }
+    ensures { (j : ℕ) → j < N → slice_index result j ≡ summed (slice_index pixels.entry j) (lane numbers.entry j) }
+{
+    (pixels.cast::<i16>() + numbers)
+        .simd_clamp(Simd::splat(0), Simd::splat(255))
+        .cast::<u8>()
+}
+
+/// Stores four rows of `N` pixels, the first from index `at` on; rows are `stride` apart.
+#[inline(always)]
+fn put_rows<const N: usize>(
+    pixels: &mut [u8],
+    at: usize,
+    stride: usize,
+    a: Simd<u8, N>,
+    b: Simd<u8, N>,
+    c: Simd<u8, N>,
+    d: Simd<u8, N>,
+)
+    requires few { N ≤ 16 }
+    requires room { at + 3 * stride + N ≤ length pixels.old }
+    ensures value { (p : Raster) (x y : ℕ) → LiesAt p x y N 4 pixels.old at stride
+        → pixels.new ≡ written p x y N 4 (row_pixel a.entry b.entry c.entry d.entry) }
+    ensures len { length pixels.new ≡ length pixels.old }
+{
+    let second = at + stride;
+    let third = second + stride;
+    let fourth = third + stride;
+    put::<N>(pixels, at, a);
+    put::<N>(pixels, second, b);
+    put::<N>(pixels, third, c);
+    put::<N>(pixels, fourth, d);
+}
+
+/// Stores `N` pixels from index `at` on.
+#[inline(always)]
+fn put<const N: usize>(pixels: &mut [u8], at: usize, row: Simd<u8, N>)
+    requires { at + N ≤ length pixels.old }
+    ensures value { pixels.new ≡ put_chunk at pixels.old row.entry }
+    ensures long { length row.entry ≡ N }
+{
+    row.copy_to_slice(&mut pixels[at..]);
+}
+
+/// Stores the luma subblock that begins at column `x` of row `y`; `pixels` are in raster order.
+pub(crate) fn store_subblock(picture: &mut Picture, x: usize, y: usize, pixels: u8x16)
+    requires columns { x + 4 ≤ picture.old.luma.width }
+    requires rows { y + 4 ≤ picture.old.luma.height }
+    ensures { picture.new ≡ with_plane picture.old 0 (with_block picture.old.luma x y 4 4
+        (λ r c. slice_index pixels (r * 4 + c))) }
+{
+    let _known = picture.plane(0).height();
+    let stride = picture.plane(0).width();
+    let at = y * stride + x;
+    let [a, b, c, d] = rows_of(pixels);
+    put_rows::<4>(picture.pixels_mut(0), at, stride, a, b, c, d);
+}
+
+/// Splits a subblock, in raster order, into its four rows.
+fn rows_of(pixels: u8x16) -> [u8x4; 4]
+    ensures { (i : ℕ) → i < 4 → (j : ℕ) → j < 4 → slice_index (slice_index_or result i []) j
+        ≡ slice_index pixels (i * 4 + j) }
+{
+    [
+        pixels.extract::<0, 4>(),
+        pixels.extract::<4, 4>(),
+        pixels.extract::<8, 4>(),
+        pixels.extract::<12, 4>(),
+    ]
+}
+
+/// States that a plane's pixels are bytes, for proofs: it does nothing.
+#[inline(always)]
+pub(crate) fn know_bytes(plane: &Plane)
+    ensures { (i : ℕ) → slice_index plane.now.pixels i ≤ 255 }
+{
+    are_bytes(plane.pixels());
+}
+
+/// States that a slice's items are bytes.
+fn are_bytes(pixels: &[u8])
+    ensures { (i : ℕ) → slice_index pixels.now i ≤ 255 }
+{}

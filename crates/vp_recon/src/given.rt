@@ -9,9 +9,8 @@ ghost use Rattle.vp_recon.specs.Rebuilt.{rebuilt, summed, residue_at};
 ghost use Rattle.vp_recon.specs.Residue.{residue, luma_residue, chroma_residue};
 ghost use Rattle.vp_recon.specs.Given.{IsGiven};
 
-use crate::add::{add_chroma, add_luma};
+use crate::add::{add_chroma, add_luma, store_subblock};
 use crate::residue::with_residue;
-use crate::rows::store_subblock;
 use std::simd::prelude::*;
 use vp_base::{Picture, Place};
 use vp_quant::Factors;

@@ -3,20 +3,17 @@
 
 mod add;
 mod given;
-mod inter;
-mod intra;
 mod laws;
 mod macroblock;
+mod predict;
 mod predictor;
 mod residue;
-mod rows;
 
 pub use given::{MacroblockPixels, rebuild_from, rebuild_subblock_from};
-pub use intra::rebuild_subblock;
 pub use laws::{
     luma_is_rebuilt_by_subblocks, rebuilding_keeps_rows_above, rebuilding_keeps_shape,
     rebuilding_reads_one_row_above, unfiltered_equation_has_one_solution,
     unfiltered_picture_solves_its_equation,
 };
-pub use macroblock::{predict_macroblock, rebuild_macroblock};
+pub use macroblock::{predict_macroblock, rebuild_macroblock, rebuild_subblock};
 pub use predictor::Predictor;

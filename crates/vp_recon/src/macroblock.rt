@@ -1,22 +1,27 @@
-//! Rebuilds one macroblock of the unfiltered picture.
+//! Rebuilds one macroblock of the unfiltered picture, or one of its luma subblocks.
 
-ghost use Rattle.std.specs.Prelude.{◌≡◌, ◌+◌, ◌*◌, ◌<◌, ◌≤◌, false};
+ghost use Rattle.std.specs.Prelude.{◌≡◌, ◌+◌, ◌*◌, ◌<◌, ◌≤◌, false, true};
 ghost use Rattle.vp_base.specs.Image.{with_plane, macroblocks};
 ghost use Rattle.vp_tokens.specs.declared.contexts.Tokens.{Tokens};
 ghost use Rattle.vp_tokens.specs.Blocks.{no_blocks};
 ghost use Rattle.vp_quant.specs.declared.factors.Factors.{Factors};
-ghost use Rattle.vp_recon.specs.Predictor.{macroblock_of, predictor_of, has_sub_modes};
-ghost use Rattle.vp_recon.specs.Prediction.{luma_prediction, chroma_prediction, luma_predicted, chroma_predicted};
-ghost use Rattle.vp_recon.specs.Rebuilt.{luma_rebuilt, chroma_rebuilt, rebuilt};
-ghost use Rattle.vp_recon.specs.Sums.{AreBlockBytes, with_colours};
+ghost use Rattle.vp_recon.specs.Predictor.{macroblock_of, predictor_of, has_sub_modes, Intra};
+ghost use Rattle.vp_recon.specs.Rebuilt.{luma_rebuilt, chroma_rebuilt, rebuilt, with_sub};
+ghost use Rattle.vp_recon.specs.Sums.{with_colours};
+ghost use Rattle.vp_tables.specs.Modes.{is_by_subblocks};
+ghost use Rattle.vp_recon.specs.Residue.{residue};
 
-use crate::add::{add_chroma, add_luma};
-use crate::inter::{predict_inter_chroma, predict_inter_luma};
-use crate::intra::{predict_intra_chroma, predict_intra_luma, rebuild_subs};
+use crate::add::{add_chroma, add_luma, know_bytes, store_subblock};
+use crate::predict::{predict_chroma, predict_luma};
 use crate::predictor::Predictor;
+use crate::residue::{block_of, with_residue};
+use std::simd::prelude::*;
 use vp_base::{Picture, Place};
+use vp_intra::predict_sub;
+use vp_modes::Modes;
 use vp_quant::Factors;
-use vp_tokens::Tokens;
+use vp_tables::SubMode;
+use vp_tokens::{Block, Tokens};
 
 /// Rebuilds the macroblock at `place` from its prediction and its residue.
 pub fn rebuild_macroblock(
@@ -45,47 +50,10 @@ pub fn predict_macroblock(picture: &mut Picture, place: Place, source: &Predicto
 {
     let _known = picture.dim();
     predict_luma(picture, place, source);
+    know_bytes(picture.plane(0));
     predict_chroma(picture, place, source);
-}
-
-/// Predicts the luma of a macroblock whose subblocks have no intra modes of their own. Inlined into both callers, so
-/// that most macroblocks take one call less.
-#[inline(always)]
-fn predict_luma(picture: &mut Picture, place: Place, source: &Predictor)
-    requires columns { 16 * place.column + 16 ≤ picture.old.luma.width }
-    requires rows { 16 * place.row + 16 ≤ picture.old.luma.height }
-    requires whole { has_sub_modes (predictor_of source.now) ≡ false }
-    ensures value { picture.new ≡ with_plane picture.old 0
-        (luma_predicted (predictor_of source.now) place picture.old.luma) }
-    ensures bytes { AreBlockBytes 16 (luma_prediction (predictor_of source.now) place picture.old.luma) }
-{
-    match source {
-        Predictor::Intra(modes) => predict_intra_luma(picture, place, modes),
-        Predictor::Inter {
-            motion,
-            reference,
-            version,
-        } => predict_inter_luma(picture, place, motion, reference, *version),
-    }
-}
-
-/// Predicts both chroma planes of a macroblock.
-#[inline(always)]
-fn predict_chroma(picture: &mut Picture, place: Place, source: &Predictor)
-    requires column { place.column < macroblocks picture.old.width }
-    requires row { place.row < macroblocks picture.old.height }
-    ensures value { picture.new ≡ with_colours picture.old (λ k. chroma_predicted (predictor_of source.now) k place) }
-    ensures u { AreBlockBytes 8 (chroma_prediction (predictor_of source.now) 1 place picture.old.u) }
-    ensures v { AreBlockBytes 8 (chroma_prediction (predictor_of source.now) 2 place picture.old.v) }
-{
-    match source {
-        Predictor::Intra(modes) => predict_intra_chroma(picture, place, modes),
-        Predictor::Inter {
-            motion,
-            reference,
-            version,
-        } => predict_inter_chroma(picture, place, motion, reference, *version),
-    }
+    know_bytes(picture.plane(1));
+    know_bytes(picture.plane(2));
 }
 
 /// Rebuilds the luma of a macroblock: subblock by subblock where these have intra modes of their own, else at once.
@@ -128,6 +96,56 @@ fn rebuild_at_once(
     let [x, y] = [16 * place.column, 16 * place.row];
     predict_luma(picture, place, source);
     add_luma(picture, x, y, source.has_y2(), tokens, factors);
+}
+
+/// Rebuilds the luma of a B_PRED macroblock: its subblocks have modes of their own.
+fn rebuild_subs(
+    picture: &mut Picture,
+    place: Place,
+    modes: &Modes,
+    tokens: &Tokens,
+    factors: &Factors,
+)
+    requires columns { 16 * place.column + 16 ≤ picture.old.luma.width }
+    requires rows { 16 * place.row + 16 ≤ picture.old.luma.height }
+    requires subs { is_by_subblocks modes.now.luma ≡ true }
+    ensures { picture.new ≡ with_plane picture.old 0 (luma_rebuilt
+        (macroblock_of (Intra modes.now) tokens.now factors.now) place picture.old.luma) }
+{
+    let _known = picture.plane(0).width();
+    let _known = picture.plane(0).height();
+    for k in 0..16 {
+        let block = Place {
+            column: place.column * 4 + k % 4,
+            row: place.row * 4 + k / 4,
+        };
+        let levels = block_of(tokens, 1 + k);
+        rebuild_subblock(picture, block, modes.subs[k], levels, factors);
+    }
+}
+
+/// Rebuilds one luma subblock from the pixels around it and its residue, for macroblocks without a Y2 block. `block` is
+/// its place among all luma subblocks of the picture.
+pub fn rebuild_subblock(
+    picture: &mut Picture,
+    block: Place,
+    mode: SubMode,
+    levels: &Block,
+    factors: &Factors,
+)
+    requires columns { 4 * block.column + 4 ≤ picture.old.luma.width }
+    requires rows { 4 * block.row + 4 ≤ picture.old.luma.height }
+    ensures { picture.new ≡ with_plane picture.old 0 (with_sub picture.old.luma block mode
+        (residue levels.now.levels factors.now.y_dc factors.now.y_ac)) }
+{
+    let _known = picture.plane(0).width();
+    let _known = picture.plane(0).height();
+    let x = 4 * block.column;
+    let y = 4 * block.row;
+    let prediction = predict_sub(picture.plane(0), x, y, mode);
+    let prediction = u8x16::from_array(prediction);
+    let pixels = with_residue(prediction, levels, factors.y_dc, factors.y_ac);
+    store_subblock(picture, x, y, pixels);
 }
 
 /// Rebuilds both chroma planes of a macroblock.

@@ -1,10 +1,11 @@
 //! The residues of a macroblock's subblocks (RFC 6386, chapter 14).
 
 ghost use Rattle.std.specs.Prelude.{◌≡◌, ℕ, ◌+◌, ◌*◌, ◌<◌, ◌≤◌, ◌^◌, ℤ, pos, ◌*ℤ◌, List, ◌∷◌, replicate};
-ghost use Rattle.std.specs.Prelude.{slice_index, slice_index_or, slice_set, unsigned_abs, Some, false, true};
+ghost use Rattle.std.specs.Prelude.{slice_index, slice_index_or, slice_set, unsigned_abs, Some, None, false};
 ghost use Rattle.vp_transform.specs.Fits.{EachWithin};
 ghost use Rattle.vp_transform.specs.Transform.{idct, iwht};
 ghost use Rattle.vp_quant.specs.Quant.{dequantised};
+ghost use Rattle.vp_quant.specs.Short.{AreFactors};
 ghost use Rattle.vp_tokens.specs.Blocks.{block_of};
 ghost use Rattle.vp_transform.specs.Pair.{row_in};
 ghost use Rattle.vp_lanes.specs.Lane.{lane};
@@ -12,12 +13,12 @@ ghost use Rattle.vp_recon.specs.Rebuilt.{summed};
 ghost use Rattle.vp_recon.specs.Residue.{residue, luma_firsts};
 ghost use Rattle.vp_recon.specs.Sums.{HasEqualSums, IsNothing};
 ghost use Rattle.vp_recon.specs.Parts.{HasBoundedY2Dc, HasResidues, IsAlone, coefficients_in, residue_in};
-ghost use Rattle.vp_recon.specs.Pairs.{ArePairedRows, AreLow};
+ghost use Rattle.vp_recon.specs.Pairs.{AreSums, AreLow};
 
-use crate::rows::added;
+use crate::add::added;
 use std::simd::prelude::*;
 use vp_lanes::clamp_i16;
-use vp_quant::{Factors, dequant, dequant_short};
+use vp_quant::{Factors, ShortFactors, dequant, dequant_short};
 use vp_tokens::{Block, Tokens};
 use vp_transform::{idct_cut, idct_of_first, idct_pair, idct_short, iwht, iwht_of_first};
 
@@ -170,17 +171,20 @@ impl<'a> Residues<'a> {
         }
     }
 
-    /// Returns true only if the residues of the first `count` subblocks are all zero. A quick test: it may miss some
-    /// such cases.
-    pub(crate) fn has_none(&self, count: usize) -> bool
-        requires { self.now.first + count ≤ 25 }
-        ensures { result ≡ true → (k : ℕ) → k < count → IsNothing (residue_in self.now k) }
+    /// Returns a number that is at least the greatest number of tokens of the `count` subblocks from `start` on, and 0
+    /// or 1 only if that is.
+    #[inline(always)]
+    pub(crate) fn tokens_in(&self, start: usize, count: usize) -> u8
+        requires { self.now.first + start + count ≤ 25 }
+        ensures none { result ≡ 0 → self.now.dc_from_y2 ≡ None → (i : ℕ) → i < count
+            → IsNothing (residue_in self.now (start + i)) }
+        ensures alone { result ≤ 1 → (i : ℕ) → i < count → IsAlone self.now (start + i) }
     {
         let mut tokens = 0;
-        for k in 0..count {
-            tokens |= block_of(self.tokens, self.first + k).tokens;
+        for i in 0..count {
+            tokens |= block_of(self.tokens, self.first + (start + i)).tokens;
         }
-        tokens == 0 && self.dc_from_y2.is_none()
+        tokens
     }
 
     /// Returns the DC coefficient of subblock `k`.
@@ -198,46 +202,18 @@ impl<'a> Residues<'a> {
         }
     }
 
-    /// Returns whether subblock `k` may have nonzero AC coefficients.
-    fn has_others(&self, k: usize) -> bool
-        requires { self.now.first + k < 25 }
-        ensures { result ≡ false → (first : ℤ) → slice_set (dequantised
-            (block_of self.now.tokens.now (self.now.first + k)).levels 0 self.now.ac) 0 first
-            ≡ first ∷ replicate 15 (pos 0) }
-    {
-        block_of(self.tokens, self.first + k).tokens > 1
-    }
-
-    /// Returns whether a Y2 block gives the DC coefficients, and subblocks `k` to `k + 3` have no others.
-    pub(crate) fn has_firsts_alone(&self, k: usize) -> bool
-        requires { self.now.first + k + 3 < 25 }
-        ensures first { result ≡ true → IsAlone self.now k }
-        ensures second { result ≡ true → IsAlone self.now (k + 1) }
-        ensures third { result ≡ true → IsAlone self.now (k + 2) }
-        ensures fourth { result ≡ true → IsAlone self.now (k + 3) }
-    {
-        if self.dc_from_y2.is_none() {
-            return false;
-        }
-        if self.has_others(k) || self.has_others(k + 1) {
-            return false;
-        }
-        !self.has_others(k + 2) && !self.has_others(k + 3)
-    }
-
-    /// Returns the coefficients of subblock `k`, if all are from -2200 to 2200 and its levels are small enough for
-    /// 16-bit products.
-    fn small_coefficients(&self, k: usize) -> Option<[i16; 16]>
+    /// Returns the coefficients of subblock `k` if its DC coefficient is from -2200 to 2200. `own` are those of its own
+    /// levels.
+    #[inline(always)]
+    fn short_coefficients(&self, k: usize, own: [i16; 16]) -> Option<[i16; 16]>
         requires subblock { k < 16 }
-        requires block { self.now.first + k < 25 }
+        requires own { own ≡ dequantised (block_of self.now.tokens.now (self.now.first + k)).levels self.now.dc
+            self.now.ac }
+        requires short { EachWithin 2200 own }
         requires small { HasBoundedY2Dc self.now }
         ensures value { (zs : List ℤ) → result ≡ Some zs → zs ≡ coefficients_in self.now k }
         ensures small { (zs : List ℤ) → result ≡ Some zs → EachWithin 2200 zs }
     {
-        let block = block_of(self.tokens, self.first + k);
-        let Some(own) = dequant_short(block.levels, self.dc, self.ac) else {
-            return None;
-        };
         match self.dc_from_y2 {
             None => Some(own),
             Some(dc_from_y2) => with_small_first(own, dc_from_y2[k]),
@@ -257,39 +233,45 @@ impl<'a> Residues<'a> {
     }
 
     /// Returns four rows of eight numbers that add up like the residues of subblocks `k` and `k + 1` side by side.
-    pub(crate) fn rows_of_two(&self, k: usize) -> (i16x8, i16x8, i16x8, i16x8)
+    /// `factors` are those of the levels.
+    #[inline(always)]
+    pub(crate) fn rows_of_two(
+        &self,
+        k: usize,
+        factors: &ShortFactors,
+    ) -> (i16x8, i16x8, i16x8, i16x8)
         requires subblocks { k + 1 < 16 }
         requires blocks { self.now.first + k + 1 < 25 }
         requires small { HasBoundedY2Dc self.now }
-        ensures value { ArePairedRows result.0 result.1 result.2 result.3 (residue_in self.now k)
-            (residue_in self.now (k + 1)) }
+        requires factors { AreFactors factors.now self.now.dc self.now.ac }
+        ensures value { AreSums 8 result.0 result.1 result.2 result.3 (λ i. residue_in self.now (k + i)) }
         ensures first { AreLow 8 result.0 }
         ensures second { AreLow 8 result.1 }
         ensures third { AreLow 8 result.2 }
         ensures fourth { AreLow 8 result.3 }
     {
-        if !self.has_others(k) && !self.has_others(k + 1) {
-            let left = even_number(self.first_coefficient(k));
-            let right = even_number(self.first_coefficient(k + 1));
-            let row = even_row(left, right);
-            return (row, row, row, row);
+        let left = block_of(self.tokens, self.first + k).levels;
+        let right = block_of(self.tokens, self.first + (k + 1)).levels;
+        if !factors.are_small(left, right) {
+            return self.large_rows_of_two(k);
         }
-        let Some(left) = self.small_coefficients(k) else {
+        let Some(left) = self.short_coefficients(k, factors.dequant(left)) else {
             return self.large_rows_of_two(k);
         };
-        let Some(right) = self.small_coefficients(k + 1) else {
+        let Some(right) = self.short_coefficients(k + 1, factors.dequant(right)) else {
             return self.large_rows_of_two(k);
         };
         idct_pair(&left, &right)
     }
 
     /// Returns such rows for coefficients of any size.
+    #[cold]
+    #[inline(never)]
     fn large_rows_of_two(&self, k: usize) -> (i16x8, i16x8, i16x8, i16x8)
         requires subblocks { k + 1 < 16 }
         requires blocks { self.now.first + k + 1 < 25 }
         requires small { HasBoundedY2Dc self.now }
-        ensures value { ArePairedRows result.0 result.1 result.2 result.3 (residue_in self.now k)
-            (residue_in self.now (k + 1)) }
+        ensures value { AreSums 8 result.0 result.1 result.2 result.3 (λ i. residue_in self.now (k + i)) }
         ensures first { AreLow 8 result.0 }
         ensures second { AreLow 8 result.1 }
         ensures third { AreLow 8 result.2 }
@@ -298,25 +280,50 @@ impl<'a> Residues<'a> {
         side_by_side(self.kept(k), self.kept(k + 1))
     }
 
-    /// Returns a row of the residues of subblocks `k` to `k + 3`, clamped to -255..255. They must have DC coefficients
-    /// only: then their rows are all equal.
+    /// Returns the residue of each pixel of subblock `k`, clamped to -255..255. The subblock must have a DC coefficient
+    /// only: then its pixels have one residue.
+    #[inline(always)]
+    fn number(&self, k: usize) -> i16
+        requires subblock { k < 16 }
+        requires block { self.now.first + k < 25 }
+        requires small { HasBoundedY2Dc self.now }
+        requires alone { IsAlone self.now k }
+        ensures value { (i pixel : ℕ) → i < 16 → pixel ≤ 255 → summed pixel result
+            ≡ summed pixel (slice_index_or (residue_in self.now k) i (pos 0)) }
+        ensures within { unsigned_abs result ≤ 255 }
+    {
+        even_number(self.first_coefficient(k))
+    }
+
+    /// Returns a row of the residues of subblocks `k` and `k + 1`, which have DC coefficients only: then their rows are
+    /// all equal.
+    #[inline(always)]
+    pub(crate) fn row_of_two(&self, k: usize) -> i16x8
+        requires subblocks { k + 1 < 16 }
+        requires blocks { self.now.first + k + 1 < 25 }
+        requires small { HasBoundedY2Dc self.now }
+        requires alone { (i : ℕ) → i < 2 → IsAlone self.now (k + i) }
+        ensures value { AreSums 8 result result result result (λ i. residue_in self.now (k + i)) }
+        ensures low { AreLow 8 result }
+    {
+        even_row(self.number(k), self.number(k + 1))
+    }
+
+    /// Returns such a row of subblocks `k` to `k + 3`.
+    #[inline(always)]
     pub(crate) fn row_of_four(&self, k: usize) -> i16x16
         requires subblocks { k + 3 < 16 }
         requires blocks { self.now.first + k + 3 < 25 }
         requires small { HasBoundedY2Dc self.now }
-        requires first { IsAlone self.now k }
-        requires second { IsAlone self.now (k + 1) }
-        requires third { IsAlone self.now (k + 2) }
-        requires fourth { IsAlone self.now (k + 3) }
-        ensures value { (i r c pixel : ℕ) → i < 4 → r < 4 → c < 4 → pixel ≤ 255 → summed pixel (lane result (4 * i + c))
-            ≡ summed pixel (slice_index_or (residue_in self.now (k + i)) (4 * r + c) (pos 0)) }
+        requires alone { (i : ℕ) → i < 4 → IsAlone self.now (k + i) }
+        ensures value { AreSums 16 result result result result (λ i. residue_in self.now (k + i)) }
         ensures low { AreLow 16 result }
     {
         four_numbers(
-            even_number(self.first_coefficient(k)),
-            even_number(self.first_coefficient(k + 1)),
-            even_number(self.first_coefficient(k + 2)),
-            even_number(self.first_coefficient(k + 3)),
+            self.number(k),
+            self.number(k + 1),
+            self.number(k + 2),
+            self.number(k + 3),
         )
     }
 }

@@ -1,68 +1,76 @@
-use Rattle.std.proofs.Common.{◌≡◌, ◌∙◌, ℕ, ◌+◌, ◌*◌, refl, sym, ap, subst, arith}
+use Rattle.std.proofs.Common.{◌≡◌, ◌∙◌, ℕ, ◌+◌, ◌-◌, ◌*◌, ◌≤◌, get_or, None, not, length, sym, ap, subst, arith}
 use Rattle.vp_base.specs.Raster.{Raster}
 use Rattle.vp_base.specs.Image.{Image, plane_of, with_plane}
 use Rattle.vp_base.specs.Block.{IsWhole}
 use Rattle.vp_base.proofs.BlockLemmas.{with_block_same}
 use Rattle.vp_base.proofs.ImageLemmas.{with_plane-plane_of}
 use Rattle.vp_recon.specs.Sums.{IsNothing}
-use Rattle.vp_recon.specs.Pairs.{with_until}
-use Rattle.vp_recon.proofs.Parts.{sub_at, sub_below, until_none, subs_all, with_block_of}
-use Rattle.vp_recon.proofs.AddLemmas.{was, added, sum_none, square_fours}
+use Rattle.vp_recon.specs.Parts.{IsAlone, residue_in}
+use Rattle.vp_recon.specs.Pairs.{block_sum}
+use Rattle.vp_recon.proofs.Parts.{was, sub_below, with_block_of}
+use Rattle.vp_recon.proofs.NothingLemmas.{alone}
+use Rattle.vp_recon.proofs.ResidueLemmas.{not_some}
+use Rattle.vp_recon.proofs.StrideLemmas.{all_put, block_room, lies}
 use Rattle.vp_recon.proofs.add.add_residues.Goals as goal
 
-pub returns-then-has_none : goal.returns-then-has_none
-returns-then-has_none g c residue are =
+pub returns-then-is_none : goal.returns-then-is_none
+returns-then-is_none g c residue are =
     let p : Image = c.args.picture.now in
     let q : Raster = plane_of p c.args.plane in
     let a : ℕ = g.row.ACROSS in
     let x : ℕ = c.args.x in
     let y : ℕ = c.args.y in
-    let whole : IsWhole (plane_of c.args.picture.now c.args.plane) = rw (← c.plane.ensures) c.width-known.ensures.whole in
+    let whole : IsWhole (plane_of c.args.picture.now c.args.plane) = rw (← c.plane.ensures) c.height-known.ensures.whole in
+    let none : c.args.residues.now.dc_from_y2 ≡ None = not_some c.args.residues.now.dc_from_y2 (c.is_none.ensures ∙ ap not c.if-is_none.true) in
     sym (with_plane-plane_of p c.args.plane)
-    ∙ ap (with_plane p c.args.plane) (with_block_of q x y (4 * a) whole
-    ∙ with_block_same q x y (4 * a) (4 * a) (was q x y) (added a q x y residue)
-    (λ r j rin jin.
-    let k : ℕ = sub_at a r j in
-    let below = sub_below a r j rin jin in
-    sym (sum_none a q x y residue k r j (subst IsNothing (are k below) (c.has_none.ensures c.if-has_none.true k below)) (c.requires.bytes r j rin jin) refl)))
+    ∙ ap (with_plane p c.args.plane) (with_block_of q x y (4 * a) (4 * a) whole
+    ∙ with_block_same q x y (4 * a) (4 * a) (was q x y) (block_sum a q x y residue)
+    (λ r j rin jin. alone a residue (was q x y r j) r j
+    (λ k below. subst IsNothing (ap (residue_in c.args.residues.now) (let e : 0 + k ≡ k = omega arith in e) ∙ are k below) (c.tokens_in-tokens.ensures.none c.if-tokens-eq0.true none k below))
+    (sub_below a r j rin jin) (subst (λ (s : Raster). get_or s.pixels ((y + r) * (plane_of p c.args.plane).width + (x + j)) 0 ≤ 255) c.plane-3.ensures (c.know_bytes.ensures ((y + r) * (plane_of p c.args.plane).width + (x + j))))))
 
-pub loop-i-init : goal.loop-i-init
-loop-i-init g c =
-    let p : Image = c.args.picture.now in
-    let q : Raster = plane_of p c.args.plane in
-    let a : ℕ = g.row.ACROSS in
-    let whole : IsWhole (plane_of c.args.picture.now c.args.plane) = rw (← c.plane.ensures) c.width-known.ensures.whole in
-    record {
-      pixels = λ residue are.
-          sym (with_plane-plane_of p c.args.plane)
-          ∙ ap (with_plane p c.args.plane) (with_block_of q c.args.x c.args.y (4 * a) whole
-          ∙ until_none q c.args.x c.args.y (4 * a) (sub_at a) (added a q c.args.x c.args.y residue) (was q c.args.x c.args.y));
-      wide = refl;
-      high = refl;
-    }
+pub add_all_firsts-requires-clause-alone : goal.add_all_firsts-requires-clause-alone
+add_all_firsts-requires-clause-alone g c i below =
+    subst (λ (n : ℕ). IsAlone c.args.residues.now n) (let e : 0 + i ≡ i = omega arith in e) (c.tokens_in-tokens.ensures.alone c.if-tokens-le1.true i below)
 
-pub loop-i-preserved : goal.loop-i-preserved
-loop-i-preserved g c =
-    let p : Image = c.args.picture.now in
-    let n : ℕ = c.args.plane in
-    let q : Raster = plane_of p n in
-    let a : ℕ = g.row.ACROSS in
-    record {
-      pixels = λ residue are.
-          c.add_by_fours.ensures.step p residue are c.requires.bytes c.requires.columns c.requires.rows (c.loop-i.invariant.pixels residue are)
-          ∙ ap (λ (m : ℕ). with_plane p n (with_until a q c.args.x c.args.y residue m)) (let e : 4 * c.loop-i.i + 4 ≡ 4 * (c.loop-i.i + 1) = omega arith in e);
-      wide = c.add_by_fours.ensures.wide ∙ c.loop-i.invariant.wide;
-      high = c.add_by_fours.ensures.high ∙ c.loop-i.invariant.high;
-    }
+pub add_all_firsts-requires-clause-room : goal.add_all_firsts-requires-clause-room
+add_all_firsts-requires-clause-room g c =
+    let q : Raster = plane_of c.args.picture.now c.args.plane in
+    let wide : c.width-stride.result ≡ q.width = c.width-stride.ensures.value ∙ ap (λ (s : Raster). s.width) c.plane-2.ensures in
+    let size : length c.pixels_mut.result.now ≡ q.height * c.width-stride.result = c.pixels_mut.ensures.len ∙ ap (λ (k : ℕ). q.height * k) (sym wide) in
+    let columns = c.requires.columns in
+    let rows = c.requires.rows in
+    let across = c.requires.across in
+    block_room c.args.x c.args.y c.width-stride.result q.height (4 * g.row.ACROSS) (4 * g.row.ACROSS - 1) (length c.pixels_mut.result.now) size (omega arith) (omega arith)
 
-pub returns : goal.returns
-returns g c residue are =
-    let p : Image = c.args.picture.now in
-    let q : Raster = plane_of p c.args.plane in
+pub returns-then-tokens-le1 : goal.returns-then-tokens-le1
+returns-then-tokens-le1 g c residue are =
+    let q : Raster = plane_of c.args.picture.now c.args.plane in
     let a : ℕ = g.row.ACROSS in
-    let total = square_fours a c.requires.size c.requires.pairs in
-    let test = c.loop-i-test.false in
-    let end = c.loop-i.auto.i-end in
-    let all : 4 * c.loop-i.i ≡ g.row.ACROSS * g.row.ACROSS = omega (arith, total, test, end) in
-    c.loop-i.invariant.pixels residue are
-    ∙ ap (with_plane p c.args.plane) (subs_all q c.args.x c.args.y a (added a q c.args.x c.args.y residue) (was q c.args.x c.args.y) (4 * c.loop-i.i) all)
+    let x : ℕ = c.args.x in
+    let y : ℕ = c.args.y in
+    let wide : c.width-stride.result ≡ q.width = c.width-stride.ensures.value ∙ ap (λ (s : Raster). s.width) c.plane-2.ensures in
+    ap (with_plane c.args.picture.now c.args.plane) (all_put q x y (4 * a) (4 * a) (block_sum a q x y residue) c.add_all_firsts.new.pixels
+    (c.add_all_firsts.ensures.value q x y residue are (lies q x y (4 * a) (4 * a) c.width-stride.result c.pixels_mut.result.now (rw (← c.plane.ensures) c.height-known.ensures.whole) wide c.pixels_mut.ensures.value c.requires.columns c.requires.rows))
+    (c.add_all_firsts.ensures.len ∙ ap length c.pixels_mut.ensures.value))
+
+pub add_strips-requires-clause-room : goal.add_strips-requires-clause-room
+add_strips-requires-clause-room g c =
+    let q : Raster = plane_of c.args.picture.now c.args.plane in
+    let wide : c.width-stride.result ≡ q.width = c.width-stride.ensures.value ∙ ap (λ (s : Raster). s.width) c.plane-2.ensures in
+    let size : length c.pixels_mut-else-tokens-le1.result.now ≡ q.height * c.width-stride.result = c.pixels_mut-else-tokens-le1.ensures.len ∙ ap (λ (k : ℕ). q.height * k) (sym wide) in
+    let columns = c.requires.columns in
+    let rows = c.requires.rows in
+    let across = c.requires.across in
+    block_room c.args.x c.args.y c.width-stride.result q.height (4 * g.row.ACROSS) (4 * g.row.ACROSS - 1) (length c.pixels_mut-else-tokens-le1.result.now) size (omega arith) (omega arith)
+
+pub returns-else-tokens-le1 : goal.returns-else-tokens-le1
+returns-else-tokens-le1 g c residue are =
+    let q : Raster = plane_of c.args.picture.now c.args.plane in
+    let a : ℕ = g.row.ACROSS in
+    let x : ℕ = c.args.x in
+    let y : ℕ = c.args.y in
+    let wide : c.width-stride.result ≡ q.width = c.width-stride.ensures.value ∙ ap (λ (s : Raster). s.width) c.plane-2.ensures in
+    ap (with_plane c.args.picture.now c.args.plane) (all_put q x y (4 * a) (4 * a) (block_sum a q x y residue) c.add_strips.new.pixels
+    (c.add_strips.ensures.value q x y residue are (lies q x y (4 * a) (4 * a) c.width-stride.result c.pixels_mut-else-tokens-le1.result.now (rw (← c.plane.ensures) c.height-known.ensures.whole) wide c.pixels_mut-else-tokens-le1.ensures.value c.requires.columns c.requires.rows))
+    (c.add_strips.ensures.len ∙ ap length c.pixels_mut-else-tokens-le1.ensures.value))

@@ -1,9 +1,8 @@
-use Rattle.std.proofs.Common.{◌≡◌, ◌∙◌, ℕ, Bool, true, false, ◌+◌, ◌*◌, get_or, sym, ap, arith}
+use Rattle.std.proofs.Common.{◌≡◌, ◌∙◌, ℕ, Bool, true, ◌+◌, ◌*◌, get_or, sym, ap, arith}
 use Rattle.std.specs.Prelude.{not}
-use Rattle.vp_base.specs.Raster.{Raster}
 use Rattle.vp_base.specs.Block.{with_block}
 use Rattle.vp_base.specs.Image.{Image}
-use Rattle.vp_recon.specs.Predictor.{Predictor, Macroblock, macroblock_of}
+use Rattle.vp_recon.specs.Predictor.{Macroblock, macroblock_of}
 use Rattle.vp_recon.specs.Prediction.{luma_prediction, chroma_prediction}
 use Rattle.vp_recon.specs.Residue.{luma_residue, chroma_residue}
 use Rattle.vp_recon.specs.Rebuilt.{summed, residue_at, luma_rebuilt, chroma_rebuilt}

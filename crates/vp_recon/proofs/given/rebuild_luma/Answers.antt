@@ -1,7 +1,7 @@
-use Rattle.std.proofs.Common.{◌+◌, ◌*◌, true, get_or, arith}
+use Rattle.std.proofs.Common.{◌+◌, ◌*◌, true, get_or}
 use Rattle.vp_recon.specs.Residue.{luma_residue}
 use Rattle.vp_recon.specs.Rebuilt.{residue_at}
-use Rattle.vp_recon.proofs.AddLemmas.{predicted_bytes, still_wide, still_high, summed_onto}
+use Rattle.vp_recon.proofs.AddLemmas.{still_wide, still_high, summed_onto}
 use Rattle.vp_recon.proofs.given.rebuild_luma.Goals as goal
 
 pub add_luma-requires-clause-columns : goal.add_luma-requires-clause-columns
@@ -11,11 +11,6 @@ add_luma-requires-clause-columns c =
 pub add_luma-requires-clause-rows : goal.add_luma-requires-clause-rows
 add_luma-requires-clause-rows c =
     still_high c.args.picture.now c.write_block.new.self 0 (16 * c.args.place.column) (16 * c.args.place.row) 16 _ c.requires.columns c.requires.rows c.write_block.ensures
-
-pub add_luma-requires-clause-bytes : goal.add_luma-requires-clause-bytes
-add_luma-requires-clause-bytes c =
-    predicted_bytes c.args.picture.now c.write_block.new.self 0 (16 * c.args.place.column) (16 * c.args.place.row) 16 _ c.requires.columns c.requires.rows c.write_block.ensures
-    (λ r j rin jin. let byte = c.fits-prediction (r * 16 + j) in omega arith)
 
 pub returns : goal.returns
 returns c =

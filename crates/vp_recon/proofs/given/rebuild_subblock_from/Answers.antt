@@ -1,4 +1,4 @@
-use Rattle.std.proofs.Common.{◌∙◌, ℕ, ◌+◌, ◌*◌, pos, get_or, ap}
+use Rattle.std.proofs.Common.{◌∙◌, ◌+◌, ◌*◌, pos, get_or, ap}
 use Rattle.vp_base.specs.Image.{Image, with_plane}
 use Rattle.vp_base.proofs.BlockLemmas.{with_block_same}
 use Rattle.vp_recon.specs.Residue.{residue}

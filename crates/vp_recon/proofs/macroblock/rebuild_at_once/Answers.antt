@@ -7,20 +7,16 @@ use Rattle.vp_recon.specs.Residue.{luma_residue}
 use Rattle.vp_recon.specs.Prediction.{luma_prediction}
 use Rattle.vp_recon.specs.Rebuilt.{summed, residue_at}
 use Rattle.vp_recon.proofs.LumaLemmas.{luma_at_once}
-use Rattle.vp_recon.proofs.AddLemmas.{predicted_bytes, still_wide, still_high, summed_onto}
+use Rattle.vp_recon.proofs.AddLemmas.{still_wide, still_high, summed_onto}
 use Rattle.vp_recon.proofs.macroblock.rebuild_at_once.Goals as goal
 
 pub add_luma-requires-clause-columns : goal.add_luma-requires-clause-columns
 add_luma-requires-clause-columns c =
-    still_wide c.args.picture.now c.predict_luma.new.picture 0 (16 * c.args.place.column) (16 * c.args.place.row) 16 _ c.requires.columns c.requires.rows c.predict_luma.ensures.value
+    still_wide c.args.picture.now c.predict_luma.new.picture 0 (16 * c.args.place.column) (16 * c.args.place.row) 16 _ c.requires.columns c.requires.rows c.predict_luma.ensures
 
 pub add_luma-requires-clause-rows : goal.add_luma-requires-clause-rows
 add_luma-requires-clause-rows c =
-    still_high c.args.picture.now c.predict_luma.new.picture 0 (16 * c.args.place.column) (16 * c.args.place.row) 16 _ c.requires.columns c.requires.rows c.predict_luma.ensures.value
-
-pub add_luma-requires-clause-bytes : goal.add_luma-requires-clause-bytes
-add_luma-requires-clause-bytes c =
-    predicted_bytes c.args.picture.now c.predict_luma.new.picture 0 (16 * c.args.place.column) (16 * c.args.place.row) 16 _ c.requires.columns c.requires.rows c.predict_luma.ensures.value c.predict_luma.ensures.bytes
+    still_high c.args.picture.now c.predict_luma.new.picture 0 (16 * c.args.place.column) (16 * c.args.place.row) 16 _ c.requires.columns c.requires.rows c.predict_luma.ensures
 
 pub returns : goal.returns
 returns c =
@@ -31,7 +27,7 @@ returns c =
     let s : Predictor = predictor_of c.args.source.now in
     let m : Macroblock = macroblock_of s c.args.tokens.now c.args.factors.now in
     let own = λ (y2 : Bool). residue_at 4 (luma_residue y2 c.args.tokens.now c.args.factors.now) in
-    summed_onto p c.predict_luma.new.picture 0 (16 * c.args.place.column) (16 * c.args.place.row) 16 (luma_prediction s c.args.place p.luma) c.requires.columns c.requires.rows c.predict_luma.ensures.value
+    summed_onto p c.predict_luma.new.picture 0 (16 * c.args.place.column) (16 * c.args.place.row) 16 (luma_prediction s c.args.place p.luma) c.requires.columns c.requires.rows c.predict_luma.ensures
     c.add_luma.new.picture (own (has_y2 s))
     (c.add_luma.ensures ∙ ap (λ (y2 : Bool). with_plane now 0 (with_block now.luma x y 16 16 (λ r j. summed (pixel now.luma (x + j) (y + r)) (own y2 r j)))) c.has_y2.ensures)
     ∙ ap (with_plane p 0) (luma_at_once m c.args.place p.luma c.requires.whole)

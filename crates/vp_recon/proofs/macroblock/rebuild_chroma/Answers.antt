@@ -4,7 +4,7 @@ use Rattle.vp_recon.specs.Predictor.{Predictor, predictor_of}
 use Rattle.vp_recon.specs.Residue.{chroma_residue}
 use Rattle.vp_recon.specs.Prediction.{chroma_prediction}
 use Rattle.vp_recon.specs.Rebuilt.{residue_at}
-use Rattle.vp_recon.proofs.AddLemmas.{u_wide, u_high, u_bytes, v_wide, v_high, v_bytes, both_summed}
+use Rattle.vp_recon.proofs.AddLemmas.{u_wide, u_high, v_wide, v_high, both_summed}
 use Rattle.vp_recon.proofs.macroblock.rebuild_chroma.Goals as goal
 
 pub add_chroma-requires-clause-columns : goal.add_chroma-requires-clause-columns
@@ -14,7 +14,7 @@ add_chroma-requires-clause-columns c =
     let own = chroma_residue c.args.tokens.now c.args.factors.now in
     let whole = c.dim-known.ensures.aligned in
     u_wide p c.predict_chroma.new.picture (8 * c.args.place.column) (8 * c.args.place.row) (chroma_prediction s 1 c.args.place p.u) (chroma_prediction s 2 c.args.place p.v)
-    (omega (arith, whole)) (omega (arith, whole)) (omega (arith, whole)) (omega (arith, whole)) c.predict_chroma.ensures.value
+    (omega (arith, whole)) (omega (arith, whole)) (omega (arith, whole)) (omega (arith, whole)) c.predict_chroma.ensures
 
 pub add_chroma-requires-clause-rows : goal.add_chroma-requires-clause-rows
 add_chroma-requires-clause-rows c =
@@ -23,16 +23,7 @@ add_chroma-requires-clause-rows c =
     let own = chroma_residue c.args.tokens.now c.args.factors.now in
     let whole = c.dim-known.ensures.aligned in
     u_high p c.predict_chroma.new.picture (8 * c.args.place.column) (8 * c.args.place.row) (chroma_prediction s 1 c.args.place p.u) (chroma_prediction s 2 c.args.place p.v)
-    (omega (arith, whole)) (omega (arith, whole)) (omega (arith, whole)) (omega (arith, whole)) c.predict_chroma.ensures.value
-
-pub add_chroma-requires-clause-bytes : goal.add_chroma-requires-clause-bytes
-add_chroma-requires-clause-bytes c =
-    let p : Image = c.args.picture.now in
-    let s : Predictor = predictor_of c.args.source.now in
-    let own = chroma_residue c.args.tokens.now c.args.factors.now in
-    let whole = c.dim-known.ensures.aligned in
-    u_bytes p c.predict_chroma.new.picture (8 * c.args.place.column) (8 * c.args.place.row) (chroma_prediction s 1 c.args.place p.u) (chroma_prediction s 2 c.args.place p.v)
-    (omega (arith, whole)) (omega (arith, whole)) (omega (arith, whole)) (omega (arith, whole)) c.predict_chroma.ensures.value c.predict_chroma.ensures.u
+    (omega (arith, whole)) (omega (arith, whole)) (omega (arith, whole)) (omega (arith, whole)) c.predict_chroma.ensures
 
 pub add_chroma-requires-2-clause-columns : goal.add_chroma-requires-2-clause-columns
 add_chroma-requires-2-clause-columns c =
@@ -41,7 +32,7 @@ add_chroma-requires-2-clause-columns c =
     let own = chroma_residue c.args.tokens.now c.args.factors.now in
     let whole = c.dim-known.ensures.aligned in
     v_wide p c.predict_chroma.new.picture (8 * c.args.place.column) (8 * c.args.place.row) (chroma_prediction s 1 c.args.place p.u) (chroma_prediction s 2 c.args.place p.v)
-    (omega (arith, whole)) (omega (arith, whole)) (omega (arith, whole)) (omega (arith, whole)) c.predict_chroma.ensures.value
+    (omega (arith, whole)) (omega (arith, whole)) (omega (arith, whole)) (omega (arith, whole)) c.predict_chroma.ensures
     c.add_chroma.new.picture (residue_at 2 (own 1)) c.add_chroma.ensures
 
 pub add_chroma-requires-2-clause-rows : goal.add_chroma-requires-2-clause-rows
@@ -51,18 +42,8 @@ add_chroma-requires-2-clause-rows c =
     let own = chroma_residue c.args.tokens.now c.args.factors.now in
     let whole = c.dim-known.ensures.aligned in
     v_high p c.predict_chroma.new.picture (8 * c.args.place.column) (8 * c.args.place.row) (chroma_prediction s 1 c.args.place p.u) (chroma_prediction s 2 c.args.place p.v)
-    (omega (arith, whole)) (omega (arith, whole)) (omega (arith, whole)) (omega (arith, whole)) c.predict_chroma.ensures.value
+    (omega (arith, whole)) (omega (arith, whole)) (omega (arith, whole)) (omega (arith, whole)) c.predict_chroma.ensures
     c.add_chroma.new.picture (residue_at 2 (own 1)) c.add_chroma.ensures
-
-pub add_chroma-requires-2-clause-bytes : goal.add_chroma-requires-2-clause-bytes
-add_chroma-requires-2-clause-bytes c =
-    let p : Image = c.args.picture.now in
-    let s : Predictor = predictor_of c.args.source.now in
-    let own = chroma_residue c.args.tokens.now c.args.factors.now in
-    let whole = c.dim-known.ensures.aligned in
-    v_bytes p c.predict_chroma.new.picture (8 * c.args.place.column) (8 * c.args.place.row) (chroma_prediction s 1 c.args.place p.u) (chroma_prediction s 2 c.args.place p.v)
-    (omega (arith, whole)) (omega (arith, whole)) (omega (arith, whole)) (omega (arith, whole)) c.predict_chroma.ensures.value
-    c.add_chroma.new.picture (residue_at 2 (own 1)) c.add_chroma.ensures c.predict_chroma.ensures.v
 
 pub returns : goal.returns
 returns c =
@@ -71,6 +52,6 @@ returns c =
     let own = chroma_residue c.args.tokens.now c.args.factors.now in
     let whole = c.dim-known.ensures.aligned in
     both_summed p c.predict_chroma.new.picture (8 * c.args.place.column) (8 * c.args.place.row) (chroma_prediction s 1 c.args.place p.u) (chroma_prediction s 2 c.args.place p.v)
-    (omega (arith, whole)) (omega (arith, whole)) (omega (arith, whole)) (omega (arith, whole)) c.predict_chroma.ensures.value
+    (omega (arith, whole)) (omega (arith, whole)) (omega (arith, whole)) (omega (arith, whole)) c.predict_chroma.ensures
     c.add_chroma.new.picture (residue_at 2 (own 1)) c.add_chroma.ensures
     c.add_chroma-2.new.picture (residue_at 2 (own 2)) c.add_chroma-2.ensures

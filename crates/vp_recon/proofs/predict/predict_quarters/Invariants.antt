@@ -1,0 +1,14 @@
+use Rattle.std.proofs.Common.{◌≡◌}
+use Rattle.vp_base.specs.Image.{with_plane}
+use Rattle.vp_base.specs.Block.{with_block}
+use Rattle.vp_recon.specs.Prediction.{moved_pixel, luma_moved}
+use Rattle.vp_recon.proofs.Parts.{was, quarter_at, until}
+use Rattle.vp_recon.proofs.predict.predict_quarters.Given as goal
+
+abbrev pub invariant-loop-quarter : goal.invariant-loop-quarter
+invariant-loop-quarter l = record {
+  pixels : l.picture ≡ with_plane l.fn.picture 0 (with_block l.fn.picture.luma l.x l.y 16 16
+      (until quarter_at l.quarter (moved_pixel l.version l.source l.x l.y 4 (luma_moved l.motion)) (was l.fn.picture.luma l.x l.y)));
+  wide : l.picture.luma.width ≡ l.fn.picture.luma.width;
+  high : l.picture.luma.height ≡ l.fn.picture.luma.height;
+}
