@@ -7,7 +7,7 @@ use Rattle.vp_search.specs.Sums.{sum_below}
 use Rattle.vp_search.specs.Differences.{sum_of_differences, strided_block}
 use Rattle.vp_search.specs.Window.{vector_at, window_cost}
 use Rattle.vp_search.specs.declared.search_window.SearchWindow.{SearchWindow}
-use Rattle.vp_search.specs.Search.{cost_in}
+use Rattle.vp_search.specs.Search.{cost_in, AreAbove}
 use Rattle.vp_search.specs.Summed.{AreBounds}
 use Rattle.vp_search.specs.Bounds.{capped, column_sum, square_sum, block_sums, bound_of, IsSummed}
 use Rattle.vp_search.proofs.SumLemmas.{sum_below-same, sum_below-add, sum_below-plus, sum_of_differences-same, sum_of_differences-add}
@@ -99,35 +99,20 @@ sums_capped : (a b c d w x y z : ℕ) → a ≤ w → b ≤ x → c ≤ y → d 
 sums_capped a b c d w x y z h i j k = omega arith
 
 -- the bound of a place is at most its cost
-pub bound_at : (block window sums : List ℕ) (at : ℕ) → get_or sums at 0 ≡ square_sum window at WINDOW_WIDTH → get_or sums (at + 8) 0 ≡ square_sum window (at + 8) WINDOW_WIDTH
-    → get_or sums (at + 8 * WINDOW_WIDTH) 0 ≡ square_sum window (at + 8 * WINDOW_WIDTH) WINDOW_WIDTH → get_or sums (at + 8 * WINDOW_WIDTH + 8) 0 ≡ square_sum window (at + 8 * WINDOW_WIDTH + 8) WINDOW_WIDTH
-    → bound_of (block_sums block) sums at ≤ sum_of_differences 16 16 (strided_block block 0 16) (strided_block window at WINDOW_WIDTH)
-unfolding bound_of
-bound_at block window sums at p q r s =
-    let same : (x y : ℕ) → get_or sums y 0 ≡ square_sum window y WINDOW_WIDTH → abs_diff (square_sum block x 16) (get_or sums y 0) ≤ sum_of_differences 8 8 (strided_block block x 16) (strided_block window y WINDOW_WIDTH) =
-    λ x y e. subst (λ (k : ℕ). abs_diff (square_sum block x 16) k ≤ sum_of_differences 8 8 (strided_block block x 16) (strided_block window y WINDOW_WIDTH)) (sym e) (square_apart block window x y 16 WINDOW_WIDTH) in
-    let whole = quarters_of block window at WINDOW_WIDTH in
-    subst (λ (k : ℕ). bound_of (block_sums block) sums at ≤ k) (sym whole)
-    (sums_capped _ _ _ _ _ _ _ _ (same 0 at p) (same 8 (at + 8) q) (same 128 (at + 8 * WINDOW_WIDTH) r) (same 136 (at + 8 * WINDOW_WIDTH + 8) s))
-
--- ---- the sums of a window
-summed_at : (window sums : List ℕ) (range y x at : ℕ) → IsSummed window sums range → at ≡ y * WINDOW_WIDTH + x → y ≤ 2 * range + 8 → x ≤ 2 * range + 8
-    → get_or sums at 0 ≡ square_sum window at WINDOW_WIDTH
-summed_at window sums range y x at all e h k =
-    subst (λ (n : ℕ). get_or sums n 0 ≡ square_sum window n WINDOW_WIDTH) (sym e) (all y x h k)
-
--- the bound of a place is at most its cost
 pub bound_below : (block window sums squares : List ℕ) (range i j at : ℕ) → squares ≡ block_sums block → IsSummed window sums range → i ≤ 2 * range → j ≤ 2 * range → at ≡ i * WINDOW_WIDTH + j
     → bound_of squares sums at ≤ window_cost block window range (vector_at range i j)
+unfolding bound_of
 bound_below block window sums squares range i j at e all iin jin place =
-    let p : get_or sums at 0 ≡ square_sum window at WINDOW_WIDTH = summed_at window sums range i j at all place (omega arith) (omega arith) in
-    let q : get_or sums (at + 8) 0 ≡ square_sum window (at + 8) WINDOW_WIDTH = summed_at window sums range i (j + 8) (at + 8) all (omega arith) (omega arith) (omega arith) in
-    let r : get_or sums (at + 8 * WINDOW_WIDTH) 0 ≡ square_sum window (at + 8 * WINDOW_WIDTH) WINDOW_WIDTH = summed_at window sums range (i + 8) j (at + 8 * WINDOW_WIDTH) all (omega arith) (omega arith) (omega arith) in
-    let s : get_or sums (at + 8 * WINDOW_WIDTH + 8) 0 ≡ square_sum window (at + 8 * WINDOW_WIDTH + 8) WINDOW_WIDTH = summed_at window sums range (i + 8) (j + 8) (at + 8 * WINDOW_WIDTH + 8) all (omega arith) (omega arith) (omega arith) in
-    let cost : sum_of_differences 16 16 (strided_block block 0 16) (strided_block window at WINDOW_WIDTH) ≡ window_cost block window range (vector_at range i j) =
-    ap (λ (n : ℕ). sum_of_differences 16 16 (strided_block block 0 16) (strided_block window n WINDOW_WIDTH)) place ∙ sym (cost_at block window range i j) in
+    let part : (x y r c : ℕ) → y ≡ r * WINDOW_WIDTH + c → r ≤ 2 * range + 8 → c ≤ 2 * range + 8 → abs_diff (square_sum block x 16) (get_or sums y 0) ≤ sum_of_differences 8 8 (strided_block block x 16) (strided_block window y WINDOW_WIDTH) =
+    λ x y r c same h k.
+    subst (λ (n : ℕ). abs_diff (square_sum block x 16) n ≤ sum_of_differences 8 8 (strided_block block x 16) (strided_block window y WINDOW_WIDTH))
+    (sym (ap (λ (n : ℕ). get_or sums n 0) same ∙ all r c h k ∙ ap (λ (n : ℕ). square_sum window n WINDOW_WIDTH) (sym same))) (square_apart block window x y 16 WINDOW_WIDTH) in
+    let low = sums_capped _ _ _ _ _ _ _ _
+    (part 0 at i j place (omega arith) (omega arith)) (part 8 (at + 8) i (j + 8) (omega arith) (omega arith) (omega arith))
+    (part 128 (at + 8 * WINDOW_WIDTH) (i + 8) j (omega arith) (omega arith) (omega arith)) (part 136 (at + 8 * WINDOW_WIDTH + 8) (i + 8) (j + 8) (omega arith) (omega arith) (omega arith)) in
+    let cost = ap (λ (n : ℕ). sum_of_differences 16 16 (strided_block block 0 16) (strided_block window n WINDOW_WIDTH)) place ∙ sym (cost_at block window range i j) in
     subst (λ (l : List ℕ). bound_of l sums at ≤ window_cost block window range (vector_at range i j)) (sym e)
-    (subst (λ (n : ℕ). bound_of (block_sums block) sums at ≤ n) cost (bound_at block window sums at p q r s))
+    (subst (λ (n : ℕ). bound_of (block_sums block) sums at ≤ n) (sym (quarters_of block window at WINDOW_WIDTH) ∙ cost) low)
 
 -- the bounds of eight places
 pub bounds_are : (w : SearchWindow) (sums squares bounds : List ℕ) (i j : ℕ) → squares ≡ block_sums w.block.now → IsSummed w.pixels.now sums w.range → i ≤ 2 * w.range
@@ -139,7 +124,7 @@ bounds_are w sums squares bounds i j e all iin here t h within =
 -- groups of eight places whose bounds are above a limit
 pub bounds_above : (w : SearchWindow) (sums squares : List ℕ) (i g m limit : ℕ) → squares ≡ block_sums w.block.now → IsSummed w.pixels.now sums w.range → i ≤ 2 * w.range
     → ((k t : ℕ) → g ≤ k → k < m → t < 8 → limit < bound_of squares sums (i * WINDOW_WIDTH + 8 * k + t))
-    → (j : ℕ) → 8 * g ≤ j → j < 8 * m → j ≤ 2 * w.range → limit < cost_in w (vector_at w.range i j)
+    → AreAbove w limit i (8 * g) (8 * m)
 bounds_above w sums squares i g m limit e all iin above j low high within =
     let at : i * WINDOW_WIDTH + 8 * (j / 8) + j % 8 ≡ i * WINDOW_WIDTH + j = omega arith in
     let over = above (j / 8) (j % 8) (omega arith) (omega arith) (omega arith) in

@@ -1,21 +1,19 @@
 -- Coarse sums, and the bounds that follow from them.
-use Rattle.std.proofs.Common.{◌≡◌, ℕ, ◌+◌, ◌-◌, ◌*◌, ◌/◌, ◌%◌, ◌<◌, ◌≤◌, false, cond, min, List, get_or, ltb, leb, sym, subst, arith, zero, suc, length, replicate, inl, inr, ap, refl, ◌∙◌}
+use Rattle.std.proofs.Common.{◌≡◌, ℕ, ◌+◌, ◌-◌, ◌*◌, ◌/◌, ◌<◌, ◌≤◌, false, cond, min, List, get_or, ltb, leb, sym, subst, arith, zero, suc, length, replicate, inl, inr, ap, refl, ◌∙◌}
 use Rattle.std.proofs.lemmas.Bool.{cases_lt}
 use Rattle.std.proofs.lemmas.Bool.Decides.{nat_tests}
+use Rattle.std.proofs.lemmas.Simd.{get_or-chunk}
 use borrow.Rule.Slice.PartMut.{put_mid, mid_of}
 use Rattle.std.specs.Int.{abs_diff}
 use lib.Lanes.{top}
 use Rattle.vp_search.specs.declared.window.TheConstants.{WINDOW_WIDTH}
 use Rattle.vp_search.specs.Bounds.{capped, bound_of, distance_of}
 use Rattle.vp_search.specs.Coarse.{AreCoarse, coarse_of, coarse_bound_of, within_byte}
-use Rattle.vp_search.proofs.SquareLemmas.{part_of, put_at, put_before}
+use Rattle.vp_search.proofs.SquareLemmas.{put_at, put_before}
 
 -- ---- what one lane computes
 pub coarse_lane : (a : ℕ) → a < 65536 → cond (top 15 (cond (ltb (a / 64) 255) 65535 0)) (a / 64) 255 ≡ coarse_of a
 coarse_lane a h = grind arith
-
-pub byte_sum : (a b : ℕ) → a < 256 → b < 256 → (a + cond (top 7 (cond (ltb b (255 - a)) 255 0)) b (255 - a)) % 256 ≡ min (a + b) 255
-byte_sum a b p q = grind arith
 
 pub above_coarse : (x y limit : ℕ) → leb x y ≡ false → y ≡ min ((min limit 65535 + 252) / 64) 255 → x < 256 → limit + 252 < 64 * x
 above_coarse x y limit e m f = grind (arith, nat_tests)
@@ -44,11 +42,6 @@ coarse_excludes block sums coarse_block coarse at limit own all above =
     four_above _ _ _ _ _ _ _ _ limit
     (apart 0 at (omega arith) (omega arith)) (apart 1 (at + 8) (omega arith) (omega arith))
     (apart 2 (at + 8 * WINDOW_WIDTH) (omega arith) (omega arith)) (apart 3 (at + 8 * WINDOW_WIDTH + 8) (omega arith) (omega arith)) above
-
--- ---- the coarse bound of a place
-pub byte_sums : (a b c d w x y z p q r : ℕ) → a ≡ w → b ≡ x → c ≡ y → d ≡ z → p ≡ min (a + b) 255 → q ≡ min (c + d) 255 → r ≡ min (p + q) 255
-    → r ≡ within_byte (within_byte (w + x) + within_byte (y + z))
-byte_sums a b c d w x y z p q r ea eb ec ed ep eq er = omega arith
 
 pub coarse_fits : (a : ℕ) → cond (top 15 (cond (ltb a 255) 65535 0)) a 255 < 256
 coarse_fits a = grind arith
@@ -82,7 +75,7 @@ none_coarse n m l k h = zero_at l k ∙ ap coarse_of (sym (zero_at m k))
 -- ---- a part of the sums that are held
 pub part_coarse : (sums coarse : List ℕ) (start n m : ℕ) → AreCoarse m sums coarse → start + n ≤ m → AreCoarse n (mid_of start n sums) (mid_of start n coarse)
 part_coarse sums coarse start n m all room k h =
-    part_of coarse start n k h ∙ all (start + k) (omega arith) ∙ ap coarse_of (sym (part_of sums start n k h))
+    get_or-chunk start n coarse k 0 h ∙ all (start + k) (omega arith) ∙ ap coarse_of (sym (get_or-chunk start n sums k 0 h))
 
 pub whole_coarse : (sums coarse made own : List ℕ) (start n m : ℕ) → AreCoarse m sums coarse → AreCoarse n made own → start + n ≡ m
     → start + n ≤ length sums → start + n ≤ length coarse → length made ≡ n → length own ≡ n → AreCoarse m (put_mid start n sums made) (put_mid start n coarse own)

@@ -37,9 +37,7 @@ pub row_whole : (whole : ℤ) (down : ℕ) → whole_pixels (pos 2 *ℤ (pos 4 *
 row_whole whole down =
     let a : pos 2 *ℤ (pos 4 *ℤ whole +ℤ pos down) ≡ pos 8 *ℤ whole +ℤ pos (2 * down) = omega (arith, ints) in
     let b : pos 2 *ℤ (pos 4 *ℤ whole) ≡ pos 8 *ℤ whole +ℤ pos 0 = omega (arith, ints) in
-    let x : whole_pixels (pos 2 *ℤ (pos 4 *ℤ whole +ℤ pos down)) ≡ whole +ℤ pos ((2 * down) / 8) = ap whole_pixels a ∙ whole_is whole (2 * down) in
-    let y : whole_pixels (pos 2 *ℤ (pos 4 *ℤ whole)) ≡ whole +ℤ pos (0 / 8) = ap whole_pixels b ∙ whole_is whole 0 in
-    omega (arith, ints)
+    rw (a, b, whole_is whole (2 * down), whole_is whole 0) (omega (arith, ints))
 
 pub row_fraction : (whole : ℤ) (down : ℕ) → fraction (pos 2 *ℤ (pos 4 *ℤ whole +ℤ pos down)) ≡ 2 * (down % 4)
 row_fraction whole down =

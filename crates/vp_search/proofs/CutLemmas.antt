@@ -28,7 +28,6 @@ start_of size side outside start inside c (negsuc n) o s i h k = omega (arith, i
 module _ {size side outside start inside : ℕ} {left : ℤ} (cut : Cut size side left outside start inside) (c : ℕ) where
   pub before_line : c < outside → nearest size (left +ℤ pos c) ≡ 0
   before_line h =
-      let o = cut.outside_is in
       below_zero size (left +ℤ pos c) (omega (arith, ints, clamps))
 
   pub in_line : outside ≤ c → c < outside + inside → nearest size (left +ℤ pos c) ≡ start + (c - outside)
@@ -39,7 +38,6 @@ module _ {size side outside start inside : ℕ} {left : ℤ} (cut : Cut size sid
 
   pub behind_line : outside + inside ≤ c → c < side → nearest size (left +ℤ pos c) ≡ size - 1
   behind_line h k =
-      let o = cut.outside_is in let s = cut.start_is in let i = cut.inside_is in let p = cut.some in
       let n : ℕ = unsigned_abs (left +ℤ pos c) in
       let z : left +ℤ pos c ≡ pos n = omega (arith, ints, clamps) in
       let large : size ≤ n = omega (arith, ints, clamps) in

@@ -1,5 +1,5 @@
 -- Each search and each refinement has a best vector.
-use Rattle.std.proofs.Common.{◌≡◌, ℕ, zero, suc, ◌*◌, ◌≤◌, ◌⊎◌, pos, refl, sym, subst, arith, inl, inr}
+use Rattle.std.proofs.Common.{◌≡◌, ℕ, zero, suc, ◌*◌, ◌<◌, ◌≤◌, ◌⊎◌, pos, refl, sym, subst, arith, inl, inr}
 use Rattle.std.proofs.lemmas.Int.{ints, by_lt_z}
 use Rattle.std.proofs.lemmas.Bool.{cases_lt, cases_order}
 use Rattle.vp_search.specs.declared.vector.WholeVector.{WholeVector}
@@ -9,7 +9,7 @@ use Rattle.vp_search.specs.FirstLeast.{IsFirstLeast}
 use Rattle.vp_search.specs.Least.{IsNoWorse, IsLeast}
 use Rattle.vp_search.specs.Refined.{neighbour, IsRefined}
 use Rattle.vp_search.specs.Window.{vector_at}
-use Rattle.vp_search.proofs.OrderLemmas.{same, along, index, near_at, vector_is, less_cost, less_size, less_row, less_column}
+use Rattle.vp_search.proofs.OrderLemmas.{along, index, near_at, vector_is, less_cost, less_size, less_row, less_column}
 
 -- one of two vectors precedes or equals the other
 either_way : (a : ℕ) (v : WholeVector) (b : ℕ) (w : WholeVector) → IsNoWorse a v b w ⊎ IsNoWorse b w a v
@@ -27,40 +27,28 @@ either_way a v b w = elim (cases_order a b) [
   | inr (inr l) ↦ inr (less_cost b w a v l)
 ]
 
--- the best of the first n + 1 vectors
-record Best (cost : WholeVector → ℕ) (at : ℕ → WholeVector) (n : ℕ) : Type 0 where
-  number : ℕ
-  within : number ≤ n
-  best : (k : ℕ) → k ≤ n → IsNoWorse (cost (at number)) (at number) (cost (at k)) (at k)
+-- the best of the first n + 1 numbers, by an order that puts one of two before the other
+module _ (P : ℕ → ℕ → Type 0) (either : (i k : ℕ) → P i k ⊎ P k i) (chain : (i j k : ℕ) → P i j → P j k → P i k) where
+  record Best (n : ℕ) : Type 0 where
+    number : ℕ
+    within : number ≤ n
+    best : (k : ℕ) → k ≤ n → P number k
 
-module _ (cost : WholeVector → ℕ) (at : ℕ → WholeVector) where
-  abbrev IsNoWorseAt : ℕ → ℕ → Type 0
-  IsNoWorseAt i k = IsNoWorse (cost (at i)) (at i) (cost (at k)) (at k)
+  itself : (i : ℕ) → P i i
+  itself i = elim (either i i) [ inl p ↦ p | inr p ↦ p ]
 
-  -- what holds of the first n and of the next one
-  and_next : (n i : ℕ) → ((k : ℕ) → k ≤ n → IsNoWorseAt i k) → IsNoWorseAt i (suc n) → (k : ℕ) → k ≤ suc n → IsNoWorseAt i k
-  and_next n i before next k h = elim (cases_lt n k) [
-    | inl last ↦ (let e : suc n ≡ k = omega arith in subst (IsNoWorseAt i) e next)
-    | inr is ↦ before k is
-  ]
-
-  best_of : (n : ℕ) → Best cost at n
-  best_of zero = record {
-    number = 0;
-    within = omega arith;
-    best = λ k h. let e : 0 ≡ k = omega arith in subst (IsNoWorseAt 0) e (same (cost (at 0)) (at 0));
-  }
+  best_of : (n : ℕ) → Best n
+  best_of zero = record { number = 0; within = omega arith; best = λ k h. let e : 0 ≡ k = omega arith in subst (P 0) e (itself 0) }
   best_of (suc n) =
       let b = best_of n in
-      elim (either_way (cost (at b.number)) (at b.number) (cost (at (suc n))) (at (suc n))) [
-        | inl kept ↦ (let w = b.within in record { number = b.number; within = omega arith; best = and_next n b.number b.best kept })
-        | inr new ↦ record {
-          number = suc n;
-          within = omega arith;
-          best = and_next n (suc n)
-              (λ k h. along (cost (at (suc n))) (at (suc n)) (cost (at b.number)) (at b.number) (cost (at k)) (at k) new (b.best k h))
-              (same (cost (at (suc n))) (at (suc n)));
-        }
+      let and_next : (i : ℕ) → ((k : ℕ) → k ≤ n → P i k) → P i (suc n) → (k : ℕ) → k ≤ suc n → P i k =
+      λ i before next k h. elim (cases_lt n k) [
+        | inl last ↦ (let e : suc n ≡ k = omega arith in subst (P i) e next)
+        | inr is ↦ before k is
+      ] in
+      elim (either b.number (suc n)) [
+        | inl kept ↦ record { number = b.number; within = omega arith; best = and_next b.number b.best kept }
+        | inr new ↦ record { number = suc n; within = omega arith; best = and_next (suc n) (λ k h. chain (suc n) b.number k new (b.best k h)) (itself (suc n)) }
       ]
 
 -- the best vector within a range
@@ -70,9 +58,12 @@ pub record BestVector (range : ℕ) (cost : WholeVector → ℕ) : Type 0 where
 
 pub best_vector : (range : ℕ) (cost : WholeVector → ℕ) → BestVector range cost
 best_vector range cost =
-    let row = λ (i : ℕ). best_of cost (vector_at range i) (2 * range) in
+    let best_in = λ (at : ℕ → WholeVector). best_of (λ i k. IsNoWorse (cost (at i)) (at i) (cost (at k)) (at k))
+    (λ i k. either_way (cost (at i)) (at i) (cost (at k)) (at k))
+    (λ i j k. along (cost (at i)) (at i) (cost (at j)) (at j) (cost (at k)) (at k)) (2 * range) in
+    let row = λ (i : ℕ). best_in (vector_at range i) in
     let first = λ (i : ℕ). vector_at range i (row i).number in
-    let top = best_of cost first (2 * range) in
+    let top = best_in first in
     record {
       vector = first top.number;
       is = record {
@@ -87,47 +78,29 @@ best_vector range cost =
       };
     }
 
--- the first of the least of n + 1 numbers
-record First (f : ℕ → ℕ) (n : ℕ) : Type 0 where
+-- the first of the least of nine numbers
+record First (f : ℕ → ℕ) : Type 0 where
   number : ℕ
-  is : IsFirstLeast (suc n) f number
+  is : IsFirstLeast 9 f number
 
-first_of : (f : ℕ → ℕ) (n : ℕ) → First f n
-first_of f zero = record {
-  number = 0;
-  is = record {
-    within = omega arith;
-    least = λ k h. let e : 0 ≡ k = omega arith in subst (λ (j : ℕ). f 0 ≤ f j) e (omega arith);
-    first = λ k h. absurd (omega arith);
-  };
-}
-first_of f (suc n) =
-    let b = first_of f n in
-    let w = b.is.within in
-    elim (cases_lt (f (suc n)) (f b.number)) [
-      | inl less ↦ record {
-        number = suc n;
-        is = record {
-          within = omega arith;
-          least = λ k h. elim (cases_lt n k) [
-            | inl last ↦ (let e : suc n ≡ k = omega arith in subst (λ (j : ℕ). f (suc n) ≤ f j) e (omega arith))
-            | inr before ↦ (let l = b.is.least k (omega arith) in omega arith)
-          ];
-          first = λ k h. let l = b.is.least k (omega arith) in omega arith;
-        };
-      }
-      | inr kept ↦ record {
-        number = b.number;
-        is = record {
-          within = omega arith;
-          least = λ k h. elim (cases_lt n k) [
-            | inl last ↦ (let e : suc n ≡ k = omega arith in subst (λ (j : ℕ). f b.number ≤ f j) e kept)
-            | inr before ↦ b.is.least k (omega arith)
-          ];
-          first = λ k h. b.is.first k h;
-        };
-      }
-    ]
+first_of : (f : ℕ → ℕ) → First f
+first_of f =
+    let P : ℕ → ℕ → Type 0 = λ i k. (f i ≤ f k) × (k < i → f i < f k) in
+    let either : (i k : ℕ) → P i k ⊎ P k i =
+    λ i k. elim (cases_lt i k) [
+      | inl before ↦ elim (cases_lt (f k) (f i)) [ inl less ↦ inr (omega arith, λ h. less) | inr more ↦ inl (more, λ h. absurd (omega arith)) ]
+      | inr after ↦ elim (cases_lt (f i) (f k)) [ inl less ↦ inl (omega arith, λ h. less) | inr more ↦ inr (more, λ h. absurd (omega arith)) ]
+    ] in
+    let chain : (i j k : ℕ) → P i j → P j k → P i k =
+    λ i j k p q. let b = q.0 in (
+      omega arith,
+      λ h. elim (cases_lt k j) [
+        | inl before ↦ (let less = q.1 before in omega arith)
+        | inr after ↦ (let less = p.1 (omega arith) in omega arith)
+      ],
+    ) in
+    let b = best_of P either chain 8 in
+    record { number = b.number; is = record { within = omega arith; least = λ k h. (b.best k (omega arith)).0; first = λ k h. (b.best k (omega arith)).1 h } }
 
 -- the refinement of a vector
 pub record BestRefined (cost : QuarterVector → ℕ) (centre : WholeVector) : Type 0 where
@@ -136,9 +109,9 @@ pub record BestRefined (cost : QuarterVector → ℕ) (centre : WholeVector) : T
 
 pub best_refined : (cost : QuarterVector → ℕ) (centre : WholeVector) → BestRefined cost centre
 best_refined cost centre =
-    let one = first_of (λ k. cost (neighbour (quarters centre) (pos 2) k)) 8 in
+    let one = first_of (λ k. cost (neighbour (quarters centre) (pos 2) k)) in
     let halfway : QuarterVector = neighbour (quarters centre) (pos 2) one.number in
-    let two = first_of (λ k. cost (neighbour halfway (pos 1) k)) 8 in
+    let two = first_of (λ k. cost (neighbour halfway (pos 1) k)) in
     record {
       vector = neighbour halfway (pos 1) two.number;
       is = record {

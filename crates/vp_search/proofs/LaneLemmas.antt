@@ -1,5 +1,5 @@
 -- Absolute values in lanes of i32, and sums of unsigned lanes.
-use Rattle.std.proofs.Common.{◌≡◌, ℕ, zero, suc, ◌+◌, ◌*◌, ◌<◌, ◌≤◌, ◌^◌, Bool, true, false, cond, List, [], ◌∷◌, map, length, get_or, sym, ap, ◌∙◌, subst, arith, ℤ, pos, negsuc, ◌-ℤ◌, ◌≤ℤ◌, Fits, w32, unsigned_abs}
+use Rattle.std.proofs.Common.{◌≡◌, ℕ, ◌*◌, ◌<◌, ◌≤◌, ◌^◌, Bool, true, false, cond, List, map, length, get_or, sym, ap, ◌∙◌, subst, arith, ℤ, pos, negsuc, ◌-ℤ◌, ◌≤ℤ◌, Fits, w32, unsigned_abs}
 use Rattle.std.proofs.Math.Nat.{mul-le-mul_left}
 use Rattle.std.proofs.lemmas.Int.{ints}
 use Rattle.std.specs.Int.{abs_diff}
@@ -12,6 +12,7 @@ use borrow.Rule.Simd.Lanes.{act1, act2, Asks1}
 use borrow.Table.Row.{s_int}
 use Rattle.vp_lanes.proofs.Shape.{ByLane, lanes_of, lane_is, mapped, zipped, selected, each_lane, length-ByLane}
 use Rattle.vp_lanes.proofs.Signed32.{Signed, Stands, lt_is}
+use Rattle.vp_search.proofs.SumLemmas.{sum_l-is, sum_below-bound}
 
 abbrev below32 : ℕ → ℕ → ℕ
 below32 = act2 (mask (lt signed)) (s_int w32) (s_int w32) (s_int w32)
@@ -40,7 +41,7 @@ module _ {n : ℕ} {Z : ℕ → ℤ} {xs : List ℕ} (p : Signed n Z xs) where
   -- a cast to unsigned lanes of the same width
   pub to_unsigned_fits : ((j : ℕ) → j < n → (pos 0 ≤ℤ Z j) × (Z j ≤ℤ pos 255)) → Each1 (Asks1 (cast signed unsigned w32) (s_int w32)) xs
   to_unsigned_fits r = each_lane (Asks1 (cast signed unsigned w32) (s_int w32)) (lanes_of 0 n xs p.long)
-      (λ j h. subst (λ (y : ℤ). T (non_neg y) × Fits w32 (unsigned_abs y)) (sym (p.at j h).is) (let s = r j h in let a = s.0 in let b = s.1 in natural (Z j) (r j h).0 (omega (arith, ints))))
+      (λ j h. subst (λ (y : ℤ). T (non_neg y) × Fits w32 (unsigned_abs y)) (sym (p.at j h).is) (let s = r j h in let a = s.0 in natural (Z j) (r j h).0 (omega (arith, ints))))
 
   pub to_unsigned_out : (j : ℕ) → j < n → get_or (map (act1 (cast signed unsigned w32) (s_int w32) (s_int w32)) xs) j 0 ≡ unsigned_abs (Z j)
   to_unsigned_out j h = lane_is 0 (mapped (act1 (cast signed unsigned w32) (s_int w32) (s_int w32)) (lanes_of 0 n xs p.long)) j h ∙ ap unsigned_abs (p.at j h).is
@@ -55,13 +56,7 @@ pub small : (a b : ℕ) → a < 256 → b < 256 → abs_diff a b ≤ 255
 small a b ha hb = grind (arith, nat_tests)
 
 pub below_all : (n m : ℕ) (xs : List ℕ) → length xs ≡ n → ((j : ℕ) → j < n → get_or xs j 0 ≤ m) → sum_l xs ≤ n * m
-below_all zero m [] l h = omega arith
-below_all zero m (x ∷ xs) l h = absurd (omega arith)
-below_all (suc n) m [] l h = absurd (omega arith)
-below_all (suc n) m (x ∷ xs) l h =
-    let first : x ≤ m = h 0 (omega arith) in
-    let rest = below_all n m xs (omega arith) (λ j k. h (suc j) (omega arith)) in
-    let e : suc n * m ≡ n * m + m = omega arith in omega arith
+below_all n m xs l h = let e = sum_l-is n xs l in let b = sum_below-bound n m (λ k. get_or xs k 0) h in omega arith
 
 pub square_small : (x : ℕ) → x ≤ 255 → x * x ≤ 65025
 square_small x h = let e = mul-le-mul_left x h in omega arith

@@ -12,7 +12,6 @@ same a v = record { by_cost = omega arith; by_size = λ _. omega arith; by_row =
 
 pub along : (a : ℕ) (u : WholeVector) (b : ℕ) (v : WholeVector) (c : ℕ) (w : WholeVector) → IsNoWorse a u b v → IsNoWorse b v c w → IsNoWorse a u c w
 along a u b v c w p q =
-    let e = p.by_cost in let f = q.by_cost in
     record {
       by_cost = omega arith;
       by_size = λ h. let x = p.by_size (omega arith) in let y = q.by_size (omega arith) in omega arith;

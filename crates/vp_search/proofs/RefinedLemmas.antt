@@ -2,7 +2,7 @@
 use Rattle.std.proofs.Common.{◌≡◌, ℕ, ℤ, zero, suc, ◌<◌, ◌≤◌, ◌+ℤ◌, ◌-ℤ◌, List, get_or, refl, sym, ap, subst, inl, inr, pos, ◌∙◌, arith}
 use Rattle.std.specs.Prelude.{unsigned_abs}
 use Rattle.std.proofs.lemmas.Int.{ints}
-use Rattle.std.proofs.lemmas.Bool.{cases_lt}
+use Rattle.std.proofs.lemmas.Bool.{cases_order}
 use Rattle.vp_search.specs.declared.vector.WholeVector.{WholeVector}
 use Rattle.vp_search.specs.declared.vector.QuarterVector.{QuarterVector}
 use Rattle.vp_search.specs.FirstLeast.{IsFirstLeast}
@@ -33,29 +33,18 @@ below_nine P a b c d e f g h i (suc (suc (suc (suc (suc (suc (suc zero))))))) l 
 below_nine P a b c d e f g h i (suc (suc (suc (suc (suc (suc (suc (suc zero)))))))) l = i
 below_nine P a b c d e f g h i (suc (suc (suc (suc (suc (suc (suc (suc (suc k))))))))) l = absurd (omega arith)
 
--- the default of a read inside does not matter
-pub at_place : (centre : QuarterVector) (d : ℤ) (z : QuarterVector) (k : ℕ) → k < 9 → get_or (candidates_around centre d) k z ≡ neighbour centre d k
-at_place centre d z k h = below_nine (λ k. get_or (candidates_around centre d) k z ≡ neighbour centre d k) refl refl refl refl refl refl refl refl refl k h
-
-abbrev IsBeside : ℤ → ℤ → ℤ → Type 0
-IsBeside from d to = unsigned_abs (to -ℤ from) ≤ unsigned_abs d
-
-at_it : (x d : ℤ) → IsBeside x d x
-at_it x d = omega (arith, ints)
-
-less : (x d : ℤ) → IsBeside x d (x -ℤ d)
-less x d = omega (arith, ints)
-
-more : (x d : ℤ) → IsBeside x d (x +ℤ d)
-more x d = omega (arith, ints)
-
 pub row_beside : (centre : QuarterVector) (d : ℤ) (k : ℕ) → k < 9 → unsigned_abs ((neighbour centre d k).row -ℤ centre.row) ≤ unsigned_abs d
 row_beside centre d k h =
     let x : ℤ = centre.row in
-    below_nine (λ k. IsBeside x d (neighbour centre d k).row) (at_it x d) (less x d) (less x d) (less x d) (at_it x d) (at_it x d) (more x d) (more x d) (more x d) k h
+    let level : unsigned_abs (x -ℤ x) ≤ unsigned_abs d = omega (arith, ints) in
+    let above : unsigned_abs (x -ℤ d -ℤ x) ≤ unsigned_abs d = omega (arith, ints) in
+    let below : unsigned_abs (x +ℤ d -ℤ x) ≤ unsigned_abs d = omega (arith, ints) in
+    below_nine (λ k. unsigned_abs ((neighbour centre d k).row -ℤ x) ≤ unsigned_abs d) level above above above level level below below below k h
 
+-- the default of a read inside does not matter
 pub listed : (centre : QuarterVector) (d : ℤ) (vectors : List QuarterVector) (z : QuarterVector) (k : ℕ) → vectors ≡ candidates_around centre d → k < 9 → get_or vectors k z ≡ neighbour centre d k
-listed centre d vectors z k e h = ap (λ (l : List QuarterVector). get_or l k z) e ∙ at_place centre d z k h
+listed centre d vectors z k e h =
+    ap (λ (l : List QuarterVector). get_or l k z) e ∙ below_nine (λ k. get_or (candidates_around centre d) k z ≡ neighbour centre d k) refl refl refl refl refl refl refl refl refl k h
 
 -- the best by a cost that is the same everywhere
 pub best_same : (f g : QuarterVector → ℕ) (centre : QuarterVector) (d : ℤ) (best : QuarterVector) → ((v : QuarterVector) → f v ≡ g v) → IsBestOf f centre d best → IsBestOf g centre d best
@@ -76,14 +65,11 @@ refined_same f g centre best same p = record {
 -- ---- one answer
 
 pub first_is_one : (n : ℕ) (f : ℕ → ℕ) (a b : ℕ) → IsFirstLeast n f a → IsFirstLeast n f b → a ≡ b
-first_is_one n f a b p q =
-    elim (cases_lt a b) [
-      | inl less ↦ (let h = q.first a less in let k = p.least b q.within in absurd (omega arith))
-      | inr more ↦ elim (cases_lt b a) [
-        | inl less ↦ (let h = p.first b less in let k = q.least a p.within in absurd (omega arith))
-        | inr same ↦ omega arith
-      ]
-    ]
+first_is_one n f a b p q = elim (cases_order a b) [
+  | inl same ↦ same
+  | inr (inl less) ↦ (let h = q.first a less in let k = p.least b q.within in absurd (omega arith))
+  | inr (inr less) ↦ (let h = p.first b less in let k = q.least a p.within in absurd (omega arith))
+]
 
 best_is_one : (cost : QuarterVector → ℕ) (centre : QuarterVector) (d : ℤ) (v w : QuarterVector) → IsBestOf cost centre d v → IsBestOf cost centre d w → v ≡ w
 best_is_one cost centre d v w p q =

@@ -34,17 +34,8 @@ pub by_fours : (a b : List ℕ) (at s : ℕ) → sum_of_differences 16 16 (strid
     ≡ sum_of_differences 4 16 (strided_block a 0 16) (strided_block b at s) + sum_of_differences 4 16 (strided_block a 64 16) (strided_block b (at + 4 * s) s)
     + sum_of_differences 4 16 (strided_block a 128 16) (strided_block b (at + 8 * s) s) + sum_of_differences 4 16 (strided_block a 192 16) (strided_block b (at + 12 * s) s)
 by_fours a b at s =
-    let e1 : sum_of_differences 16 16 (strided_block a 0 16) (strided_block b at s)
-    ≡ sum_of_differences 4 16 (strided_block a 0 16) (strided_block b at s) + sum_of_differences 12 16 (strided_block a 64 16) (strided_block b (at + 4 * s) s) =
-    sum_of_differences-add a b 0 16 at s 4 12 in
-    let y2 : at + 4 * s + 4 * s ≡ at + 8 * s = omega arith in
-    let e2 : sum_of_differences 12 16 (strided_block a 64 16) (strided_block b (at + 4 * s) s)
-    ≡ sum_of_differences 4 16 (strided_block a 64 16) (strided_block b (at + 4 * s) s) + sum_of_differences 8 16 (strided_block a 128 16) (strided_block b (at + 8 * s) s) =
-    sum_of_differences-add a b 64 16 (at + 4 * s) s 4 8
-    ∙ ap (λ y. sum_of_differences 4 16 (strided_block a 64 16) (strided_block b (at + 4 * s) s) + sum_of_differences 8 16 (strided_block a 128 16) (strided_block b y s)) y2 in
-    let y3 : at + 8 * s + 4 * s ≡ at + 12 * s = omega arith in
-    let e3 : sum_of_differences 8 16 (strided_block a 128 16) (strided_block b (at + 8 * s) s)
-    ≡ sum_of_differences 4 16 (strided_block a 128 16) (strided_block b (at + 8 * s) s) + sum_of_differences 4 16 (strided_block a 192 16) (strided_block b (at + 12 * s) s) =
-    sum_of_differences-add a b 128 16 (at + 8 * s) s 4 4
-    ∙ ap (λ y. sum_of_differences 4 16 (strided_block a 128 16) (strided_block b (at + 8 * s) s) + sum_of_differences 4 16 (strided_block a 192 16) (strided_block b y s)) y3 in
+    let further : at + 8 * s + 4 * s ≡ at + 12 * s = omega arith in
+    let whole = sum_of_differences-add a b 0 16 at s 8 8 in
+    let upper = sum_of_differences-add a b 0 16 at s 4 4 in
+    let lower = rw further at (sum_of_differences-add a b 128 16 (at + 8 * s) s 4 4) in
     omega arith

@@ -29,22 +29,17 @@ first_rows_below w i j =
 
 -- ---- a row
 
--- vectors within range that cost more than the best so far
-pub skipped_within : (w : SearchWindow) (i from to : ℕ) (found : Found) → IsFound w found
-    → ((j : ℕ) → from ≤ j → j < to → j ≤ 2 * w.range → found.cost < cost_in w (vector_at w.range i j)) → IsBestInRow w i from to found found
-skipped_within w i from to found is above = record {
+-- vectors that cost more than the best so far
+pub skipped : (w : SearchWindow) (i from to : ℕ) (found : Found) → IsFound w found → AreAbove w found.cost i from to → IsBestInRow w i from to found found
+skipped w i from to found is above = record {
   found = is;
   better = same found.cost found.vector;
   seen = λ j low high within. less_cost found.cost found.vector (cost_in w (vector_at w.range i j)) (vector_at w.range i j) (above j low high within);
 }
 
--- vectors that cost more than the best so far
-pub skipped : (w : SearchWindow) (i from to : ℕ) (found : Found) → IsFound w found → AreAbove w found.cost i from to → IsBestInRow w i from to found found
-skipped w i from to found is above = skipped_within w i from to found is (λ j low high within. above j low high)
-
 -- none
 pub none_seen : (w : SearchWindow) (i from : ℕ) (found : Found) → IsFound w found → IsBestInRow w i from from found found
-none_seen w i from found is = skipped w i from from found is (λ j low high. absurd (omega arith))
+none_seen w i from found is = skipped w i from from found is (λ j low high within. absurd (omega arith))
 
 -- one vector
 pub one_seen : (w : SearchWindow) (i j : ℕ) (old new : Found) → IsFound w new → IsNoWorse new.cost new.vector old.cost old.vector → IsNoWorseAt w new i j
@@ -80,8 +75,8 @@ one_taken w i j cost v best found hi hj e known is no_worse here one =
 
 -- one vector more that costs more than a limit
 pub one_more : (w : SearchWindow) (limit i from column : ℕ) → AreAbove w limit i from column → limit < cost_in w (vector_at w.range i column) → AreAbove w limit i from (column + 1)
-one_more w limit i from column above here j low high = elim (cases_lt j column) [
-  | inl before ↦ above j low before
+one_more w limit i from column above here j low high within = elim (cases_lt j column) [
+  | inl before ↦ above j low before within
   | inr after ↦ (let e : column ≡ j = omega arith in subst (λ (k : ℕ). limit < cost_in w (vector_at w.range i k)) e here)
 ]
 
@@ -138,7 +133,6 @@ best_within w d found is seen beyond =
       | inl far ↦ beyond (cost_in w v) v far near.0
       | inr close ↦
           let x = index w.range v.row near.0 in let y = index w.range v.column near.1 in
-          let xi : ℕ = x.at in let xe = x.is in
           let e : vector_at w.range x.at y.at ≡ v = vector_is (vector_at w.range x.at y.at) v (sym x.is) (sym y.is) in
           subst (λ (u : WholeVector). IsNoWorse found.cost found.vector (cost_in w u) u) e (seen x.at y.at (omega (arith, ints)) (omega (arith, ints)) y.within)
     ] in

@@ -23,10 +23,6 @@ pub record Rows (window sums : List ℕ) (range first rows : ℕ) : Type 0 where
   pub made : (y x : ℕ) → y < rows → x ≤ 2 * range + 8 → get_or sums (y * WINDOW_WIDTH + x) 0 ≡ square_sum window (y * WINDOW_WIDTH + x) WINDOW_WIDTH
   pub known : AreSummed window sums range first
 
--- none of the rows
-pub no_rows : (window sums : List ℕ) (range first : ℕ) → AreSummed window sums range first → Rows window sums range first 0
-no_rows window sums range first known = record { made = λ y x h k. absurd (omega arith); known = known }
-
 -- one row more
 pub row_more : (window old new columns : List ℕ) (range first i n at : ℕ) → Rows window old range first i → at ≡ i * WINDOW_WIDTH + first
     → i ≤ 2 * range + 8 → first + 8 * n ≤ WINDOW_WIDTH → 2 * range + 9 ≤ first + 8 * n
@@ -79,9 +75,6 @@ square_moved p from to range y x moved same further =
 
 -- ---- a part of the sums that are held
 
-pub part_of : (xs : List ℕ) (start n k : ℕ) → k < n → get_or (mid_of start n xs) k 0 ≡ get_or xs (start + k) 0
-part_of xs start n k h = get_or-chunk start n xs k 0 h
-
 pub put_at : (xs ys : List ℕ) (start n k : ℕ) → start + n ≤ length xs → k < n → length ys ≡ n → get_or (put_mid start n xs ys) (start + k) 0 ≡ get_or ys k 0
 put_at xs ys start n k room h long = search (rules, places)
 
@@ -92,8 +85,7 @@ put_before xs ys start n k room h long = search (rules, places)
 pub kept_summed : (window sums : List ℕ) (p : Raster) (place : Place) (range n : ℕ) (kept : Kept) → AreKept p range kept sums → kept.place ≡ place → IsFilled window p place range
     → (2 * range + 16) * WINDOW_WIDTH ≤ n → range ≤ 64 → AreSummed window (mid_of kept.start n sums) range kept.columns
 kept_summed window sums p place range n kept all same filled room small y x h k =
-    let few = all.few in
-    part_of sums kept.start n (y * WINDOW_WIDTH + x) (omega arith)
+    get_or-chunk kept.start n sums (y * WINDOW_WIDTH + x) 0 (omega arith)
     ∙ all.are y x h k
     ∙ ap (λ (q : Place). searched_square p q range y x) same
     ∙ sym (square_searched window p place range y x filled h (omega arith))

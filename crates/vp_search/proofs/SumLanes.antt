@@ -1,8 +1,8 @@
 -- Sums of pixels in lanes of sixteen bits.
-use Rattle.std.proofs.Common.{◌≡◌, ℕ, zero, suc, ◌+◌, ◌-◌, ◌*◌, ◌%◌, ◌^◌, ◌<◌, ◌≤◌, Bool, true, false, not, cond, min, List, [], ◌∷◌, map, length, get_or, ltb, leb, eqb, refl, sym, ap, subst, ◌∙◌, arith, inl, inr}
+use Rattle.std.proofs.Common.{◌≡◌, ℕ, suc, ◌+◌, ◌-◌, ◌*◌, ◌%◌, ◌^◌, ◌<◌, ◌≤◌, Bool, true, false, not, cond, min, List, map, length, get_or, ltb, leb, eqb, refl, sym, ap, subst, ◌∙◌, arith, inl, inr}
 use Rattle.std.proofs.lemmas.Bool.{cases_lt}
 use Rattle.std.proofs.lemmas.List.{get_or-map, length-map}
-use Rattle.std.proofs.lemmas.Nat.Bits.{bit_at_above}
+use Rattle.std.proofs.lemmas.Nat.Bits.{bit_at_above, bit_at-zero}
 use Rattle.std.proofs.lemmas.Simd.{bit_mask_l, mask_l-lt}
 use Rattle.std.specs.Int.{bit_at}
 use Rattle.std.specs.Int.{abs_diff}
@@ -28,43 +28,17 @@ pub four_are : (f : ℕ → ℕ) (a b c d p q r : ℕ) → a ≡ f 0 → b ≡ f
     → r ≡ capped (sum_below 4 f)
 four_are f a b c d p q r ea eb ec ed ep eq er = let s = sum_below-four f in omega arith
 
-pub eight_are : (f g h : ℕ → ℕ) (p q r : ℕ) → ((k : ℕ) → k < 4 → g k ≡ f k) → ((k : ℕ) → k < 4 → h k ≡ f (4 + k))
-    → p ≡ capped (sum_below 4 g) → q ≡ capped (sum_below 4 h) → r ≡ capped (p + q) → r ≡ capped (sum_below 8 f)
-eight_are f g h p q r eg eh ep eq er =
-    let s = sum_below-add 4 4 f in
-    let t = sum_below-same 4 g f eg in
-    let u = sum_below-same 4 h (λ k. f (4 + k)) eh in
-    omega arith
+pub eight_are : (f h : ℕ → ℕ) (p q r : ℕ) → ((k : ℕ) → k < 4 → h k ≡ f (4 + k)) → p ≡ capped (sum_below 4 f) → q ≡ capped (sum_below 4 h) → r ≡ capped (p + q)
+    → r ≡ capped (sum_below 8 f)
+eight_are f h p q r eh ep eq er = let s = sum_below-add 4 4 f in let u = sum_below-same 4 h (λ k. f (4 + k)) eh in omega arith
 
 -- ---- eight numbers more in a list
-pub eight_more : (P : ℕ → ℕ → Type 0) (old new : List ℕ) (at g : ℕ) → ((x : ℕ) → x < 8 * g → P x (get_or old (at + x) 0))
-    → ((k : ℕ) → k < at + 8 * g → get_or new k 0 ≡ get_or old k 0)
-    → ((j : ℕ) → j < 8 → P (8 * g + j) (get_or new (at + 8 * g + j) 0))
-    → (x : ℕ) → x < 8 * (g + 1) → P x (get_or new (at + x) 0)
-eight_more P old new at g done same here x h =
-    elim (cases_lt x (8 * g)) [
-      | inl less ↦ (let e = same (at + x) (omega arith) in subst (λ (k : ℕ). P x k) (sym e) (done x less))
-      | inr more ↦
-          let j : ℕ = x - 8 * g in
-          let e : 8 * g + j ≡ x = omega arith in
-          let f : at + 8 * g + j ≡ at + x = omega arith in
-          let p : P (8 * g + j) (get_or new (at + 8 * g + j) 0) = here j (omega arith) in
-          subst (λ (k : ℕ). P x (get_or new k 0)) f (subst (λ (k : ℕ). P k (get_or new (at + 8 * g + j) 0)) e p)
-    ]
-
--- the same from the start of a list
-pub eight_first : (P : ℕ → ℕ → Type 0) (old new : List ℕ) (g : ℕ) → ((x : ℕ) → x < 8 * g → P x (get_or old x 0))
-    → ((k : ℕ) → k < 8 * g → get_or new k 0 ≡ get_or old k 0)
-    → ((j : ℕ) → j < 8 → P (8 * g + j) (get_or new (8 * g + j) 0))
-    → (x : ℕ) → x < 8 * (g + 1) → P x (get_or new x 0)
-eight_first P old new g done same here x h =
-    elim (cases_lt x (8 * g)) [
-      | inl less ↦ subst (λ (k : ℕ). P x k) (sym (same x less)) (done x less)
-      | inr more ↦
-          let j : ℕ = x - 8 * g in
-          let e : 8 * g + j ≡ x = omega arith in
-          subst (λ (k : ℕ). P k (get_or new k 0)) e (here j (omega arith))
-    ]
+pub eight_more : (f old new : ℕ → ℕ) (g : ℕ) → ((x : ℕ) → x < 8 * g → old x ≡ f x) → ((x : ℕ) → x < 8 * g → new x ≡ old x) → ((j : ℕ) → j < 8 → new (8 * g + j) ≡ f (8 * g + j))
+    → (x : ℕ) → x < 8 * (g + 1) → new x ≡ f x
+eight_more f old new g done same here x h = elim (cases_lt x (8 * g)) [
+  | inl less ↦ same x less ∙ done x less
+  | inr more ↦ (let e : 8 * g + (x - 8 * g) ≡ x = omega arith in subst (λ (k : ℕ). new k ≡ f k) e (here (x - 8 * g) (omega arith)))
+]
 
 -- eight neighbouring sums of columns are the sum of a square
 pub row_is_square : (columns pixels : List ℕ) (at stride n x : ℕ) → ((k : ℕ) → k < n → get_or columns k 0 ≡ column_sum pixels (at + k) stride) → x + 8 ≤ n
@@ -75,15 +49,6 @@ row_is_square columns pixels at stride n x all room =
     (λ c h. all (x + c) (omega arith) ∙ (let e : at + (x + c) ≡ at + x + c = omega arith in ap (λ (k : ℕ). column_sum pixels k stride) e)))
 
 -- ---- masks
-bit_none : (b : Bool) (n : ℕ) → cond b 1 0 + 2 * n ≡ 0 → (b ≡ false) × (n ≡ 0)
-bit_none true n e = absurd (omega arith)
-bit_none false n e = (refl, omega arith)
-
-pub mask_none : (p : ℕ → Bool) (xs : List ℕ) → mask_l (map p xs) ≡ 0 → (j : ℕ) → j < length xs → p (get_or xs j 0) ≡ false
-mask_none p [] e j h = absurd (omega arith)
-mask_none p (x ∷ xs) e zero h = (bit_none (p x) (mask_l (map p xs)) e).0
-mask_none p (x ∷ xs) e (suc j) h = mask_none p xs (bit_none (p x) (mask_l (map p xs)) e).1 j (omega arith)
-
 bit_clear : (b : Bool) (n : ℕ) → n ≡ cond b 1 0 → n ≡ 0 → b ≡ false
 bit_clear true n e z = absurd (omega arith)
 bit_clear false n e z = refl
@@ -92,6 +57,9 @@ bit_clear false n e z = refl
 pub mask_clear : (p : ℕ → Bool) (xs : List ℕ) (m j : ℕ) → m ≡ mask_l (map p xs) → j < length xs → bit_at m j ≡ 0 → p (get_or xs j 0) ≡ false
 mask_clear p xs m j e h clear =
     sym (get_or-map p xs j 0 false h) ∙ bit_clear (get_or (map p xs) j false) (bit_at m j) (ap (λ (n : ℕ). bit_at n j) e ∙ bit_mask_l (map p xs) j) clear
+
+pub mask_none : (p : ℕ → Bool) (xs : List ℕ) → mask_l (map p xs) ≡ 0 → (j : ℕ) → j < length xs → p (get_or xs j 0) ≡ false
+mask_none p xs e j h = mask_clear p xs 0 j (sym e) h (bit_at-zero j)
 
 pub mask_small : (p : ℕ → Bool) (xs : List ℕ) → length xs ≡ 8 → mask_l (map p xs) < 256
 mask_small p xs e = subst (λ (n : ℕ). mask_l (map p xs) < 2 ^ n) (length-map xs p ∙ e) (mask_l-lt (map p xs))
@@ -110,9 +78,9 @@ pub above_from : (x y limit : ℕ) → leb x y ≡ false → y ≡ min limit 655
 above_from x y limit e m f = grind (arith, nat_tests)
 
 -- ---- the bound of a place
-pub capped_sums : (a b c d w x y z p q r : ℕ) → a ≡ w → b ≡ x → c ≡ y → d ≡ z → p ≡ capped (a + b) → q ≡ capped (c + d) → r ≡ capped (p + q)
-    → r ≡ capped (capped (w + x) + capped (y + z))
-capped_sums a b c d w x y z p q r ea eb ec ed ep eq er = omega arith
+pub least_sums : (m a b c d w x y z p q r : ℕ) → a ≡ w → b ≡ x → c ≡ y → d ≡ z → p ≡ min (a + b) m → q ≡ min (c + d) m → r ≡ min (p + q) m
+    → r ≡ min (min (w + x) m + min (y + z) m) m
+least_sums m a b c d w x y z p q r ea eb ec ed ep eq er = omega arith
 
 -- ---- the sum of a column one row further
 slid_number : (old above below new s t u : ℕ) → old ≡ capped s → s + below ≡ above + t → s ≤ 2040 → below < 256 → u ≡ t → new ≡ capped (old + below) - above → new ≡ capped u

@@ -9,9 +9,7 @@ pub sum_below-same : (n : ℕ) (f g : ℕ → ℕ) → ((k : ℕ) → k < n → 
 unfolding sum_below
 sum_below-same zero f g same = refl
 sum_below-same (suc n) f g same =
-    let rest : sum_below n f ≡ sum_below n g = sum_below-same n f g (λ k h. same k (omega arith)) in
-    let last : f n ≡ g n = same n (omega arith) in
-    ap₂ (λ x y. x + y) rest last
+    ap₂ (λ x y. x + y) (sum_below-same n f g (λ k h. same k (omega arith))) (same n (omega arith))
 
 pub sum_below-none : (f : ℕ → ℕ) → sum_below 0 f ≡ 0
 unfolding sum_below
@@ -23,42 +21,31 @@ sum_below-more n f = let e : n + 1 ≡ suc n = omega arith in ap (λ k. sum_belo
 
 pub sum_below-add : (m n : ℕ) (f : ℕ → ℕ) → sum_below (m + n) f ≡ sum_below m f + sum_below n (λ k. f (m + k))
 unfolding sum_below
-sum_below-add m zero f =
-    let e : m + zero ≡ m = omega arith in
-    ap (λ k. sum_below k f) e ∙ (let z : sum_below m f ≡ sum_below m f + 0 = omega arith in z)
+sum_below-add m zero f = let e : m + zero ≡ m = omega arith in rw e (omega arith)
 sum_below-add m (suc n) f =
     let e : m + suc n ≡ suc (m + n) = omega arith in
-    let rest = sum_below-add m n f in
-    ap (λ k. sum_below k f) e
-    ∙ ap (λ k. k + f (m + n)) rest
-    ∙ (let z : sum_below m f + sum_below n (λ k. f (m + k)) + f (m + n) ≡ sum_below m f + (sum_below n (λ k. f (m + k)) + f (m + n)) = omega arith in z)
+    let rest = sum_below-add m n f in rw e (omega arith)
 
 pub sum_below-plus : (n : ℕ) (f g : ℕ → ℕ) → sum_below n (λ k. f k + g k) ≡ sum_below n f + sum_below n g
 unfolding sum_below
 sum_below-plus zero f g = refl
-sum_below-plus (suc n) f g =
-    ap (λ k. k + (f n + g n)) (sum_below-plus n f g)
-    ∙ (let z : sum_below n f + sum_below n g + (f n + g n) ≡ (sum_below n f + f n) + (sum_below n g + g n) = omega arith in z)
+sum_below-plus (suc n) f g = let rest = sum_below-plus n f g in omega arith
 
 pub sum_below-head : (n : ℕ) (f : ℕ → ℕ) → sum_below (suc n) f ≡ f 0 + sum_below n (λ k. f (suc k))
 unfolding sum_below
-sum_below-head zero f = let z : 0 + f 0 ≡ f 0 + 0 = omega arith in z
-sum_below-head (suc n) f =
-    ap (λ k. k + f (suc n)) (sum_below-head n f)
-    ∙ (let z : f 0 + sum_below n (λ k. f (suc k)) + f (suc n) ≡ f 0 + (sum_below n (λ k. f (suc k)) + f (suc n)) = omega arith in z)
+sum_below-head zero f = omega arith
+sum_below-head (suc n) f = let rest = sum_below-head n f in omega arith
 
 pub sum_below-bound : (n m : ℕ) (f : ℕ → ℕ) → ((k : ℕ) → k < n → f k ≤ m) → sum_below n f ≤ n * m
 unfolding sum_below
 sum_below-bound zero m f all = omega arith
 sum_below-bound (suc n) m f all =
     let rest = sum_below-bound n m f (λ k h. all k (omega arith)) in
-    let last = all n (omega arith) in
-    let e : suc n * m ≡ n * m + m = omega arith in
-    omega arith
+    let last = all n (omega arith) in omega arith
 
 pub sum_below-four : (f : ℕ → ℕ) → sum_below 4 f ≡ (f 0 + f 1) + (f 2 + f 3)
 unfolding sum_below
-sum_below-four f = let z : 0 + f 0 + f 1 + f 2 + f 3 ≡ (f 0 + f 1) + (f 2 + f 3) = omega arith in z
+sum_below-four f = omega arith
 
 -- the sum of a list
 sum_l-all : (xs : List ℕ) (f : ℕ → ℕ) → ((k : ℕ) → k < length xs → get_or xs k 0 ≡ f k) → sum_l xs ≡ sum_below (length xs) f

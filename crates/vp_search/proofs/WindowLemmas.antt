@@ -1,8 +1,6 @@
 -- Lemmas on the window that is searched.
-use Rattle.std.proofs.Common.{◌≡◌, ℕ, ℤ, pos, negsuc, ◌+◌, ◌*◌, ◌-◌, ◌/◌, ◌%◌, ◌<◌, ◌≤◌, ◌+ℤ◌, ◌-ℤ◌, ◌*ℤ◌, List, length, get_or, refl, sym, ap, ap₂, subst, inl, inr, ◌∙◌, arith}
+use Rattle.std.proofs.Common.{◌≡◌, ℕ, ℤ, pos, ◌+◌, ◌*◌, ◌/◌, ◌<◌, ◌≤◌, ◌+ℤ◌, ◌-ℤ◌, ◌*ℤ◌, List, length, get_or, refl, sym, ap, ap₂, subst, inl, inr, ◌∙◌, arith}
 use Rattle.std.specs.Prelude.{unsigned_abs}
-use Rattle.std.specs.Int.{int_rem_euclid}
-use lib.Signed.{shr_z as floor_div}
 use Rattle.std.proofs.lemmas.Int.{ints}
 use Rattle.vp_base.specs.declared.place.Place.{Place}
 use Rattle.vp_base.specs.Raster.{Raster, row_of}
@@ -11,6 +9,7 @@ use Rattle.std.proofs.lemmas.Bool.{cases_lt}
 use Rattle.vp_inter.specs.Inter.{nearest, reference_pixel}
 use Rattle.vp_inter.proofs.ReferenceLemmas.{line_beyond}
 use Rattle.vp_inter.proofs.PassLemmas.{inter_whole}
+use Rattle.vp_inter.proofs.FilteredLemmas.{whole_is, fraction_is}
 use Rattle.vp_search.specs.declared.vector.WholeVector.{WholeVector}
 use Rattle.vp_search.specs.declared.vector.QuarterVector.{QuarterVector}
 use Rattle.vp_search.specs.declared.window.TheConstants.{WINDOW_WIDTH}
@@ -40,12 +39,7 @@ pub window_pixel : (window : List ℕ) (p : Raster) (place : Place) (range : ℕ
 window_pixel window p place range v filled near r c rin cin =
     let x = index range v.row near.0 in
     let y = index range v.column near.1 in
-    let i : ℕ = x.at in
-    let j : ℕ = y.at in
-    let xw : i ≤ 2 * range = x.within in
-    let yw : j ≤ 2 * range = y.within in
-    let ex : v.row ≡ pos i -ℤ pos range = x.is in
-    let ey : v.column ≡ pos j -ℤ pos range = y.is in
+    let i : ℕ = x.at in let j : ℕ = y.at in
     let e : unsigned_abs (v.row +ℤ pos range) ≡ i = omega (arith, ints) in
     let f : unsigned_abs (v.column +ℤ pos range) ≡ j = omega (arith, ints) in
     let at : window_place range v + r * WINDOW_WIDTH + c ≡ (i + r) * WINDOW_WIDTH + (j + c) = omega arith in
@@ -73,22 +67,14 @@ least_same range f g best same p = record {
 
 -- ---- a vector in whole pixels as a vector in quarters
 
+eighths : (z : ℤ) → pos 2 *ℤ (pos 4 *ℤ z) ≡ pos 8 *ℤ z +ℤ pos 0
+eighths z = omega (arith, ints)
+
 whole_eight : (z : ℤ) → whole_pixels (pos 2 *ℤ (pos 4 *ℤ z)) ≡ z
-unfolding whole_pixels
-whole_eight (pos n) =
-    let e : 2 * (4 * n) / 8 ≡ n = omega arith in ap (λ (k : ℕ). pos k) e
-whole_eight (negsuc n) =
-    let e : pos 2 *ℤ (pos 4 *ℤ negsuc n) ≡ negsuc (8 * n + 7) = omega (arith, ints) in
-    let f : (8 * n + 7) / 8 ≡ n = omega arith in
-    ap (λ (y : ℤ). floor_div y 8) e ∙ ap (λ (k : ℕ). negsuc k) f
+whole_eight z = ap whole_pixels (eighths z) ∙ whole_is z 0 ∙ (let e : z +ℤ pos (0 / 8) ≡ z = omega (arith, ints) in e)
 
 fraction_eight : (z : ℤ) → fraction (pos 2 *ℤ (pos 4 *ℤ z)) ≡ 0
-unfolding fraction
-fraction_eight (pos n) = let e : 2 * (4 * n) % 8 ≡ 0 = omega arith in e
-fraction_eight (negsuc n) =
-    let e : pos 2 *ℤ (pos 4 *ℤ negsuc n) ≡ negsuc (8 * n + 7) = omega (arith, ints) in
-    let f : 7 - (8 * n + 7) % 8 ≡ 0 = omega arith in
-    ap (λ (y : ℤ). unsigned_abs (int_rem_euclid y (pos 8))) e ∙ f
+fraction_eight z = ap fraction (eighths z) ∙ fraction_is z 0
 
 start_eight : (at k : ℕ) (z : ℤ) → first_tap at (pos 2 *ℤ (pos 4 *ℤ z)) +ℤ pos 2 +ℤ pos k ≡ pos (at + k) +ℤ z
 unfolding first_tap

@@ -37,9 +37,9 @@ pub record IsBestInRow (w : SearchWindow) (i from to : ℕ) (old new : Found) : 
   pub better : IsNoWorse new.cost new.vector old.cost old.vector
   pub seen : (j : ℕ) → from ≤ j → j < to → j ≤ 2 * w.range → IsNoWorseAt w new i j
 
--- these vectors cost more than a limit
+-- those of these vectors that are within range cost more than a limit
 abbrev pub AreAbove : SearchWindow → ℕ → ℕ → ℕ → ℕ → Type 0
-AreAbove w limit i from to = (j : ℕ) → from ≤ j → j < to → limit < cost_in w (vector_at w.range i j)
+AreAbove w limit i from to = (j : ℕ) → from ≤ j → j < to → j ≤ 2 * w.range → limit < cost_in w (vector_at w.range i j)
 
 -- the best vector within range if its cost is below the limit; none costs less than what is found
 pub record IsBestBelow (w : SearchWindow) (found : Found) : Type 0 where

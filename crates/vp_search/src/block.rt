@@ -1,9 +1,10 @@
 //! Copying blocks out of a plane.
 
-ghost use Rattle.std.specs.Prelude.{◌≡◌, ℕ, ◌+◌, ◌*◌, ◌<◌, ◌≤◌, slice_index, length};
+ghost use Rattle.std.specs.Prelude.{◌≡◌, ℕ, ◌+◌, ◌*◌, ◌<◌, ◌≤◌, slice_index};
 ghost use Rattle.vp_base.specs.Raster.{pixel};
 ghost use Rattle.vp_search.specs.Blocks.{macroblock_pixels};
 
+use crate::window::put_part;
 use vp_base::{Place, Plane};
 
 /// Copies the block of `SIDE` by `SIDE` pixels at `place`, which is in units of such blocks, in raster order.
@@ -19,7 +20,8 @@ pub fn cut_block<const SIDE: usize, const AREA: usize>(plane: &Plane, place: Pla
     let mut pixels = [0; AREA];
     for r in 0..SIDE {
         let line = plane.row(SIDE * place.row + r);
-        put_row::<SIDE>(&mut pixels, r, line, SIDE * place.column);
+        let start = SIDE * place.column;
+        put_part(&mut pixels, r * SIDE, &line[start..start + SIDE]);
     }
     pixels
 }
@@ -31,15 +33,4 @@ pub fn macroblock(plane: &Plane, place: Place) -> [u8; 256]
     ensures { (r c : ℕ) → r < 16 → c < 16 → slice_index result (r * 16 + c) ≡ macroblock_pixels plane.now place r c }
 {
     cut_block::<16, 256>(plane, place)
-}
-
-/// Writes row `r` of a block of `SIDE` columns, from index `start` of `line` on.
-fn put_row<const SIDE: usize>(pixels: &mut [u8], r: usize, line: &[u8], start: usize)
-    requires row { r * SIDE + SIDE ≤ length pixels.old }
-    requires room { start + SIDE ≤ length line.now }
-    ensures here { (c : ℕ) → c < SIDE → slice_index pixels.new (r * SIDE + c) ≡ slice_index line.now (start + c) }
-    ensures before { (i : ℕ) → i < r * SIDE → slice_index pixels.new i ≡ slice_index pixels.old i }
-{
-    let at = r * SIDE;
-    pixels[at..at + SIDE].copy_from_slice(&line[start..start + SIDE]);
 }

@@ -1,14 +1,14 @@
 //! The better of the best vector so far and another one. Vectors are ordered by cost, then length, then row, then
 //! column.
 
-ghost use Rattle.std.specs.Prelude.{◌≡◌, ℕ, ◌+◌, ◌*◌, ◌<◌, ◌≤◌, ◌⊎◌, true, false, slice_index, unsigned_abs};
+ghost use Rattle.std.specs.Prelude.{◌≡◌, ℕ, ◌+◌, ◌*◌, ◌<◌, ◌≤◌, true, false, slice_index, unsigned_abs};
 ghost use Rattle.vp_search.specs.declared.vector.WholeVector.{WholeVector};
 ghost use Rattle.vp_search.specs.Vectors.{IsNear};
 ghost use Rattle.vp_search.specs.Least.{IsNoWorse};
 ghost use Rattle.vp_search.specs.Window.{vector_at};
 ghost use Rattle.vp_search.specs.Search.{cost_in, first_rows_in, IsInRange, IsFound, IsBestInRow};
 
-use crate::difference::{first_rows, rest_within, sad};
+use crate::difference::{four_rows, rest_within, sad_up_to};
 use crate::search_window::SearchWindow;
 use crate::vector::{Found, Spot, vector_length};
 use crate::window::WINDOW_WIDTH;
@@ -31,21 +31,6 @@ fn is_better(new: Found, old: Found) -> bool
         return new.vector.row < old.vector.row;
     }
     new.vector.column < old.vector.column
-}
-
-/// The better of two vectors. With `if .. { new } else { old }` the best would be kept in memory.
-fn lesser(old: Found, new: Found) -> Found
-    requires old { IsNear 64 old.vector }
-    requires new { IsNear 64 new.vector }
-    ensures old { IsNoWorse result.cost result.vector old.cost old.vector }
-    ensures new { IsNoWorse result.cost result.vector new.cost new.vector }
-    ensures one { (result ≡ old) ⊎ (result ≡ new) }
-{
-    let mut found = old;
-    if is_better(new, old) {
-        found = new;
-    }
-    found
 }
 
 /// Whether no vector more than `distance` rows away from the centre is better than `best`: it costs nothing, and is no
@@ -73,7 +58,7 @@ impl<'a> SearchWindow<'a> {
         };
         Found {
             vector: spot.vector(self.range),
-            cost: sad(self.block, self.pixels, spot.at(), WINDOW_WIDTH),
+            cost: sad_up_to(self.block, self.pixels, spot.at(), WINDOW_WIDTH, u32::MAX),
         }
     }
 
@@ -84,7 +69,7 @@ impl<'a> SearchWindow<'a> {
         ensures value { result ≡ first_rows_in self.now spot.row spot.column }
         ensures bound { result ≤ 4 * 16 * 255 }
     {
-        first_rows(self.block, self.pixels, spot.at(), WINDOW_WIDTH)
+        four_rows(self.block, 0, self.pixels, spot.at(), WINDOW_WIDTH)
     }
 
     /// The better of the best vector and the one at `spot`, whose cost is known.
@@ -95,7 +80,13 @@ impl<'a> SearchWindow<'a> {
         ensures { IsBestInRow self.now spot.row spot.column (spot.column + 1) best result }
     {
         let vector = spot.vector(self.range);
-        lesser(best, Found { vector, cost })
+        let new = Found { vector, cost };
+        // With `if .. { new } else { best }` the best would be kept in memory.
+        let mut found = best;
+        if is_better(new, best) {
+            found = new;
+        }
+        found
     }
 
     /// The better of the best vector and the one at `spot`, of whose block the first four rows differ by `first`. With

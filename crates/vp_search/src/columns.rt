@@ -1,8 +1,7 @@
 //! The costs of vectors of one column, from rows that they share. A cost is only followed as far as a limit.
 
-ghost use Rattle.std.specs.Prelude.{◌≡◌, ℤ, pos, ◌+◌, ◌*◌, ◌<◌, ◌≤◌, ◌+ℤ◌, ◌*ℤ◌, slice_index};
+ghost use Rattle.std.specs.Prelude.{◌≡◌, ℤ, pos, ◌+◌, ◌-◌, ◌*◌, ◌<◌, ◌≤◌, ◌+ℤ◌, ◌*ℤ◌, slice_index};
 ghost use Rattle.vp_base.specs.Raster.{Raster};
-ghost use Rattle.vp_inter.specs.Filter.{taps};
 ghost use Rattle.vp_search.specs.Differences.{sum_of_differences, block16};
 ghost use Rattle.vp_search.specs.Blocks.{quarter_cost};
 ghost use Rattle.vp_search.specs.Columns.{IsWithin, IsColumn, filtered};
@@ -38,22 +37,32 @@ pub(crate) fn cost_of_row(block: &Block, rows: &FilteredRows, down: usize, limit
     sum
 }
 
-/// The costs of the vectors two and six quarter pixels below that whose rows these are, by one vertical pass.
-pub(crate) fn costs_of_halves(
+/// The costs of the vectors `distance` quarter pixels above and below that `level` quarter pixels below that whose rows
+/// these are. Half a pixel beside whole pixels, one vertical pass serves both.
+pub(crate) fn costs_beside(
     block: &Block,
     rows: &FilteredRows,
-    half: &ColumnFilter,
+    level: usize,
+    distance: usize,
     limit: u32,
 ) -> [u32; 2]
-    requires { half.now ≡ taps 0 4 }
-    ensures upper { (p : Raster) (place : Place) (whole column : ℤ) → IsColumn p place whole column rows.now
+    requires level { (2 ≤ level) × (level ≤ 6) }
+    requires distance { (1 ≤ distance) × (distance ≤ 2) }
+    requires halves { distance ≡ 2 → level ≡ 4 }
+    ensures above { (p : Raster) (place : Place) (whole column : ℤ) → IsColumn p place whole column rows.now
         → IsWithin limit (slice_index result 0) (quarter_cost (block16 block.now) p place
-        (record { row = pos 4 *ℤ whole +ℤ pos 2; column = column })) }
-    ensures lower { (p : Raster) (place : Place) (whole column : ℤ) → IsColumn p place whole column rows.now
+        (record { row = pos 4 *ℤ whole +ℤ pos (level - distance); column = column })) }
+    ensures below { (p : Raster) (place : Place) (whole column : ℤ) → IsColumn p place whole column rows.now
         → IsWithin limit (slice_index result 1) (quarter_cost (block16 block.now) p place
-        (record { row = pos 4 *ℤ whole +ℤ pos 6; column = column })) }
+        (record { row = pos 4 *ℤ whole +ℤ pos (level + distance); column = column })) }
 {
-    let both = rows.filtered_rows(half);
+    if distance == 1 {
+        return [
+            cost_of_row(block, rows, level - 1, limit),
+            cost_of_row(block, rows, level + 1, limit),
+        ];
+    }
+    let both = rows.filtered_rows(&ColumnFilter::of(4));
     [
         sad_up_to(block, &both, 0, 16, limit),
         sad_up_to(block, &both, 16, 16, limit),

@@ -12,12 +12,12 @@ pub fn sad16(a: &[u8; 256], b: &[u8; 256]) -> u32
     ensures value { result ≡ sum_of_differences 16 16 (block16 a.now) (block16 b.now) }
     ensures bound { result ≤ 65280 }
 {
-    sad(&Block::of(a), b, 0, 16)
+    sad_up_to(&Block::of(a), b, 0, 16, u32::MAX)
 }
 
 /// The sum of absolute differences of rows `4 * i` to `4 * i + 3` of a block and four rows of a window that are
 /// `stride` apart, from index `at` on.
-fn four_rows(block: &Block, i: usize, window: &[u8], at: usize, stride: usize) -> u32
+pub(crate) fn four_rows(block: &Block, i: usize, window: &[u8], at: usize, stride: usize) -> u32
     requires i { i < 4 }
     requires window { at + 3 * stride + 16 ≤ length window.now }
     ensures value { result ≡ sum_of_differences 4 16 (strided_block block.now (64 * i) 16)
@@ -27,32 +27,25 @@ fn four_rows(block: &Block, i: usize, window: &[u8], at: usize, stride: usize) -
     four_differences(block.rows(i), load_rows(window, at, stride))
 }
 
-/// The sum of absolute differences of the first four rows of a block and of the one at index `at` of a window with rows
-/// of `stride` pixels.
-pub(crate) fn first_rows(block: &Block, window: &[u8], at: usize, stride: usize) -> u32
-    requires { at + 3 * stride + 16 ≤ length window.now }
-    ensures value { result ≡ sum_of_differences 4 16 (strided_block block.now 0 16)
-        (strided_block window.now at stride) }
-    ensures bound { result ≤ 4 * 16 * 255 }
-{
-    four_rows(block, 0, window, at, stride)
-}
-
-/// The sum of absolute differences of a block and the one at index `at` of a window with rows of `stride` pixels.
-pub(crate) fn sad(block: &Block, window: &[u8], at: usize, stride: usize) -> u32
+/// The sum of absolute differences of a block and the one at index `at` of a window with rows of `stride` pixels. If
+/// it is above `limit`, returns some number above `limit`.
+pub(crate) fn sad_up_to(block: &Block, window: &[u8], at: usize, stride: usize, limit: u32) -> u32
     requires { at + 15 * stride + 16 ≤ length window.now }
-    ensures value { result ≡ sum_of_differences 16 16 (strided_block block.now 0 16)
-        (strided_block window.now at stride) }
+    ensures within { IsWithin limit result (sum_of_differences 16 16 (strided_block block.now 0 16)
+        (strided_block window.now at stride)) }
     ensures bound { result ≤ 16 * 16 * 255 }
     ensures bytes { (k : ℕ) → slice_index window.now k ≤ 255 }
 {
-    first_rows(block, window, at, stride)
+    let most = four_rows(block, 0, window, at, stride)
         + four_rows(block, 1, window, at + 4 * stride, stride)
-        + four_rows(block, 2, window, at + 8 * stride, stride)
-        + four_rows(block, 3, window, at + 12 * stride, stride)
+        + four_rows(block, 2, window, at + 8 * stride, stride);
+    if most > limit {
+        return most;
+    }
+    most + four_rows(block, 3, window, at + 12 * stride, stride)
 }
 
-/// As `sad`, given the sum of the first four rows; None if the sum is above `limit`. It is already compared
+/// As `sad_up_to`, given the sum of the first four rows; None if the sum is above `limit`. It is already compared
 /// after twelve rows: after eight few vectors are above it.
 pub(crate) fn rest_within(
     block: &Block,
@@ -82,19 +75,4 @@ pub(crate) fn rest_within(
         return None;
     }
     Some(all)
-}
-
-/// As `sad`; if the sum is above `limit`, returns some number above `limit`.
-pub(crate) fn sad_up_to(block: &Block, window: &[u8], at: usize, stride: usize, limit: u32) -> u32
-    requires { at + 15 * stride + 16 ≤ length window.now }
-    ensures { IsWithin limit result (sum_of_differences 16 16 (strided_block block.now 0 16)
-        (strided_block window.now at stride)) }
-{
-    let most = first_rows(block, window, at, stride)
-        + four_rows(block, 1, window, at + 4 * stride, stride)
-        + four_rows(block, 2, window, at + 8 * stride, stride);
-    if most > limit {
-        return most;
-    }
-    most + four_rows(block, 3, window, at + 12 * stride, stride)
 }

@@ -66,25 +66,12 @@ pub fn refine_block(
     ensures row { unsigned_abs (result.vector.row -ℤ pos 4 *ℤ centre.row) ≤ 3 }
     ensures column { unsigned_abs (result.vector.column -ℤ pos 4 *ℤ centre.column) ≤ 3 }
 {
-    let cost = cost_of(block, reference, place, quarters(centre));
+    let [x, y] = [16 * place.column, 16 * place.row];
+    let QuarterVector { row, column } = quarters(centre);
+    let prediction = predict_block16(reference, x, y, luma_vector(row, column), 0);
     let found = Found {
         vector: centre,
-        cost,
+        cost: sad16(block, &prediction),
     };
     refine_found(block, reference, place, found)
-}
-
-/// The cost of a vector: the sum of absolute differences of the block and its prediction.
-fn cost_of(block: &[u8; 256], reference: &Plane, place: Place, vector: QuarterVector) -> u32
-    requires columns { 16 * place.column ≤ 16384 }
-    requires rows { 16 * place.row ≤ 16384 }
-    requires wide { 0 < reference.now.width }
-    requires high { 0 < reference.now.height }
-    requires row { unsigned_abs vector.row ≤ 4 * 16384 + 4 }
-    requires column { unsigned_abs vector.column ≤ 4 * 16384 + 4 }
-    ensures { result ≡ quarter_cost (block16 block.now) reference.now place vector }
-{
-    let [x, y] = [16 * place.column, 16 * place.row];
-    let prediction = predict_block16(reference, x, y, luma_vector(vector.row, vector.column), 0);
-    sad16(block, &prediction)
 }

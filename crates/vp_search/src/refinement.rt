@@ -7,14 +7,14 @@ ghost use Rattle.vp_search.specs.Vectors.{quarters, IsNear};
 ghost use Rattle.vp_search.specs.Differences.{block16};
 ghost use Rattle.vp_search.specs.Blocks.{quarter_cost};
 ghost use Rattle.vp_search.specs.Refined.{candidates_around, IsBestOf, IsRefined};
-ghost use Rattle.vp_search.specs.Columns.{IsWithin, IsColumn, AreWithin, AreBestOf};
+ghost use Rattle.vp_search.specs.Columns.{IsColumn, AreWithin, AreBestOf};
 
-use crate::columns::{cost_of_row, costs_of_halves};
+use crate::columns::{cost_of_row, costs_beside};
 use crate::least::first_least;
 use crate::rows::Block;
 use crate::vector::{Found, QuarterVector, Refined, quarters};
 use vp_base::{Place, Plane};
-use vp_inter::{ColumnFilter, FilteredRows, luma_vector};
+use vp_inter::{FilteredRows, luma_vector};
 
 /// Refines a vector, whose cost is known as a search returns it, to quarter pixels, for a macroblock at `place` with
 /// luma `block` in raster order. First the best of the vector and its eight neighbours half a pixel away is chosen;
@@ -84,10 +84,15 @@ fn refine_target(target: Target, middle: Refined) -> Refined
     filter_column(target, column - 2, &mut left);
     filter_column(target, column, &mut own);
     filter_column(target, column + 2, &mut right);
-    let halves = costs_by_halves(target.block, &left, &own, &right, middle.cost);
+    let halves = costs_around(target, &left, &own, &right, middle, 2);
     let halfway = best_of(middle, 2, &halves);
-    let nearest = column_beside(&left, &own, &right, halfway.vector.column - column);
-    let quarters = costs_by_quarters(target, nearest, halfway);
+    let column = halfway.vector.column;
+    let nearest = column_beside(&left, &own, &right, column - middle.vector.column);
+    let mut before = FilteredRows::new();
+    let mut after = FilteredRows::new();
+    filter_column(target, column - 1, &mut before);
+    filter_column(target, column + 1, &mut after);
+    let quarters = costs_around(target, &before, nearest, &after, halfway, 1);
     best_of(halfway, 1, &quarters)
 }
 
@@ -141,81 +146,45 @@ fn column_beside<'a>(
     }
 }
 
-/// The costs of a vector of whole pixels, which is `limit`, and of its eight neighbours half a pixel away.
-fn costs_by_halves(
-    block: &Block,
+/// The cost of `centre`, which is known, and those of its eight neighbours at a distance, in the order of `around`,
+/// from the rows of their three columns.
+fn costs_around(
+    target: Target,
     left: &FilteredRows,
     own: &FilteredRows,
     right: &FilteredRows,
-    limit: u32,
+    centre: Refined,
+    distance: usize,
 ) -> [u32; 9]
-    ensures { (p : Raster) (place : Place) (whole column : ℤ) (centre : Refined)
-        → centre.vector ≡ record { row = pos 4 *ℤ whole +ℤ pos 4; column = column } → centre.cost ≡ limit
-        → centre.cost ≡ quarter_cost (block16 block.now) p place centre.vector
-        → IsColumn p place whole (column -ℤ pos 2) left.now → IsColumn p place whole column own.now
-        → IsColumn p place whole (column +ℤ pos 2) right.now
-        → AreWithin result (quarter_cost (block16 block.now) p place) centre (pos 2) }
+    requires cost { centre.cost
+        ≡ quarter_cost (block16 target.block.now) target.reference.now target.place centre.vector }
+    requires left { IsColumn target.reference.now target.place target.above
+        (centre.vector.column -ℤ pos distance) left.now }
+    requires own { IsColumn target.reference.now target.place target.above centre.vector.column own.now }
+    requires right { IsColumn target.reference.now target.place target.above
+        (centre.vector.column +ℤ pos distance) right.now }
+    requires above { (pos 4 *ℤ target.above +ℤ pos 2) ≤ℤ centre.vector.row }
+    requires below { centre.vector.row ≤ℤ (pos 4 *ℤ target.above +ℤ pos 6) }
+    requires distance { (1 ≤ distance) × (distance ≤ 2) }
+    requires halves { distance ≡ 2 → centre.vector.row ≡ pos 4 *ℤ target.above +ℤ pos 4 }
+    ensures { AreWithin result (quarter_cost
+        (block16 target.entry.block.now) target.entry.reference.now target.entry.place) centre (pos distance) }
 {
-    let half = ColumnFilter::of(4);
-    let [above_left, below_left] = costs_of_halves(block, left, &half, limit);
-    let [above, below] = costs_of_halves(block, own, &half, limit);
-    let [above_right, below_right] = costs_of_halves(block, right, &half, limit);
+    let (block, limit) = (target.block, centre.cost);
+    let level = (centre.vector.row - 4 * target.above) as usize;
+    let [above_left, below_left] = costs_beside(block, left, level, distance, limit);
+    let [above, below] = costs_beside(block, own, level, distance, limit);
+    let [above_right, below_right] = costs_beside(block, right, level, distance, limit);
     [
         limit,
         above_left,
         above,
         above_right,
-        cost_of_row(block, left, 4, limit),
-        cost_of_row(block, right, 4, limit),
+        cost_of_row(block, left, level, limit),
+        cost_of_row(block, right, level, limit),
         below_left,
         below,
         below_right,
-    ]
-}
-
-/// The costs of `centre`, whose column was filtered before, and of its eight neighbours a quarter pixel away.
-fn costs_by_quarters(target: Target, own: &FilteredRows, centre: Refined) -> [u32; 9]
-    requires cost { centre.cost
-        ≡ quarter_cost (block16 target.block.now) target.reference.now target.place centre.vector }
-    requires own { IsColumn target.reference.now target.place target.above centre.vector.column own.now }
-    requires above { (pos 4 *ℤ target.above +ℤ pos 2) ≤ℤ centre.vector.row }
-    requires below { centre.vector.row ≤ℤ (pos 4 *ℤ target.above +ℤ pos 6) }
-    requires column { unsigned_abs centre.vector.column ≤ 4 * 16384 + 2 }
-    ensures { AreWithin result (quarter_cost
-        (block16 target.entry.block.now) target.entry.reference.now target.entry.place) centre (pos 1) }
-{
-    let QuarterVector { row, column } = centre.vector;
-    let first = (row - 4 * target.above - 1) as usize;
-    let (block, limit) = (target.block, centre.cost);
-    let mut rows = FilteredRows::new();
-    filter_column(target, column - 1, &mut rows);
-    let left = costs_of_three(block, &rows, first, limit);
-    filter_column(target, column + 1, &mut rows);
-    let right = costs_of_three(block, &rows, first, limit);
-    [
-        centre.cost,
-        left[0],
-        cost_of_row(block, own, first, limit),
-        right[0],
-        left[1],
-        right[1],
-        left[2],
-        cost_of_row(block, own, first + 2, limit),
-        right[2],
-    ]
-}
-
-/// The costs of the vectors `first`, `first + 1` and `first + 2` quarter pixels below that whose rows these are.
-fn costs_of_three(block: &Block, rows: &FilteredRows, first: usize, limit: u32) -> [u32; 3]
-    requires { first < 6 }
-    ensures { (p : Raster) (place : Place) (whole column : ℤ) → IsColumn p place whole column rows.now
-        → (k : ℕ) → k < 3 → IsWithin limit (slice_index result k) (quarter_cost (block16 block.now) p place
-        (record { row = pos 4 *ℤ whole +ℤ pos (first + k); column = column })) }
-{
-    [
-        cost_of_row(block, rows, first, limit),
-        cost_of_row(block, rows, first + 1, limit),
-        cost_of_row(block, rows, first + 2, limit),
     ]
 }
 

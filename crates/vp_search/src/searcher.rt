@@ -25,14 +25,6 @@ use std::alloc::{AllocError, Global};
 use std::marker::Model;
 use vp_base::{Place, Plane};
 
-/// The number of pixels in the window of a search within a range, and eight more, as pixels are loaded by eight.
-fn window_size(range: u8) -> usize
-    requires { range ≤ 64 }
-    ensures { result ≡ (2 * range + 16) * WINDOW_WIDTH + 8 }
-{
-    (2 * usize::from(range) + 16) * WINDOW_WIDTH + 8
-}
-
 /// Searches macroblocks of one reference plane, one after another, as `search_block` does. It keeps the window's sums:
 /// for the macroblock to the right of the one before, only those of the new columns are made. Its memory is 84 KiB for
 /// range 64, 22 KiB for range 16. It makes no sums below a range of `LEAST_BOUNDED_RANGE`, nor for a few macroblocks
@@ -87,7 +79,8 @@ impl<'a> Searcher<'a> {
         ensures reference { IfOk result (λ s. s.reference ≡ reference.now) }
         ensures range { IfOk result (λ s. s.range ≡ range) }
     {
-        let size = window_size(range);
+        // Eight pixels more than a window has, as pixels are loaded by eight.
+        let size = (2 * usize::from(range) + 16) * WINDOW_WIDTH + 8;
         let window = vec![in alloc; 0; size]?;
         let sums = vec![in alloc; 0; size + SLIDE]?;
         let coarse_size = if range < LEAST_COARSE_RANGE {
@@ -216,8 +209,8 @@ fn limited(found: Found, limit: u32) -> Found
     }
 }
 
-/// Searches for one macroblock in the caller's buffers, with the sums that are kept. Also returns which are kept after it,
-/// and the macroblocks that follow without sums.
+/// Searches for one macroblock in the caller's buffers, with the sums that are kept. Also returns which are kept after
+/// it, and the macroblocks that follow without sums.
 fn search_kept(
     block: &Block,
     view: View,

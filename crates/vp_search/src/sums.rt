@@ -1,7 +1,7 @@
 //! Sums of the pixels of 8x8 squares, in lanes. They bound the costs of vectors from below (successive elimination, Li
 //! and Salari 1995): the difference of two sums is at most the sum of differences.
 
-ghost use Rattle.std.specs.Prelude.{◌≡◌, ℕ, ◌+◌, ◌-◌, ◌*◌, ◌<◌, ◌≤◌, length, slice_index, false, IfSome, None};
+ghost use Rattle.std.specs.Prelude.{◌≡◌, ℕ, ◌+◌, ◌-◌, ◌*◌, ◌<◌, ◌≤◌, length, slice_index, IfSome, None};
 ghost use Rattle.std.specs.Int.{abs_diff, bit_at};
 ghost use Rattle.vp_search.specs.Sums.{sum_below};
 ghost use Rattle.vp_search.specs.Bounds.{capped, column_sum, row_sum, square_sum, block_sums, bound_of};
@@ -54,13 +54,6 @@ fn apart(a: u16x8, b: u16x8) -> u16x8
     ensures { (j : ℕ) → j < 8 → slice_index result j ≡ abs_diff (slice_index a j) (slice_index b j) }
 {
     a.abs_diff(b)
-}
-
-/// `a + b - c`, lane by lane.
-fn plus_less(a: u16x8, b: u16x8, c: u16x8) -> u16x8
-    ensures { (j : ℕ) → j < 8 → slice_index result j ≡ capped (slice_index a j + slice_index b j) - slice_index c j }
-{
-    less(plus(a, b), c)
 }
 
 /// `a - b`, or 0 if that is negative, lane by lane.
@@ -140,7 +133,7 @@ fn slide_columns(columns: &mut [u16], pixels: &[u8], at: usize, step: usize, gro
         let sums = load_sums(columns, 8 * g);
         let above = load_bytes(pixels, at + 8 * g);
         let below = load_bytes(pixels, at + 8 * step + 8 * g);
-        store_sums(columns, 8 * g, plus_less(sums, below, above));
+        store_sums(columns, 8 * g, less(plus(sums, below), above));
     }
 }
 
@@ -236,16 +229,10 @@ pub(crate) fn bounds_at(block: [u16; 4], sums: &[u16], at: usize) -> u16x8
 pub(crate) fn within(bounds: u16x8, limit: u32) -> u64
     ensures eight { result < 256 }
     ensures others { (j : ℕ) → j < 8 → bit_at result j ≡ 0 → limit < slice_index bounds j }
+    ensures none { result ≡ 0 → (j : ℕ) → j < 8 → limit < slice_index bounds j }
 {
     let most = limit.min(65535) as u16;
     bounds.simd_le(u16x8::splat(most)).to_bitmask()
-}
-
-/// Whether a bound is within the limit.
-fn any_within(bounds: u16x8, limit: u32) -> bool
-    ensures { result ≡ false → (j : ℕ) → j < 8 → limit < slice_index bounds j }
-{
-    within(bounds, limit) != 0
 }
 
 /// A group of eight vectors of a row: its number, and their bounds.
@@ -288,7 +275,7 @@ pub(crate) fn next_within(
         }
         if g < groups {
             let bounds = bounds_at(sums.block, sums.window, at + 8 * g);
-            if any_within(bounds, limit) {
+            if within(bounds, limit) != 0 {
                 return Some(Group { number: g, bounds });
             }
             g += 1;

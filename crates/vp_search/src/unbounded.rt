@@ -1,5 +1,5 @@
-//! How many rows, or macroblocks, are searched without bounds. They are if bounds exclude less than half of the vectors, as in
-//! noise and in fine texture.
+//! How many rows, or macroblocks, are searched without bounds. They are if bounds exclude less than half of the
+//! vectors, as in noise and in fine texture.
 
 ghost use Rattle.std.specs.Prelude.{◌+◌, ◌*◌, ◌≤◌, length};
 

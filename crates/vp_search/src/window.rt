@@ -64,8 +64,8 @@ fn put_same(window: &mut [u8], at: usize, count: usize, pixel: u8)
     }
 }
 
-/// Writes pixels from index `at` of the window on.
-fn put_part(window: &mut [u8], at: usize, part: &[u8])
+/// Writes pixels from index `at` of a window or block on.
+pub(crate) fn put_part(window: &mut [u8], at: usize, part: &[u8])
     requires { at + length part.now ≤ length window.old }
     ensures here { (c : ℕ) → c < length part.now → slice_index window.new (at + c) ≡ slice_index part.now c }
     ensures before { (k : ℕ) → k < at → slice_index window.new k ≡ slice_index window.old k }

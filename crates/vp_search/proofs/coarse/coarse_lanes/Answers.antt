@@ -13,16 +13,12 @@ overflow_cast-result c =
     let t = mapped (top 15) (zipped (act2 (mask (lt unsigned)) (s_int w16) (s_int w16) (s_int w16)) s (splatted 8 255)) in
     each_lane (Asks1 (cast unsigned unsigned w8) (s_int w16)) (selected t s (splatted 8 255)) (λ j h. record { fits = coarse_fits (get_or c.args.sums j 0 / 64) })
 
-pub returns-clause-eight : goal.returns-clause-eight
-returns-clause-eight c =
-    let s = zipped (act2 (shr unsigned) (s_int w16) (s_int w16) (s_int w16)) (lanes_of 0 8 c.args.sums c.fits-sums.0) (splatted 8 6) in
-    let t = mapped (top 15) (zipped (act2 (mask (lt unsigned)) (s_int w16) (s_int w16) (s_int w16)) s (splatted 8 255)) in
-    length-ByLane (mapped (act1 (cast unsigned unsigned w8) (s_int w16) (s_int w8)) (selected t s (splatted 8 255)))
-
-pub returns-clause-value : goal.returns-clause-value
-returns-clause-value c j h =
+pub returns : goal.returns
+returns c =
     let s = zipped (act2 (shr unsigned) (s_int w16) (s_int w16) (s_int w16)) (lanes_of 0 8 c.args.sums c.fits-sums.0) (splatted 8 6) in
     let t = mapped (top 15) (zipped (act2 (mask (lt unsigned)) (s_int w16) (s_int w16) (s_int w16)) s (splatted 8 255)) in
     let m = mapped (act1 (cast unsigned unsigned w8) (s_int w16) (s_int w8)) (selected t s (splatted 8 255)) in
-    lane_is 0 m j h
-    ∙ coarse_lane (get_or c.args.sums j 0) (lane_fits (Fits w16) 0 8 c.args.sums c.fits-sums.0 c.fits-sums.1 j h).fits
+    record {
+      eight = length-ByLane m;
+      value = λ j h. lane_is 0 m j h ∙ coarse_lane (get_or c.args.sums j 0) (lane_fits (Fits w16) 0 8 c.args.sums c.fits-sums.0 c.fits-sums.1 j h).fits;
+    }

@@ -4,7 +4,7 @@ use mir.Syntax.{w8, lt, mask, unsigned, wrap_add, bit_not}
 use lib.Lanes.{top}
 use borrow.Rule.Simd.Lanes.{act1, act2}
 use borrow.Table.Row.{s_int}
-use Rattle.vp_search.proofs.CoarseLemmas.{byte_sum}
+use Rattle.vp_lanes.proofs.Bytes.{sum_is}
 use Rattle.vp_search.proofs.coarse.plus.Goals as goal
 
 pub returns : goal.returns
@@ -14,4 +14,4 @@ returns c j h =
     let n = mapped (act1 bit_not (s_int w8) (s_int w8)) x in
     let t = mapped (top 7) (zipped (act2 (mask (lt unsigned)) (s_int w8) (s_int w8) (s_int w8)) y n) in
     lane_is 0 (zipped (act2 wrap_add (s_int w8) (s_int w8) (s_int w8)) x (selected t y n)) j h
-    ∙ byte_sum _ _ (lane_fits (Fits w8) 0 16 c.args.a c.fits-a.0 c.fits-a.1 j h).fits (lane_fits (Fits w8) 0 16 c.args.b c.fits-b.0 c.fits-b.1 j h).fits
+    ∙ sum_is _ _ (lane_fits (Fits w8) 0 16 c.args.a c.fits-a.0 c.fits-a.1 j h).fits (lane_fits (Fits w8) 0 16 c.args.b c.fits-b.0 c.fits-b.1 j h).fits

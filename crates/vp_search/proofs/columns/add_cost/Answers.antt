@@ -13,8 +13,6 @@ loop-i-init c = record {
 
 pub loop-i-preserved : goal.loop-i-preserved
 loop-i-preserved c =
-    let b = c.four_filtered.ensures.bound in
-    let i = c.loop-i.invariant.bound in
     record {
       sum = ap₂ (λ x y. x + y) c.loop-i.invariant.sum c.four_filtered.ensures.value
           ∙ rows_more c.loop-i.i (block16 c.args.block.now) (λ r j. filtered c.args.filter.now c.args.rows.now (c.args.skip + r) j);
@@ -25,8 +23,6 @@ pub returns-then-sum-limit : goal.returns-then-sum-limit
 returns-then-sum-limit c =
     let f : ℕ → ℕ → ℕ = block16 c.args.block.now in
     let g : ℕ → ℕ → ℕ = λ (r j : ℕ). filtered c.args.filter.now c.args.rows.now (c.args.skip + r) j in
-    let more = c.if-sum-limit.true in
-    let test = c.loop-i-test.true in
     let sum = ap₂ (λ x y. x + y) c.loop-i.invariant.sum c.four_filtered.ensures.value ∙ rows_more c.loop-i.i f g in
     let all = rows_of_all (4 * (c.loop-i.i + 1)) f g (omega arith) in
     (λ h. absurd (omega arith), λ h. omega (arith, sum, all))

@@ -19,4 +19,4 @@ returns-then-eighths-eq0 c p place whole column are =
     subst (IsWithin c.args.limit c.sad_up_to.result)
     (ap (λ (rows : List ℕ). sum_of_differences 16 16 (strided_block block 0 16) (strided_block rows (16 * (down / 4 + 2)) 16)) c.rows.ensures
     ∙ whole_row_cost block p place whole column down (down / 4) c.args.rows.now c.requires refl c.if-eighths-eq0.true are)
-    c.sad_up_to.ensures
+    c.sad_up_to.ensures.within

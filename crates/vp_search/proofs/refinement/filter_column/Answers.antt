@@ -7,8 +7,6 @@ use Rattle.vp_search.proofs.refinement.filter_column.Goals as goal
 
 pub returns : goal.returns
 returns c =
-    let near = c.args.target.near in
-    let small = c.requires in
     let row : to_z w32 (of_z w32 (pos 4 *ℤ to_z w32 (of_z w32 c.args.target.above))) ≡ pos 4 *ℤ c.args.target.above = omega (arith, ints) in
     let column : to_z w32 (of_z w32 c.args.column) ≡ c.args.column = omega (arith, ints) in
     subst (λ (v : PlaneVector). AreFiltered c.args.target.reference.now (16 * c.args.target.place.column) (16 * c.args.target.place.row) v c.filter.new.self)

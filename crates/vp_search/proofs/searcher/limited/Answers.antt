@@ -5,7 +5,6 @@ pub returns-clause-kept : goal.returns-clause-kept
 returns-clause-kept c window limit found = record {
   near = found.near;
   known = λ below.
-      let e = c.min.ensures in
       let same : c.min.result ≡ c.args.found.cost = omega arith in
       same ∙ found.known (omega arith);
 }

@@ -32,8 +32,6 @@ fill_sums-requires-clause-first c = (c.moved_to-moved.ensures.kept c.args.view.r
 pub fill_sums-requires-clause-known : goal.fill_sums-requires-clause-known
 fill_sums-requires-clause-known c =
     let small = c.requires.range in
-    let room = c.moved_to-moved.ensures.start in
-    let size = c.requires.sums_size in
     kept_summed c.cut_window.new.window c.args.sums.now c.args.view.reference.now c.args.view.place c.args.view.range (length c.args.sums.now - c.moved_to-moved.result.start) c.moved_to-moved.result
     (c.moved_to-moved.ensures.kept c.args.view.reference.now c.args.view.range c.args.sums.now c.requires.known)
     c.moved_to-moved.ensures.place c.cut_window.ensures (omega arith) small
@@ -50,9 +48,6 @@ lent sums coarse start first all wide room least =
 
 pub with_sums-sums-requires-clause-coarse : goal.with_sums-sums-requires-clause-coarse
 with_sums-sums-requires-clause-coarse c some k h =
-    let small = c.requires.range in
-    let room = c.moved_to-moved.ensures.start in
-    let size = c.requires.sums_size in
     let broad : length c.fill_sums.new.coarse ≡ length c.args.coarse.now - c.min-coarse_start.result = search rules in
     let any : 0 < length c.args.coarse.now = omega arith in
     c.fill_sums.ensures.coarse (omega arith) (length c.args.sums.now - c.moved_to-moved.result.start)
@@ -62,8 +57,6 @@ pub returns-clause-kept : goal.returns-clause-kept
 returns-clause-kept c =
     let small = c.requires.range in
     let room = c.moved_to-moved.ensures.start in
-    let r : c.from.result ≡ c.args.view.range = c.from.ensures in
-    let size = c.requires.sums_size in
     let start : ℕ = c.moved_to-moved.result.start in
     let n : ℕ = length c.args.sums.now - start in
     let long : length c.fill_sums.new.sums ≡ n = search rules in
@@ -74,9 +67,6 @@ returns-clause-kept c =
 
 pub returns-clause-coarse : goal.returns-clause-coarse
 returns-clause-coarse c some =
-    let small = c.requires.range in
-    let room = c.moved_to-moved.ensures.start in
-    let size = c.requires.sums_size in
     let wide = c.requires.coarse_size some in
     let start : ℕ = c.moved_to-moved.result.start in
     let first : ℕ = c.min-coarse_start.result in

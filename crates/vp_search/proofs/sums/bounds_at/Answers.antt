@@ -2,7 +2,7 @@ use Rattle.std.proofs.Common.{◌≡◌, ℕ, ◌+◌, ◌*◌, ◌∙◌, get_o
 use Rattle.std.specs.Int.{abs_diff}
 use Rattle.vp_search.specs.declared.window.TheConstants.{WINDOW_WIDTH}
 use Rattle.vp_search.specs.Bounds.{bound_of}
-use Rattle.vp_search.proofs.SumLanes.{capped_sums}
+use Rattle.vp_search.proofs.SumLanes.{least_sums}
 use Rattle.vp_search.proofs.sums.bounds_at.Goals as goal
 
 pub returns : goal.returns
@@ -10,7 +10,7 @@ unfolding bound_of
 returns c j h =
     let at : ℕ = c.args.at in
     let moved : (s x y : ℕ) → x ≡ y → abs_diff s (get_or c.args.sums.now x 0) ≡ abs_diff s (get_or c.args.sums.now y 0) = λ s x y e. ap (λ (i : ℕ). abs_diff s (get_or c.args.sums.now i 0)) e in
-    capped_sums _ _ _ _ _ _ _ _ _ _ _
+    least_sums 65535 _ _ _ _ _ _ _ _ _ _ _
     (c.gaps.ensures j h)
     (c.gaps-2.ensures j h ∙ moved _ _ _ (let e : at + 8 + j ≡ at + j + 8 = omega arith in e))
     (c.gaps-3.ensures j h ∙ moved _ _ _ (let e : at + 8 * WINDOW_WIDTH + j ≡ at + j + 8 * WINDOW_WIDTH = omega arith in e))

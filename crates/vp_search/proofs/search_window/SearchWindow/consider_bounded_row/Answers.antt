@@ -2,7 +2,7 @@ use Rattle.std.proofs.Common.{◌≡◌, ℕ, ◌+◌, ◌*◌, ◌/◌, subst, 
 use Rattle.vp_search.specs.declared.vector.Found.{Found}
 use Rattle.vp_search.specs.Search.{IsBestInRow}
 use Rattle.vp_search.proofs.BoundLemmas.{bounds_are, bounds_above}
-use Rattle.vp_search.proofs.SearchLemmas.{none_seen, skipped_within, further}
+use Rattle.vp_search.proofs.SearchLemmas.{none_seen, skipped, further}
 use Rattle.vp_search.proofs.search_window.SearchWindow.consider_bounded_row.Goals as goal
 
 pub consider_eight-requires-clause-bounds : goal.consider_eight-requires-clause-bounds
@@ -28,7 +28,7 @@ loop-next-preserved c =
       within = omega arith;
       seen = further w i 0 (8 * m) (8 * (m + 1)) c.args.best f h
           (further w i 0 (8 * g) (8 * m) c.args.best f f inv.seen
-          (skipped_within w i (8 * g) (8 * m) f inv.seen.found
+          (skipped w i (8 * g) (8 * m) f inv.seen.found
           (bounds_above w c.args.sums.window.now c.args.sums.block i g m f.cost c.requires.sums.block_is c.requires.sums.window_is c.requires.i c.in-Some.ensures.skipped)))
           (subst (λ (k : ℕ). IsBestInRow w i (8 * m) k f h) e c.consider_eight.ensures);
     }
@@ -39,6 +39,6 @@ returns c =
     let f : Found = c.loop-next.found in let g : ℕ = c.loop-next.g in
     let m : c.from.result ≡ w.range = c.from.ensures in
     further w i 0 (8 * g) (2 * w.range + 1) c.args.best f f c.loop-next.invariant.seen
-    (skipped_within w i (8 * g) (2 * w.range + 1) f c.loop-next.invariant.seen.found
+    (skipped w i (8 * g) (2 * w.range + 1) f c.loop-next.invariant.seen.found
     (λ j low high within. bounds_above w c.args.sums.window.now c.args.sums.block i g (c.from.result / 4 + 1) f.cost c.requires.sums.block_is c.requires.sums.window_is c.requires.i
     (c.in_default.ensures.none (search rules)) j low (omega arith) within))

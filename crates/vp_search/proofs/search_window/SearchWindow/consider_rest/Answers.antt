@@ -1,4 +1,4 @@
-use Rattle.std.proofs.Common.{◌∙◌, arith, rules}
+use Rattle.std.proofs.Common.{◌∙◌, arith}
 use Rattle.vp_search.proofs.SearchLemmas.{first_rows_below, one_skipped, cost_here}
 use Rattle.vp_search.proofs.search_window.SearchWindow.consider_rest.Goals as goal
 
@@ -6,7 +6,6 @@ pub returns-then-first-best : goal.returns-then-first-best
 returns-then-first-best g c =
     let w = c.args.self.now in let i = c.args.spot.row in let j = c.args.spot.column in
     let low = first_rows_below w i j in
-    let over = c.if-first-best.true in
     one_skipped w i j c.args.best c.requires.best (omega (arith, c.requires.first))
 
 pub take-requires-clause-cost : goal.take-requires-clause-cost
@@ -16,6 +15,5 @@ take-requires-clause-cost g c =
 pub returns-in-None : goal.returns-in-None
 returns-in-None g c =
     let w = c.args.self.now in let i = c.args.spot.row in let j = c.args.spot.column in
-    let over = c.in-None.ensures.over (search rules) in
     let e = cost_here w i j c.at-at.result c.at-at.ensures in
     one_skipped w i j c.args.best c.requires.best (omega arith)

@@ -8,8 +8,6 @@ pub loop-number-preserved : goal.loop-number-preserved
 loop-number-preserved c =
     let w = c.args.self.now in let i = c.args.row in let limit = c.args.limit in
     let n : ℕ = c.loop-number.number in let from : ℕ = 2 * c.args.from in
-    let over = c.if-min-limit.false in
-    let least = c.min.ensures in
     let one : limit < cost_in w (vector_at w.range i (2 * n)) = omega (arith, first_rows_below w i (2 * n), c.first_rows-one.ensures.value) in
     let two : limit < cost_in w (vector_at w.range i (2 * n + 1)) = omega (arith, first_rows_below w i (2 * n + 1), c.first_rows-two.ensures.value) in
     let e : 2 * n + 1 + 1 ≡ 2 * (n + 1) = omega arith in

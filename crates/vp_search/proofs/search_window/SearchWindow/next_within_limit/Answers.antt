@@ -6,8 +6,6 @@ pub loop-column-preserved-then-first-limit : goal.loop-column-preserved-then-fir
 loop-column-preserved-then-first-limit g c =
     let w = c.args.self.now in let i = c.args.row in let j = c.loop-column.column in
     let low = first_rows_below w i j in
-    let first = c.first_rows-first.ensures.value in
-    let over = c.if-first-limit.true in
     one_more w c.args.limit i c.args.from j c.loop-column.invariant (omega arith)
 
 pub loop-column-preserved : goal.loop-column-preserved

@@ -12,7 +12,6 @@ pub loop-d-preserved : goal.loop-d-preserved
 loop-d-preserved c =
     let d = c.loop-d.d in
     let m : ℕ = c.from-middle.result in
-    let e = c.from-middle.ensures in
     record {
       found = c.consider_row-progress-in-loop-d-2.ensures.found;
       seen = rows_seen c.args.self.now d (m - 1 - d) (m + 1 + d) c.loop-d.progress.best c.consider_row-progress-in-loop-d.result.best c.consider_row-progress-in-loop-d-2.result.best
@@ -26,6 +25,4 @@ returns-then-is_best_beyond c =
 
 pub returns : goal.returns
 returns c =
-    let e = c.from-middle.ensures in
-    let t = c.loop-d-test.false in
     best_within c.args.self.now c.loop-d.d c.loop-d.progress.best c.loop-d.invariant.found c.loop-d.invariant.seen (λ k v far near. absurd (omega arith))
