@@ -1,12 +1,13 @@
 -- Candidates look at the macroblocks above and to the left alone.
-use Rattle.std.proofs.Common.{◌≡◌, ◌∙◌, ◌+◌, ◌*◌, ◌++◌, Bool, true, false, refl, sym, ap, arith}
-use Rattle.std.specs.Prelude.{Option, Some, None, option_map, unwrap_or, nat_lt, slice_get, neg_ℤ, pos, ◌-◌, if◌then◌else◌}
+use Rattle.std.proofs.Common.{◌≡◌, ℕ, zero, suc, ◌+◌, ◌*◌, ◌++◌, replicate, refl, arith, inl, inr}
+use Rattle.std.specs.Prelude.{Option, Some, None, option_map, unwrap_or, nat_lt, slice_get, neg_ℤ, pos, ◌-◌}
+use Rattle.std.proofs.lemmas.Bool.{cases_Bool}
 use Rattle.std.proofs.lemmas.Option.{slice_get-map}
 use Rattle.std.specs.Int.{from_bool}
 use Rattle.std.specs.Option.{option_and_then}
 use Rattle.vp_base.specs.declared.place.Place.{Place}
 use Rattle.vp_base.specs.Place.{above, left, corner}
-use Rattle.vp_base.specs.Grid.{Grid, at, look, entry, mapped}
+use Rattle.vp_base.specs.Grid.{Grid, at, look, entry, mapped, repeated, all as everywhere}
 use Rattle.vp_base.proofs.NearLemmas.{above-some, left-some}
 use Rattle.vp_head.specs.declared.fields.Reference.{Reference}
 use Rattle.vp_head.specs.declared.fields.SignBiases.{SignBiases}
@@ -52,25 +53,34 @@ candidates-same g h p r b alike =
     })
     (still_weight ws) (2 * from_bool (splits (up i)) + 2 * from_bool (splits (back i)) + from_bool (splits (across i))) (runs (moving ws))
 
--- ---- the motion of choices
+-- ---- grids that are mapped, or have one entry throughout
 
-entry_of-nothing : saved_motion nothing ≡ intra
-unfolding nothing plain
-entry_of-nothing = refl
+mapped_or : {A B : Type 0} (f : A → B) (a : A) (o : Option A) → unwrap_or (option_map f o) (f a) ≡ f (unwrap_or o a)
+mapped_or f a None = refl
+mapped_or f a (Some x) = refl
 
-chosen-map : (b : Bool) (o : Option Choice) → (if b then option_map saved_motion o else None) ≡ option_map saved_motion (if b then o else None)
-chosen-map true o = refl
-chosen-map false o = refl
-
-mapped-entry : (g : Grid Choice) (p : Place) → entry (mapped saved_motion g) p ≡ option_map saved_motion (entry g p)
+pub at-mapped : {A B : Type 0} (f : A → B) (a : A) (g : Grid A) (p : Place) → at (f a) (mapped f g) p ≡ f (at a g p)
 unfolding entry
-mapped-entry g p =
-    ap (λ (o : Option MacroblockMotion). if nat_lt p.column g.columns then o else None) (slice_get-map saved_motion g.entries (p.row * g.columns + p.column))
-    ∙ chosen-map (nat_lt p.column g.columns) (slice_get g.entries (p.row * g.columns + p.column))
-
-or_nothing : (o : Option Choice) → unwrap_or (option_map saved_motion o) intra ≡ saved_motion (unwrap_or o nothing)
-or_nothing None = sym entry_of-nothing
-or_nothing (Some x) = refl
+at-mapped f a g p = elim (cases_Bool (nat_lt p.column g.columns)) [
+  | inl inside ↦
+      let n = p.row * g.columns + p.column in
+      rw (inside, slice_get-map f g.entries n) (mapped_or f a (slice_get g.entries n))
+  | inr outside ↦ rw outside refl
+]
 
 pub motion_by-at : (g : Grid Choice) (p : Place) → at intra (mapped saved_motion g) p ≡ saved_motion (at nothing g p)
-motion_by-at g p = ap (λ o. unwrap_or o intra) (mapped-entry g p) ∙ or_nothing (entry g p)
+unfolding nothing plain
+motion_by-at g p = at-mapped saved_motion nothing g p
+
+repeated_or : (n i : ℕ) → unwrap_or (slice_get (replicate n intra) i) intra ≡ intra
+repeated_or zero i = refl
+repeated_or (suc n) zero = refl
+repeated_or (suc n) (suc i) = repeated_or n i
+
+-- without motion everywhere
+pub all_still : (columns rows : ℕ) (p : Place) → at intra (everywhere columns rows intra) p ≡ intra
+unfolding entry repeated
+all_still columns rows p = elim (cases_Bool (nat_lt p.column columns)) [
+  | inl inside ↦ rw inside (repeated_or (rows * columns) (p.row * columns + p.column))
+  | inr outside ↦ rw outside refl
+]

@@ -1,39 +1,241 @@
--- How the macroblocks of a frame are chosen, one after another.
-use Rattle.std.proofs.Common.{◌≡◌, ◌∙◌, ◌≢◌, ℕ, ◌+◌, ◌≤◌, ◌<◌, ◌⊎◌, true, false, refl, sym, ap, subst, arith, inl, inr}
-use Rattle.std.specs.Prelude.{Option, Some, None, unwrap_or, not}
+-- What is chosen for a frame can be written; how its macroblocks are chosen, one after another.
+use Rattle.std.proofs.Common.{◌≡◌, ◌∙◌, ◌+◌, ◌<◌, ◌^◌, ℕ, ℤ, Bool, true, false, List, replicate, refl, sym, ap, subst, arith, inl, inr, ◌≢◌, ◌≤◌, ◌⊎◌}
+use Rattle.std.specs.Prelude.{Option, Some, None, IfSome, option_map, not, is_some, is_none, if◌then◌else◌, unwrap_or}
+use Rattle.std.proofs.lemmas.Grind.{common_steps}
 use Rattle.std.proofs.lemmas.Bool.{cases_Bool, cases_lt, cases_eq}
-use Rattle.std.proofs.lemmas.Int.{ints}
+use Rattle.vp_base.specs.declared.limits.Dim.{Dim}
 use Rattle.vp_base.specs.declared.place.Place.{Place}
 use Rattle.vp_base.specs.Grid.{Grid, Has, at, entry, with_entry, all as everywhere}
-use Rattle.vp_base.specs.Raster.{Raster}
 use Rattle.vp_base.specs.Image.{Image, macroblocks, blank_image}
+use Rattle.vp_tables.specs.declared.modes.SubMode.TheVariants as sub_is
+use Rattle.vp_tables.specs.Modes.{is_by_subblocks}
+use Rattle.vp_head.specs.declared.fields.Header.{Header}
+use Rattle.vp_head.specs.declared.fields.Saved.{Saved}
+use Rattle.vp_head.specs.declared.fields.Reference.{Reference}
+use Rattle.vp_head.specs.declared.fields.Reference.TheVariants as reference_is
+use Rattle.vp_head.specs.Reference.{is_intra}
+use Rattle.vp_head.specs.Saved.{defaults}
+use Rattle.vp_head.specs.Spelled as head
+use Rattle.vp_modes.specs.Entry.{Modes, plain, plain_of}
+use Rattle.vp_modes.specs.Map.{of_segments}
+use Rattle.vp_modes.specs.Modes.{unread}
+use Rattle.vp_motion.specs.Vector.{MacroblockMotion, Vector, Candidates, IsWithin, last_of}
+use Rattle.vp_tokens.specs.Blocks.{any_token, no_blocks}
+use Rattle.vp_tokens.specs.Spelled.{AreSpelled, AreTight}
+use Rattle.vp_quant.specs.declared.factors.Factors.{Factors}
+use Rattle.vp_recon.specs.Predictor.{has_y2 as source_has_y2, Predictor, Intra, Macroblock, has_y2}
+use Rattle.vp_choose.specs.declared.frame.Choice.{Choice}
+use Rattle.vp_choose.specs.Frame.{FrameSearch, Search, source_by, no_biases, choice_motion as chosen_entry}
+use Rattle.vp_choose.specs.Inter.{IsInter, IsMoved, IsFirstGiving, vector_of}
+use Rattle.vp_choose.specs.Choice.{IsIntraChoice, IsTaken, IsChoice}
+use Rattle.vp_decode.specs.Step.{DecoderState}
+use Rattle.vp_encode.specs.declared.settings.Settings.{Settings}
+use Rattle.vp_encode.specs.declared.coded_frame.CodedFrame.{CodedFrame}
+use Rattle.vp_encode.specs.CodedFrame.{choice_has_y2, AreModesSpelled, AreTokensSpelled, CanBeEncoded, nothing, saved_motion}
+use Rattle.vp_encode.specs.Encoder.{AreAllowed, header_over, log2_of, context_over, search_in, continued, frame_over}
+use Rattle.vp_encode.specs.FrameChoices.{choice_at, picture_before, saved_motions, AreChosen, AreUnsegmented, macroblock_by, picture_by, IsChosenAt, IsBeforeInRaster, AreChosenBefore}
+use Rattle.vp_encode.proofs.Candidates.{at-mapped, AreAlikeAround, candidates-same, motion_by-at, all_still}
+use Rattle.std.proofs.lemmas.Int.{ints}
+use Rattle.vp_base.specs.Raster.{Raster}
 use Rattle.vp_base.specs.Over.{over}
 use Rattle.vp_base.proofs.OverLemmas.{over-none, over-more, over-same}
-use Rattle.vp_head.specs.declared.fields.Reference.{Reference}
-use Rattle.vp_head.specs.Reference.{is_intra}
-use Rattle.vp_modes.specs.Entry.{Modes}
-use Rattle.vp_motion.specs.Vector.{Vector, MacroblockMotion, Candidates, IsWithin, last_of}
 use Rattle.vp_motion.specs.Map.{AreWithin, intra, own}
 use Rattle.vp_motion.specs.Near.{candidates}
 use Rattle.vp_motion.specs.Spelled.{CanBeWritten}
 use Rattle.vp_tokens.specs.declared.contexts.Tokens.{Tokens}
-use Rattle.vp_tokens.specs.Blocks.{any_token, no_blocks}
-use Rattle.vp_tokens.specs.Spelled.{AreSpelled, AreTight}
-use Rattle.vp_quant.specs.declared.factors.Factors.{Factors}
-use Rattle.vp_recon.specs.Predictor.{Predictor, Intra, Macroblock, has_y2}
 use Rattle.vp_recon.specs.Rebuilt.{rebuilt, row_rebuilt, all_rebuilt}
 use Rattle.vp_decode.specs.MacroblockInfo.{place}
-use Rattle.vp_choose.specs.declared.frame.Choice.{Choice}
-use Rattle.vp_choose.specs.Frame.{FrameSearch, Search, source_by, no_biases, choice_motion as chosen_entry}
 use Rattle.vp_choose.specs.Intra.{IsIntra}
-use Rattle.vp_choose.specs.Inter.{IsMoved, IsInter, IsFirstGiving, vector_of}
-use Rattle.vp_choose.specs.Choice.{IsIntraChoice, IsTaken, IsChoice}
 use Rattle.vp_encode.specs.declared.frame_choices.FrameChoices.{FrameChoices}
-use Rattle.vp_encode.specs.CodedFrame.{nothing, saved_motion}
 use Rattle.vp_encode.specs.Choice.{rebuilt_before}
-use Rattle.vp_encode.specs.FrameChoices.{choice_at, macroblock_by, picture_before, picture_by, saved_motions, IsChosenAt, AreChosen, IsBeforeInRaster, AreChosenBefore}
-use Rattle.vp_encode.proofs.Candidates.{AreAlikeAround, candidates-same, motion_by-at}
-use Rattle.vp_encode.proofs.PacketLemmas.{all_still}
+
+log2_small : (n : ℕ) → log2_of n < 2 ^ 2
+log2_small n = grind (arith, common_steps)
+
+four_kept : (n : ℕ) (xs : List ℤ) → head.AreSigned n xs xs
+four_kept n xs = record {
+  first = λ changed. absurd (changed refl);
+  second = λ changed. absurd (changed refl);
+  third = λ changed. absurd (changed refl);
+  fourth = λ changed. absurd (changed refl);
+}
+
+-- A key frame is told over the defaults.
+pub header_spelled : (saved : Saved) (key golden : Bool) (s : Settings) → AreAllowed s → (key ≡ true → saved ≡ defaults) → head.IsWritableHeader key saved (header_over saved key golden s)
+unfolding defaults
+header_spelled saved key golden s allowed begun = record {
+  kind = refl;
+  color_space = λ inter. refl;
+  clamping_type = λ inter. refl;
+  segmentation = record { off = λ none. (refl, refl); on = λ changed. absurd (changed refl); no_map = λ none. refl };
+  filter = record { level = let h = allowed.level in omega arith; sharpness = let h = allowed.sharpness in omega arith };
+  deltas = record { off = λ none. refl; reference = four_kept 6 saved.deltas.reference; mode = four_kept 6 saved.deltas.mode };
+  log2_partitions = log2_small s.partitions;
+  quantiser = record {
+    y_ac = let h = allowed.quantiser in omega arith;
+    y_dc = λ changed. absurd (changed refl);
+    y2_dc = λ changed. absurd (changed refl);
+    y2_ac = λ changed. absurd (changed refl);
+    uv_dc = λ changed. absurd (changed refl);
+    uv_ac = λ changed. absurd (changed refl);
+  };
+  updates = record {
+    golden = λ e. rw e refl;
+    alt = λ e. e;
+    last = λ e. refl;
+    no_copy_to_golden = λ e. refl;
+    no_copy_to_alt = λ e. refl;
+  };
+  biases = λ e. ap (λ (k : Saved). k.biases) (sym (begun e));
+  references = λ e. rw e refl;
+  luma = λ e. refl;
+  chroma = λ e. refl;
+  vectors = λ e. refl;
+  vector = λ e i j changed. absurd (changed refl);
+}
+
+-- ---- a choice, told
+
+-- an inter macroblock has no intra modes, and subblocks have modes where luma is told by subblocks
+record AreModes (c : Choice) : Type 0 where
+  pub inter : is_intra c.modes.reference ≡ false → c.modes ≡ unread 0 c.modes.skip c.modes.reference
+  pub subs : is_by_subblocks c.modes.luma ≡ false → c.modes.subs ≡ replicate 16 sub_is.Dc
+
+intra_modes : (frame : FrameSearch) (z : Image) (p : Place) (luma : _) (c : Choice) → IsIntraChoice frame z p luma c → AreModes c
+intra_modes frame z p luma c is = record {
+  inter = λ away. absurd (let never : true ≡ false = ap is_intra (sym is.reference) ∙ away in cc);
+  subs = λ whole.
+      let plain_ones : is_by_subblocks luma.mode ≡ false = ap is_by_subblocks (sym is.luma) ∙ whole in
+      is.subs ∙ rw plain_ones refl;
+}
+
+inter_modes : (source : Image) (factors : Factors) (s : Search) (g : Grid MacroblockMotion) (p : Place) (z : Image) (m : _) (c : Choice) → IsInter source factors s g p z m c → AreModes c
+inter_modes source factors s g p z m c is = record {
+  inter = λ away. is.modes ∙ ap (λ (r : Reference). unread 0 c.modes.skip r) (sym (ap (λ (x : Modes). x.reference) is.modes));
+  subs = λ whole. ap (λ (x : Modes). x.subs) is.modes;
+}
+
+modes_taken : (o : Option Search) (frame : FrameSearch) (z : Image) (g : Grid MacroblockMotion) (p : Place) (luma : _) (c : Choice) → IsTaken o frame z g p luma c → AreModes c
+modes_taken None frame z g p luma c taken = intra_modes frame z p luma c taken
+modes_taken (Some s) frame z g p luma c taken = elim (cases_lt luma.cost taken.moved.cost) [
+  | inl dear ↦ intra_modes frame z p luma c (taken.intra dear)
+  | inr cheap ↦ inter_modes frame.source frame.factors s g p z taken.moved c (taken.inter cheap)
+]
+
+-- without a search all is intra
+own_without : (o : Option Search) (frame : FrameSearch) (z : Image) (g : Grid MacroblockMotion) (p : Place) (luma : _) (c : Choice) → o ≡ None → IsTaken o frame z g p luma c
+    → c.modes.reference ≡ reference_is.Intra
+own_without None frame z g p luma c e taken = taken.reference
+own_without (Some s) frame z g p luma c e taken = absurd cc
+
+-- the Y2 block is the same, whatever the macroblock is predicted from
+y2_same : (o : Option Search) (c : Choice) → (o ≡ None → is_intra c.modes.reference ≡ true) → source_has_y2 (source_by o c) ≡ choice_has_y2 c
+y2_same None c own = rw (own refl) refl
+y2_same (Some s) c own = elim (cases_Bool (is_intra c.modes.reference)) [
+  | inl own ↦ rw own refl
+  | inr inter ↦ rw inter refl
+]
+
+not_true : (b : Bool) → true ≡ not b → b ≡ false
+not_true true e = absurd cc
+not_true false e = refl
+
+search_none : (s : Settings) (kept : Option DecoderState) → is_none kept ≡ true → search_in s kept ≡ None
+search_none s None e = refl
+search_none s (Some k) e = absurd cc
+
+defaults_in : (dim : Dim) (kept : Option DecoderState) → is_none kept ≡ true → (context_over dim kept).saved ≡ defaults
+defaults_in dim None e = refl
+defaults_in dim (Some k) e = absurd cc
+
+abbrev coded : Header → Grid Choice → CodedFrame
+coded h g = record { header = h; macroblocks = g }
+
+-- ---- segments that are 0
+
+-- the segment that stands before a frame
+segment_before : (g : Grid ℕ) (p : Place) → (at plain (of_segments g) p).segment ≡ at 0 g p
+unfolding plain
+segment_before g p = ap (λ (m : Modes). m.segment) (at-mapped plain_of 0 g p)
+
+-- It is asked in an inter frame.
+zero_before : (dim : Dim) (kept : Option DecoderState) (p : Place) → IfSome kept (λ k. AreUnsegmented dim k.segments) → p.column < macroblocks dim.w → p.row < macroblocks dim.h
+    → 0 ≡ (if is_none kept then 0 else (at plain (context_over dim kept).modes p).segment)
+zero_before dim None p zeros column row = refl
+zero_before dim (Some k) p zeros column row =
+    let wide = zeros.columns in
+    let high = zeros.rows in
+    sym (segment_before k.segments p ∙ zeros.zero p (record { column = omega arith; row = omega arith }))
+
+-- ---- the frame, told
+
+module _ (dim : Dim) (kept : Option DecoderState) (golden : Bool) (s : Settings) (frame : FrameSearch) (g : Grid Choice)
+    (wide : frame.source.width ≡ dim.w) (high : frame.source.height ≡ dim.h) (search : frame.search ≡ search_in s kept)
+    (zeros : IfSome kept (λ k. AreUnsegmented dim k.segments)) (chosen : AreChosen frame g) where
+  abbrev header : Header
+  header = header_over (context_over dim kept).saved (is_none kept) golden s
+
+  intra_all : (p : Place) → Has g p → is_none kept ≡ true → (choice_at g p).modes.reference ≡ reference_is.Intra
+  intra_all p has key =
+      let is = (chosen.each p has).is in
+      own_without frame.search frame (picture_before frame g p) (saved_motions g) p is.luma (choice_at g p) (search ∙ search_none s kept key) is.taken
+
+  modes_told : AreModesSpelled (coded header g) (context_over dim kept).modes
+  modes_told p has =
+      let is = (chosen.each p has).is in
+      let are = modes_taken frame.search frame (picture_before frame g p) (saved_motions g) p is.luma (choice_at g p) is.taken in
+      let column : p.column < macroblocks dim.w = subst (λ (n : ℕ). p.column < n) (chosen.columns ∙ ap macroblocks wide) has.column in
+      let row : p.row < macroblocks dim.h = subst (λ (n : ℕ). p.row < n) (chosen.rows ∙ ap macroblocks high) has.row in
+      record {
+        segment = λ none. is.segment ∙ zero_before dim kept p zeros column row;
+        skip = λ none. absurd cc;
+        reference = λ key. intra_all p has key;
+        inter = λ away. are.inter away ∙ ap (λ (n : ℕ). unread n (choice_at g p).modes.skip (choice_at g p).modes.reference) (sym is.segment);
+        subs = are.subs;
+      }
+
+  tokens_told : AreTokensSpelled (coded header g)
+  tokens_told = record {
+    blocks = λ p has.
+        let is = (chosen.each p has).is in
+        let own_all : frame.search ≡ None → is_intra (choice_at g p).modes.reference ≡ true = λ none.
+        ap is_intra (own_without frame.search frame (picture_before frame g p) (saved_motions g) p is.luma (choice_at g p) none is.taken) in
+        subst (λ (b : Bool). AreSpelled b (choice_at g p).tokens.blocks) (y2_same frame.search (choice_at g p) own_all) is.spelled;
+    skipped = λ p has skip.
+        let is = (chosen.each p has).is in
+        is.none (not_true (any_token (choice_at g p).tokens) (sym skip ∙ is.skip));
+  }
+
+  pub frame_told : AreAllowed s → CanBeEncoded (is_none kept) (context_over dim kept).saved (context_over dim kept).modes (coded header g)
+  frame_told allowed = record {
+    header = header_spelled (context_over dim kept).saved (is_none kept) golden s allowed (defaults_in dim kept);
+    modes = modes_told;
+    motion = λ p has away. (chosen.each p has).written away;
+    tokens = tokens_told;
+  }
+
+none_mapped : {A B : Type 0} (f : A → B) (o : Option A) → is_none (option_map f o) ≡ is_none o
+none_mapped f None = refl
+none_mapped f (Some a) = refl
+
+pub none_is : {A : Type 0} (o : Option A) (b : Bool) → is_some o ≡ not b → b ≡ is_none o
+none_is None true e = refl
+none_is None false e = absurd cc
+none_is (Some a) true e = absurd cc
+none_is (Some a) false e = refl
+
+-- the frame of a source, in what the code has at hand
+pub told_as : {A : Type 0} (of : A → DecoderState) (o : Option A) (dim : Dim) (golden key : Bool) (saved : Saved) (s : Settings) (source : Image) (frame : FrameSearch) (g : Grid Choice) (h : Header) → AreAllowed s
+    → source.width ≡ dim.w → source.height ≡ dim.h → IfSome (option_map of o) (λ k. AreUnsegmented dim k.segments) → frame ≡ frame_over (option_map of o) s source → AreChosen frame g
+    → saved ≡ (context_over dim (option_map of o)).saved → key ≡ is_none o → h ≡ header_over saved key golden s
+    → CanBeEncoded (is_none o) (context_over dim (option_map of o)).saved (context_over dim (option_map of o)).modes (coded h g)
+unfolding continued
+told_as of o dim golden key saved s source frame g h allowed wide high zeros frame_is chosen saved_is key_is header_is =
+    rw (header_is, saved_is, key_is, ← none_mapped of o)
+    (frame_told dim (option_map of o) golden s frame g (ap (λ (f : FrameSearch). f.source.width) frame_is ∙ wide) (ap (λ (f : FrameSearch). f.source.height) frame_is ∙ high)
+    (ap (λ (f : FrameSearch). f.search) frame_is) zeros chosen allowed)
+
+-- ---- how the macroblocks are chosen, one after another
 
 -- ---- places in raster order
 
@@ -41,31 +243,27 @@ pub not_itself : (p : Place) → IsBeforeInRaster p p → ⊥
 not_itself p b = let c = b.column refl in omega arith
 
 pub before_trans : (r q p : Place) → IsBeforeInRaster r q → IsBeforeInRaster q p → IsBeforeInRaster r p
-before_trans r q p b c =
-    let up : r.row ≤ q.row = b.row in
-    let down : q.row ≤ p.row = c.row in
-    record {
-      row = omega arith;
-      column = λ same.
-          let one = b.column (omega arith) in
-          let two = c.column (omega arith) in
-          omega arith;
-    }
+before_trans r q p b c = record {
+  row = omega arith;
+  column = λ same.
+      let one = b.column (omega arith) in
+      let two = c.column (omega arith) in
+      omega arith;
+}
 
 -- what comes before the next place comes before this one, or is it
 before_next : (q : Place) (row n : ℕ) → IsBeforeInRaster q (place row (n + 1)) → IsBeforeInRaster q (place row n) ⊎ (q ≡ place row n)
-before_next q row n b =
-    let up : q.row ≤ row = b.row in
-    elim (cases_lt q.row row) [
-      | inl above ↦ inl (record { row = up; column = λ same. absurd (omega arith) })
-      | inr level ↦
-          let same : q.row ≡ row = omega arith in
-          let left = b.column same in
-          elim (cases_lt q.column n) [
-            | inl earlier ↦ inl (record { row = up; column = λ e. earlier })
-            | inr late ↦ let last : q.column ≡ n = omega arith in inr (λ i. record { column = last i; row = same i })
-          ]
-    ]
+before_next q row n b = elim (cases_lt q.row row) [
+  | inl above ↦ inl (record { row = b.row; column = λ same. absurd (omega arith) })
+  | inr level ↦
+      let up : q.row ≤ row = b.row in
+      let same : q.row ≡ row = omega arith in
+      let left = b.column same in
+      elim (cases_lt q.column n) [
+        | inl earlier ↦ inl (record { row = up; column = λ e. earlier })
+        | inr late ↦ let last : q.column ≡ n = omega arith in inr (λ i. record { column = last i; row = same i })
+      ]
+]
 
 earlier_next : (q : Place) (row n : ℕ) → IsBeforeInRaster q (place row n) → IsBeforeInRaster q (place row (n + 1))
 earlier_next q row n b = record { row = b.row; column = λ e. let c = b.column e in omega arith }
@@ -203,123 +401,7 @@ choice_like frame y z g k p c d pictures same like is =
           (subst (λ (t : Tokens). AreSpelled (has_y2 (source_by frame.search c)) t.blocks) like.tokens is.spelled);
     })
 
--- ---- one more macroblock
-
--- what becomes of the macroblock at p
-pub record IsStep (frame : FrameSearch) (p : Place) (a b : FrameChoices) : Type 0 where
-  pub choice : Choice
-  pub is : IsChoice frame a.picture a.motion p choice
-  pub written : is_intra choice.modes.reference ≡ false → CanBeWritten (candidates a.motion p choice.modes.reference no_biases) choice.motion
-  pub picture : b.picture ≡ rebuilt (macroblock_by frame choice) p a.picture
-  pub columns : b.chosen.columns ≡ a.chosen.columns
-  pub rows : b.chosen.rows ≡ a.chosen.rows
-  pub here : entry b.chosen p ≡ Some choice
-  pub elsewhere : (q : Place) → q ≢ p → entry b.chosen q ≡ entry a.chosen q
-  pub motion_columns : b.motion.columns ≡ a.motion.columns
-  pub motion_rows : b.motion.rows ≡ a.motion.rows
-  pub unmoved : is_intra choice.modes.reference ≡ true → at intra b.motion p ≡ at intra a.motion p
-  pub moved : is_intra choice.modes.reference ≡ false → at intra b.motion p ≡ saved_motion choice
-  pub motion_elsewhere : (q : Place) → q ≢ p → at intra b.motion q ≡ at intra a.motion q
-  pub short : AreWithin 511 b.motion
-
--- a choice among others that are alike up to its place
-chosen_kept : (frame : FrameSearch) (g h : Grid Choice) (q : Place) → g.columns ≡ macroblocks frame.source.width → h.columns ≡ g.columns → h.rows ≡ g.rows → q.column < g.columns
-    → choice_at g q ≡ choice_at h q → ((r : Place) → IsBeforeInRaster r q → choice_at g r ≡ choice_at h r) → IsChosenAt frame g q → IsChosenAt frame h q
-chosen_kept frame g h q size wide high inside here before at_q =
-    let same : AreSameCandidates (saved_motions g) (saved_motions h) q = λ r.
-    candidates-same (saved_motions g) (saved_motions h) q r no_biases (around (saved_motions g) (saved_motions h) q (sym wide) (sym high) inside
-    (λ p within earlier. motion_by-at g p ∙ ap saved_motion (before p earlier) ∙ sym (motion_by-at h p))) in
-    record {
-      is = choice_like frame (picture_before frame g q) (picture_before frame h q) (saved_motions g) (saved_motions h) q (choice_at g q) (choice_at h q)
-          (rebuilt_before-same frame.source.width frame.source.height (λ r. macroblock_by frame (choice_at g r)) (λ r. macroblock_by frame (choice_at h r)) q (omega arith)
-          (λ r within earlier. ap (macroblock_by frame) (before r earlier)))
-          same (like_same (choice_at g q) (choice_at h q) here) at_q.is;
-      written = subst (λ (c : Choice). is_intra c.modes.reference ≡ false → CanBeWritten (candidates (saved_motions h) q c.modes.reference no_biases) c.motion) here
-          (λ away. subst (λ (k : Candidates). CanBeWritten k (choice_at g q).motion) (same (choice_at g q).modes.reference) (at_q.written away));
-    }
-
-module _ (frame : FrameSearch) (row n : ℕ) (a b : FrameChoices) (inside : Has a.chosen (place row n)) (before : AreChosenBefore frame (place row n) a) (step : IsStep frame (place row n) a b) where
-  abbrev p : Place
-  p = place row n
-
-  kept : (q : Place) → q ≢ p → choice_at a.chosen q ≡ choice_at b.chosen q
-  kept q far = ap (λ o. unwrap_or o nothing) (sym (step.elsewhere q far))
-
-  apart : (q : Place) → IsBeforeInRaster q p → q ≢ p
-  apart q earlier e = not_itself p (subst (λ (r : Place). IsBeforeInRaster r p) e earlier)
-
-  here : choice_at b.chosen p ≡ step.choice
-  here = ap (λ o. unwrap_or o nothing) step.here
-
-  pictures : picture_before frame a.chosen p ≡ picture_before frame b.chosen p
-  pictures =
-      let left = inside.column in
-      let size = before.columns in
-      rebuilt_before-same frame.source.width frame.source.height (λ r. macroblock_by frame (choice_at a.chosen r)) (λ r. macroblock_by frame (choice_at b.chosen r)) p (omega arith)
-      (λ r within earlier. ap (macroblock_by frame) (kept r (apart r earlier)))
-
-  has_before : (q : Place) → q.column < a.chosen.columns → IsBeforeInRaster q p → Has a.chosen q
-  has_before q within earlier = let up = earlier.row in let down = inside.row in record { column = within; row = omega arith }
-
-  same_candidates : AreSameCandidates a.motion (saved_motions b.chosen) p
-  same_candidates r =
-      let left = inside.column in
-      let size = before.columns in
-      let motion_size = before.motion_columns in
-      candidates-same a.motion (saved_motions b.chosen) p r no_biases (around a.motion (saved_motions b.chosen) p
-      (before.motion_columns ∙ sym before.columns ∙ sym step.columns) (before.motion_rows ∙ sym before.rows ∙ sym step.rows) (omega arith)
-      (λ q within earlier.
-      before.moved q (has_before q (omega arith) earlier) earlier ∙ ap saved_motion (kept q (apart q earlier)) ∙ sym (motion_by-at b.chosen q)))
-
-  chosen_here : IsChosenAt frame b.chosen p
-  chosen_here = record {
-    is = choice_like frame a.picture (picture_before frame b.chosen p) a.motion (saved_motions b.chosen) p step.choice (choice_at b.chosen p)
-        (before.picture ∙ pictures) same_candidates (like_same step.choice (choice_at b.chosen p) (sym here)) step.is;
-    written = subst (λ (c : Choice). is_intra c.modes.reference ≡ false → CanBeWritten (candidates (saved_motions b.chosen) p c.modes.reference no_biases) c.motion) (sym here)
-        (λ away. subst (λ (k : Candidates). CanBeWritten k step.choice.motion) (same_candidates step.choice.modes.reference) (step.written away));
-  }
-
-  moved_here : at intra b.motion p ≡ saved_motion (choice_at b.chosen p)
-  moved_here =
-      elim (cases_Bool (is_intra step.choice.modes.reference)) [
-        | inl own ↦ step.unmoved own ∙ before.ahead p (not_itself p) ∙ rw own refl
-        | inr away ↦ step.moved away
-      ] ∙ ap saved_motion (sym here)
-
-  pub next : AreChosenBefore frame (place row (n + 1)) b
-  next = record {
-    size = record {
-      width = before.size.width ∙ ap (λ (z : Image). z.width) (sym step.picture);
-      height = before.size.height ∙ ap (λ (z : Image). z.height) (sym step.picture);
-    };
-    columns = step.columns ∙ before.columns;
-    rows = step.rows ∙ before.rows;
-    motion_columns = step.motion_columns ∙ before.motion_columns;
-    motion_rows = step.motion_rows ∙ before.motion_rows;
-    picture = step.picture
-        ∙ ap (λ (z : Image). rebuilt (macroblock_by frame step.choice) p z) (before.picture ∙ pictures)
-        ∙ ap (λ (c : Choice). rebuilt (macroblock_by frame c) p (picture_before frame b.chosen p)) (sym here)
-        ∙ sym (rebuilt_before-next frame.source.width frame.source.height (λ q. macroblock_by frame (choice_at b.chosen q)) row n);
-    each = λ q has earlier.
-        let column : q.column < a.chosen.columns = subst (λ (k : ℕ). q.column < k) step.columns has.column in
-        elim (before_next q row n earlier) [
-          | inl old ↦ chosen_kept frame a.chosen b.chosen q before.columns step.columns step.rows column (kept q (apart q old))
-              (λ r sooner. kept r (apart r (before_trans r q p sooner old))) (before.each q (has_before q column old) old)
-          | inr last ↦ subst (λ (r : Place). IsChosenAt frame b.chosen r) (sym last) chosen_here
-        ];
-    moved = λ q has earlier.
-        let column : q.column < a.chosen.columns = subst (λ (k : ℕ). q.column < k) step.columns has.column in
-        elim (before_next q row n earlier) [
-          | inl old ↦ step.motion_elsewhere q (apart q old) ∙ before.moved q (has_before q column old) old ∙ ap saved_motion (kept q (apart q old))
-          | inr last ↦ subst (λ (r : Place). at intra b.motion r ≡ saved_motion (choice_at b.chosen r)) (sym last) moved_here
-        ];
-    ahead = λ q later.
-        step.motion_elsewhere q (λ e. later (subst (λ (r : Place). IsBeforeInRaster r (place row (n + 1))) (sym e) (last_next row n)))
-        ∙ before.ahead q (λ old. later (earlier_next q row n old));
-    short = step.short;
-  }
-
--- ---- what the code makes of a macroblock
+-- ---- motion that is short
 
 still_within : IsWithin 511 (own intra)
 unfolding own intra
@@ -351,47 +433,117 @@ short_set g k p e short here elsewhere one q = elim (same_or_not q p) [
   | inr apart ↦ subst (λ (o : Option MacroblockMotion). IsWithin 511 (last_of (unwrap_or o intra).vectors)) (sym (elsewhere q apart)) (short q)
 ]
 
-module _ (frame : FrameSearch) (p : Place) (a : FrameChoices) (picture : Image) (chosen : Grid Choice) (c : Choice)
-    (is : IsChoice frame a.picture a.motion p c)
-    (written : is_intra c.modes.reference ≡ false → CanBeWritten (candidates a.motion p c.modes.reference no_biases) c.motion)
-    (made : picture ≡ rebuilt (macroblock_by frame c) p a.picture)
-    (changed : chosen ≡ with_entry a.chosen p c) (here : entry chosen p ≡ Some c) (elsewhere : (q : Place) → q ≢ p → entry chosen q ≡ entry a.chosen q) where
-  pub step_own : is_intra c.modes.reference ≡ true → AreWithin 511 a.motion → IsStep frame p a (record { picture = picture; motion = a.motion; chosen = chosen })
-  step_own own short = record {
-    choice = c;
-    is = is;
-    written = written;
-    picture = made;
-    columns = ap (λ (g : Grid Choice). g.columns) changed;
-    rows = ap (λ (g : Grid Choice). g.rows) changed;
-    here = here;
-    elsewhere = elsewhere;
-    motion_columns = refl;
-    motion_rows = refl;
-    unmoved = λ e. refl;
-    moved = λ away. absurd (let never : true ≡ false = sym own ∙ away in cc);
-    motion_elsewhere = λ q apart. refl;
+-- ---- one more macroblock
+
+-- a choice among others that are alike up to its place
+chosen_kept : (frame : FrameSearch) (g h : Grid Choice) (q : Place) → g.columns ≡ macroblocks frame.source.width → h.columns ≡ g.columns → h.rows ≡ g.rows → q.column < g.columns
+    → choice_at g q ≡ choice_at h q → ((r : Place) → IsBeforeInRaster r q → choice_at g r ≡ choice_at h r) → IsChosenAt frame g q → IsChosenAt frame h q
+chosen_kept frame g h q size wide high inside here before at_q =
+    let same : AreSameCandidates (saved_motions g) (saved_motions h) q = λ r.
+    candidates-same (saved_motions g) (saved_motions h) q r no_biases (around (saved_motions g) (saved_motions h) q (sym wide) (sym high) inside
+    (λ p within earlier. motion_by-at g p ∙ ap saved_motion (before p earlier) ∙ sym (motion_by-at h p))) in
+    record {
+      is = choice_like frame (picture_before frame g q) (picture_before frame h q) (saved_motions g) (saved_motions h) q (choice_at g q) (choice_at h q)
+          (rebuilt_before-same frame.source.width frame.source.height (λ r. macroblock_by frame (choice_at g r)) (λ r. macroblock_by frame (choice_at h r)) q (omega arith)
+          (λ r within earlier. ap (macroblock_by frame) (before r earlier)))
+          same (like_same (choice_at g q) (choice_at h q) here) at_q.is;
+      written = subst (λ (c : Choice). is_intra c.modes.reference ≡ false → CanBeWritten (candidates (saved_motions h) q c.modes.reference no_biases) c.motion) here
+          (λ away. subst (λ (k : Candidates). CanBeWritten k (choice_at g q).motion) (same (choice_at g q).modes.reference) (at_q.written away));
+    }
+
+-- what the code makes of the macroblock behind those that are chosen
+module _ (frame : FrameSearch) (row n : ℕ) (a : FrameChoices) (picture : Image) (chosen : Grid Choice) (c : Choice)
+    (inside : Has a.chosen (place row n)) (before : AreChosenBefore frame (place row n) a) (is : IsChoice frame a.picture a.motion (place row n) c)
+    (written : is_intra c.modes.reference ≡ false → CanBeWritten (candidates a.motion (place row n) c.modes.reference no_biases) c.motion)
+    (made : picture ≡ rebuilt (macroblock_by frame c) (place row n) a.picture)
+    (changed : chosen ≡ with_entry a.chosen (place row n) c) (stands : entry chosen (place row n) ≡ Some c)
+    (elsewhere : (q : Place) → q ≢ place row n → entry chosen q ≡ entry a.chosen q) where
+  abbrev p : Place
+  p = place row n
+
+  same_columns : chosen.columns ≡ a.chosen.columns
+  same_columns = ap (λ (g : Grid Choice). g.columns) changed
+
+  same_rows : chosen.rows ≡ a.chosen.rows
+  same_rows = ap (λ (g : Grid Choice). g.rows) changed
+
+  kept : (q : Place) → q ≢ p → choice_at a.chosen q ≡ choice_at chosen q
+  kept q far = ap (λ o. unwrap_or o nothing) (sym (elsewhere q far))
+
+  apart : (q : Place) → IsBeforeInRaster q p → q ≢ p
+  apart q earlier e = not_itself p (subst (λ (r : Place). IsBeforeInRaster r p) e earlier)
+
+  here : choice_at chosen p ≡ c
+  here = ap (λ o. unwrap_or o nothing) stands
+
+  pictures : picture_before frame a.chosen p ≡ picture_before frame chosen p
+  pictures =
+      rebuilt_before-same frame.source.width frame.source.height (λ r. macroblock_by frame (choice_at a.chosen r)) (λ r. macroblock_by frame (choice_at chosen r)) p (omega arith)
+      (λ r within earlier. ap (macroblock_by frame) (kept r (apart r earlier)))
+
+  has_before : (q : Place) → q.column < a.chosen.columns → IsBeforeInRaster q p → Has a.chosen q
+  has_before q within earlier = record { column = within; row = omega arith }
+
+  same_candidates : AreSameCandidates a.motion (saved_motions chosen) p
+  same_candidates r =
+      candidates-same a.motion (saved_motions chosen) p r no_biases (around a.motion (saved_motions chosen) p
+      (before.motion_columns ∙ sym before.columns ∙ sym same_columns) (before.motion_rows ∙ sym before.rows ∙ sym same_rows) (omega arith)
+      (λ q within earlier.
+      before.moved q (has_before q (omega arith) earlier) earlier ∙ ap saved_motion (kept q (apart q earlier)) ∙ sym (motion_by-at chosen q)))
+
+  chosen_here : IsChosenAt frame chosen p
+  chosen_here = record {
+    is = choice_like frame a.picture (picture_before frame chosen p) a.motion (saved_motions chosen) p c (choice_at chosen p)
+        (before.picture ∙ pictures) same_candidates (like_same c (choice_at chosen p) (sym here)) is;
+    written = subst (λ (x : Choice). is_intra x.modes.reference ≡ false → CanBeWritten (candidates (saved_motions chosen) p x.modes.reference no_biases) x.motion) (sym here)
+        (λ away. subst (λ (k : Candidates). CanBeWritten k c.motion) (same_candidates c.modes.reference) (written away));
+  }
+
+  -- with this motion afterwards
+  next : (k : Grid MacroblockMotion) → k.columns ≡ a.motion.columns → k.rows ≡ a.motion.rows → at intra k p ≡ saved_motion c
+      → ((q : Place) → q ≢ p → at intra k q ≡ at intra a.motion q) → AreWithin 511 k → AreChosenBefore frame (place row (n + 1)) (record { picture = picture; motion = k; chosen = chosen })
+  next k motion_columns motion_rows moved others short = record {
+    size = record {
+      width = before.size.width ∙ ap (λ (z : Image). z.width) (sym made);
+      height = before.size.height ∙ ap (λ (z : Image). z.height) (sym made);
+    };
+    columns = same_columns ∙ before.columns;
+    rows = same_rows ∙ before.rows;
+    motion_columns = motion_columns ∙ before.motion_columns;
+    motion_rows = motion_rows ∙ before.motion_rows;
+    picture = made
+        ∙ ap (λ (z : Image). rebuilt (macroblock_by frame c) p z) (before.picture ∙ pictures)
+        ∙ ap (λ (x : Choice). rebuilt (macroblock_by frame x) p (picture_before frame chosen p)) (sym here)
+        ∙ sym (rebuilt_before-next frame.source.width frame.source.height (λ q. macroblock_by frame (choice_at chosen q)) row n);
+    each = λ q has earlier.
+        let column : q.column < a.chosen.columns = subst (λ (j : ℕ). q.column < j) same_columns has.column in
+        elim (before_next q row n earlier) [
+          | inl old ↦ chosen_kept frame a.chosen chosen q before.columns same_columns same_rows column (kept q (apart q old))
+              (λ r sooner. kept r (apart r (before_trans r q p sooner old))) (before.each q (has_before q column old) old)
+          | inr last ↦ subst (λ (r : Place). IsChosenAt frame chosen r) (sym last) chosen_here
+        ];
+    moved = λ q has earlier.
+        let column : q.column < a.chosen.columns = subst (λ (j : ℕ). q.column < j) same_columns has.column in
+        elim (before_next q row n earlier) [
+          | inl old ↦ others q (apart q old) ∙ before.moved q (has_before q column old) old ∙ ap saved_motion (kept q (apart q old))
+          | inr last ↦ subst (λ (r : Place). at intra k r ≡ saved_motion (choice_at chosen r)) (sym last) (moved ∙ ap saved_motion (sym here))
+        ];
+    ahead = λ q later.
+        others q (λ e. later (subst (λ (r : Place). IsBeforeInRaster r (place row (n + 1))) (sym e) (last_next row n)))
+        ∙ before.ahead q (λ old. later (earlier_next q row n old));
     short = short;
   }
 
-  pub step_inter : (k : Grid MacroblockMotion) (x : MacroblockMotion) → is_intra c.modes.reference ≡ false → AreWithin 511 a.motion → x ≡ chosen_entry c → k ≡ with_entry a.motion p x → entry k p ≡ Some x
-      → ((q : Place) → q ≢ p → entry k q ≡ entry a.motion q) → IsWithin 259 (last_of c.motion.vectors) → IsStep frame p a (record { picture = picture; motion = k; chosen = chosen })
-  step_inter k x away short x_is moved there others one = record {
-    choice = c;
-    is = is;
-    written = written;
-    picture = made;
-    columns = ap (λ (g : Grid Choice). g.columns) changed;
-    rows = ap (λ (g : Grid Choice). g.rows) changed;
-    here = here;
-    elsewhere = elsewhere;
-    motion_columns = ap (λ (g : Grid MacroblockMotion). g.columns) moved;
-    motion_rows = ap (λ (g : Grid MacroblockMotion). g.rows) moved;
-    unmoved = λ own. absurd (let never : true ≡ false = sym own ∙ away in cc);
-    moved = λ e. ap (λ o. unwrap_or o intra) there ∙ x_is ∙ rw away refl;
-    motion_elsewhere = λ q apart. ap (λ o. unwrap_or o intra) (others q apart);
-    short = short_set a.motion k p x short there others (subst (λ (e : MacroblockMotion). IsWithin 259 (last_of e.vectors)) (sym x_is) one);
-  }
+  pub next_intra : is_intra c.modes.reference ≡ true → AreChosenBefore frame (place row (n + 1)) (record { picture = picture; motion = a.motion; chosen = chosen })
+  next_intra own = next a.motion refl refl (before.ahead p (not_itself p) ∙ rw own refl) (λ q far. refl) before.short
+
+  pub next_inter : (k : Grid MacroblockMotion) (x : MacroblockMotion) → is_intra c.modes.reference ≡ false → x ≡ chosen_entry c → k ≡ with_entry a.motion p x → entry k p ≡ Some x
+      → ((q : Place) → q ≢ p → entry k q ≡ entry a.motion q) → IsWithin 259 (last_of c.motion.vectors)
+      → AreChosenBefore frame (place row (n + 1)) (record { picture = picture; motion = k; chosen = chosen })
+  next_inter k x away x_is moved there others one =
+      next k (ap (λ (g : Grid MacroblockMotion). g.columns) moved) (ap (λ (g : Grid MacroblockMotion). g.rows) moved)
+      (ap (λ o. unwrap_or o intra) there ∙ x_is ∙ rw away refl) (λ q far. ap (λ o. unwrap_or o intra) (others q far))
+      (short_set a.motion k p x before.short there others (subst (λ (e : MacroblockMotion). IsWithin 259 (last_of e.vectors)) (sym x_is) one))
 
 -- ---- rows
 
@@ -419,8 +571,6 @@ pub next_row : (frame : FrameSearch) (row n : ℕ) (b : FrameChoices) → n ≡ 
 next_row frame row n b all before =
     let wide = before.columns in
     let back : (q : Place) → Has b.chosen q → IsBeforeInRaster q (place (row + 1) 0) → IsBeforeInRaster q (place row n) = λ q has earlier.
-    let up : q.row ≤ row + 1 = earlier.row in
-    let left = has.column in
     let level : q.row ≤ row = elim (cases_lt q.row (row + 1)) [
       | inl above ↦ omega arith
       | inr same ↦ let never = earlier.column (omega arith) in absurd (omega arith)

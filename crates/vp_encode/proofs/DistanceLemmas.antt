@@ -1,5 +1,5 @@
 -- Sums of squared differences of lists that follow one another.
-use Rattle.std.proofs.Common.{◌≡◌, ◌∙◌, ℕ, ◌+◌, ◌*◌, ◌/◌, ◌≤◌, ◌++◌, List, [], length, take, get_or, sym, ap, ap₂, arith, length-append}
+use Rattle.std.proofs.Common.{◌≡◌, ◌∙◌, ℕ, ◌+◌, ◌*◌, ◌/◌, ◌≤◌, ◌++◌, List, [], length, take, get_or, refl, sym, ap, ap₂, arith, length-append}
 use Rattle.std.specs.Int.{abs_diff}
 use Rattle.std.proofs.lemmas.List.{get_or_append_left, get_or-append-add}
 use Rattle.vp_base.specs.Raster.{Raster, pixel, row_of}
@@ -44,30 +44,20 @@ squares-three a b c d e f long wide =
     squares-append (a ++ b) c (d ++ e) f (length-append a b ∙ (λ i. long i + wide i) ∙ sym (length-append d e))
     ∙ ap (λ (n : ℕ). n + sum_of_squares c f) (squares-append a b d e long)
 
--- so many numbers of two planes, in other words
-alike : (w h u v x y : ℕ) (a b p q : Raster) → w ≡ u → h ≡ v → w ≡ x → h ≡ y → a ≡ p → b ≡ q
-    → sum_of_squares (numbers w h (pixel a)) (numbers w h (pixel b)) ≡ sum_of_squares (numbers u v (pixel p)) (numbers x y (pixel q))
-alike w h u v x y a b p q first second third fourth one other =
-    λ i. sum_of_squares (numbers (first i) (second i) (pixel (one i))) (numbers (third i) (fourth i) (pixel (other i)))
-
 half : {m n : ℕ} → m ≡ n → (m + 1) / 2 ≡ (n + 1) / 2
 half same = ap (λ (k : ℕ). (k + 1) / 2) same
 
-pub distance_is : (p q : Image) (w h : ℕ) (a b c d e f : Raster) (x y z : ℕ) → w ≡ p.width → h ≡ p.height → p.width ≡ q.width → p.height ≡ q.height
-    → a ≡ p.luma → b ≡ q.luma → c ≡ p.u → d ≡ q.u → e ≡ p.v → f ≡ q.v
-    → x ≡ sum_of_squares (numbers w h (pixel a)) (numbers w h (pixel b))
-    → y ≡ sum_of_squares (numbers ((w + 1) / 2) ((h + 1) / 2) (pixel c)) (numbers ((w + 1) / 2) ((h + 1) / 2) (pixel d))
-    → z ≡ sum_of_squares (numbers ((w + 1) / 2) ((h + 1) / 2) (pixel e)) (numbers ((w + 1) / 2) ((h + 1) / 2) (pixel f))
-    → x + y + z ≡ squared_distance p q
+-- the sums of the planes of two pictures of one size
+pub distance_is : (p q : Image) (w h : ℕ) → w ≡ p.width → h ≡ p.height → p.width ≡ q.width → p.height ≡ q.height
+    → sum_of_squares (numbers w h (pixel p.luma)) (numbers w h (pixel q.luma))
+    + sum_of_squares (numbers ((w + 1) / 2) ((h + 1) / 2) (pixel p.u)) (numbers ((w + 1) / 2) ((h + 1) / 2) (pixel q.u))
+    + sum_of_squares (numbers ((w + 1) / 2) ((h + 1) / 2) (pixel p.v)) (numbers ((w + 1) / 2) ((h + 1) / 2) (pixel q.v)) ≡ squared_distance p q
 unfolding i420
-distance_is p q w h a b c d e f x y z wide high same_width same_height is_a is_b is_c is_d is_e is_f luma u v =
-    let first = luma ∙ alike w h p.width p.height q.width q.height a b p.luma q.luma wide high (wide ∙ same_width) (high ∙ same_height) is_a is_b in
-    let second = u ∙ alike ((w + 1) / 2) ((h + 1) / 2) ((p.width + 1) / 2) ((p.height + 1) / 2) ((q.width + 1) / 2) ((q.height + 1) / 2) c d p.u q.u
-    (half wide) (half high) (half (wide ∙ same_width)) (half (high ∙ same_height)) is_c is_d in
-    let third = v ∙ alike ((w + 1) / 2) ((h + 1) / 2) ((p.width + 1) / 2) ((p.height + 1) / 2) ((q.width + 1) / 2) ((q.height + 1) / 2) e f p.v q.v
-    (half wide) (half high) (half (wide ∙ same_width)) (half (high ∙ same_height)) is_e is_f in
-    (λ i. first i + second i + third i)
-    ∙ sym (squares-three (numbers p.width p.height (pixel p.luma)) (numbers ((p.width + 1) / 2) ((p.height + 1) / 2) (pixel p.u)) (numbers ((p.width + 1) / 2) ((p.height + 1) / 2) (pixel p.v))
-    (numbers q.width q.height (pixel q.luma)) (numbers ((q.width + 1) / 2) ((q.height + 1) / 2) (pixel q.u)) (numbers ((q.width + 1) / 2) ((q.height + 1) / 2) (pixel q.v))
-    (length-numbers p.width p.height (pixel p.luma) ∙ (λ i. same_height i * same_width i) ∙ sym (length-numbers q.width q.height (pixel q.luma)))
-    (length-numbers ((p.width + 1) / 2) ((p.height + 1) / 2) (pixel p.u) ∙ (λ i. half same_height i * half same_width i) ∙ sym (length-numbers ((q.width + 1) / 2) ((q.height + 1) / 2) (pixel q.u))))
+distance_is p q w h wide high width height =
+    let long : (a b x y : ℕ) (f g : ℕ → ℕ → ℕ) → a ≡ x → b ≡ y → length (numbers a b f) ≡ length (numbers x y g) =
+    λ a b x y f g across down. length-numbers a b f ∙ (λ i. down i * across i) ∙ sym (length-numbers x y g) in
+    rw (wide, high)
+    (sym (squares-three (numbers p.width p.height (pixel p.luma)) (numbers ((p.width + 1) / 2) ((p.height + 1) / 2) (pixel p.u)) (numbers ((p.width + 1) / 2) ((p.height + 1) / 2) (pixel p.v))
+    (numbers p.width p.height (pixel q.luma)) (numbers ((p.width + 1) / 2) ((p.height + 1) / 2) (pixel q.u)) (numbers ((p.width + 1) / 2) ((p.height + 1) / 2) (pixel q.v))
+    (long _ _ _ _ _ _ refl refl) (long _ _ _ _ _ _ refl refl))
+    ∙ (λ i. sum_of_squares (i420 p) (numbers (width i) (height i) (pixel q.luma) ++ numbers (half width i) (half height i) (pixel q.u) ++ numbers (half width i) (half height i) (pixel q.v))))

@@ -1,279 +1,315 @@
--- What an encoder's packet leaves.
-use Rattle.std.proofs.Common.{◌≡◌, ◌∙◌, ℕ, ◌*◌, ◌≤◌, Bool, true, false, List, refl, sym, ap, subst, arith, inl, inr, eqb}
-use Rattle.std.specs.Prelude.{◌⊎◌, Option, Some, None, IfSome, Result, Ok, IfOk, IfErr, IsOkAnd, is_none, if◌then◌else◌}
-use Rattle.vp_base.specs.declared.place.Place.{Place}
+-- What an encoder's packet says is what was chosen, and what it leaves is what the encoder keeps.
+use Rattle.std.proofs.Common.{◌≡◌, ◌∙◌, ℕ, zero, suc, ◌*◌, ◌<◌, ◌≤◌, true, false, List, [], ◌∷◌, map, min, refl, sym, ap, subst, arith, inl, inr}
+use Rattle.std.specs.Prelude.{◌⊎◌, Option, Some, None, IfSome, Ok, not, ◌==◌}
+use Rattle.std.proofs.lemmas.Bool.{cases_Bool}
 use Rattle.vp_base.specs.declared.limits.Dim.{Dim}
 use Rattle.vp_base.specs.declared.limits.Limits.{Limits}
-use Rattle.vp_base.specs.declared.grid.Grid.{Grid}
-use Rattle.vp_base.specs.Grid.{Has}
-use Rattle.vp_base.specs.Image.{Image, macroblocks}
-use Rattle.vp_head.specs.declared.fault.PacketFault.{PacketFault}
-use Rattle.vp_head.specs.declared.fields.KeyTag.{KeyTag}
-use Rattle.vp_head.specs.declared.fields.Saved.{Saved}
-use Rattle.vp_modes.specs.declared.segment.Segment.{Segment}
-use Rattle.vp_modes.specs.Map.{of_segments}
-use Rattle.vp_decode.specs.Frame.{picture_of}
-use Rattle.vp_decode.specs.Step.{DecoderState, FrameContext, maps_before, key_context, inter_context, context_of, ParsedPacket, parsed, frame_of_packet, state_after, Answer, Shown, Hidden, Fault, step}
+use Rattle.vp_base.specs.declared.place.Place.{Place}
+use Rattle.vp_base.specs.Grid.{Grid, Has, at}
+use Rattle.vp_base.specs.Image.{Image, blank_image, macroblocks}
+use Rattle.vp_bool.specs.Bools.{State, initial_state}
+use Rattle.vp_bool.specs.Reader.{Reader, bind, rows as rows_of}
+use Rattle.vp_head.specs.declared.fields.Header.{Header}
+use Rattle.vp_head.specs.Reference.{is_intra}
+use Rattle.vp_head.specs.Tag.{tag_of}
+use Rattle.vp_modes.specs.Entry.{Modes, plain}
+use Rattle.vp_modes.specs.Map.{segments_of}
+use Rattle.vp_modes.specs.Modes.{modes_at}
+use Rattle.vp_motion.specs.Vector.{MacroblockMotion}
+use Rattle.vp_tokens.specs.declared.contexts.Tokens.{Tokens}
+use Rattle.vp_tokens.specs.Blocks.{any_token}
+use Rattle.vp_quant.specs.Quant.{factors, index_of}
+use Rattle.vp_refs.specs.References.{reference_picture}
+use Rattle.vp_recon.specs.Predictor.{Macroblock, Intra, Inter, macroblock_of}
+use Rattle.vp_recon.specs.Rebuilt.{all_rebuilt}
+use Rattle.vp_choose.specs.declared.frame.Choice.{Choice}
+use Rattle.vp_choose.specs.Frame.{FrameSearch, source_by, no_biases}
+use Rattle.vp_decode.specs.MacroblockInfo.{MacroblockInfo, modes_in, motion_in, place, macroblock_read, motion_read, row_read, maps_read}
+use Rattle.vp_decode.specs.Frame.{FrameInfo, frame_of, unfiltered, picture_of, predictor_at, factors_at, predictor_by as source_read_by}
 use Rattle.vp_decode.specs.RebuiltFrame.{IsRebuiltFrame}
-use Rattle.vp_decode.proofs.SizeLemmas.{KeepsShape, newest_is, picture_shaped}
+use Rattle.vp_decode.specs.Step.{DecoderState, FrameContext, ParsedPacket, parsed, frame_info_of, frame_of_packet, state_after, Answer, answer, decoded, step, Decoder, after}
+use Rattle.vp_decode.proofs.SizeLemmas.{KeepsShape, info-mapped, newest_is, picture_shaped}
+use Rattle.vp_encode.specs.declared.settings.Settings.{Settings}
 use Rattle.vp_encode.specs.declared.coded_frame.CodedFrame.{CodedFrame}
-use Rattle.vp_encode.specs.declared.fault.PacketError.{PacketError}
-use Rattle.vp_encode.specs.declared.fault.PacketError.TheVariants.{TooLong}
-use Rattle.vp_encode.specs.CodedFrame.{CanBeEncoded, coded_choice}
-use Rattle.vp_encode.specs.PacketContents.{key_tag, IsKeyFramePacket, IsInterFramePacket, HasContents, EncodesFrame}
-use Rattle.vp_encode.specs.Written.{HasLongPartition}
-use Rattle.vp_encode.specs.Encoder.{EncoderState, AreAllowed, next_is_key, kept_for, context_over, context_for, tag_key, header_of, continued, frame_for}
-use Rattle.vp_encode.specs.Choice.{IsChosen}
-use Rattle.vp_encode.specs.FrameChoices.{picture_by}
-use Rattle.vp_encode.specs.TooLong.{IsFrameFor, IsTooLongOver}
+use Rattle.vp_encode.specs.CodedFrame.{coded_choice, saved_motion}
+use Rattle.vp_encode.specs.PacketContents.{HasContents}
+use Rattle.vp_encode.specs.Encoder.{EncoderState, AreAllowed, kept_for, context_over, tag_key, frame_for, search_in, continued, quantiser}
+use Rattle.vp_encode.specs.FrameChoices.{macroblock_by, picture_before, picture_by, saved_motions, AreUnsegmented}
+use Rattle.vp_encode.specs.Choice.{rebuilt_before, choice_read, AreChoices, IsChosen}
+use Rattle.vp_encode.specs.TooLong.{IsFrameFor}
 use Rattle.vp_encode.specs.Between.{HasSize, IsPacketOver, IsKeptFor, IsSound, ShowsNewest}
-use Rattle.vp_encode.proofs.Showing.{told_shows}
-use Rattle.vp_encode.proofs.Carried.{segments_stay, chosen_unsegmented, carried, rebuilt_carried}
+use Rattle.vp_encode.proofs.Candidates.{at-mapped, candidates-same, motion_by-at}
+use Rattle.vp_encode.proofs.ChoosingLemmas.{AreLike, AreSameCandidates, choice_like, around, rows-same, rebuilt_before-same}
 
 -- Limits that are wide enough for every picture are so for this one.
 product : (w h : ℕ) → w ≤ 16383 → h ≤ 16383 → w * h ≤ 268402689
 product w h a b = grind arith
 
-size_fits : (dim : Dim) (pixels : ℕ) → 268402689 ≤ pixels → dim.w * dim.h ≤ pixels
+pub size_fits : (dim : Dim) (pixels : ℕ) → 268402689 ≤ pixels → dim.w * dim.h ≤ pixels
 size_fits dim pixels wide = let p = product dim.w dim.h dim.w_in_range.1 dim.h_in_range.1 in omega arith
 
--- what the packet leaves, under all limits that its size passes
-pub record Leaves (dim : Dim) (state : Option DecoderState) (packet : List ℕ) : Type 0 where
-  pub kept : DecoderState
-  pub sound : IsKeptFor dim kept
-  pub is : (limits : Limits) → dim.w * dim.h ≤ limits.pixels → step limits state packet ≡ (Some kept, Shown kept.references.newest)
+-- ---- how a packet is opened
 
--- a frame of this size, whose macroblocks are of segment 0
-pub record IsPlain (dim : Dim) (c : CodedFrame) : Type 0 where
-  pub columns : c.macroblocks.columns ≡ macroblocks dim.w
-  pub rows : c.macroblocks.rows ≡ macroblocks dim.h
-  pub zero : (p : Place) → Has c.macroblocks p → (coded_choice c p).modes.segment ≡ 0
+-- the packet is opened so over a state, under all limits that its size passes, and says the frame
+record IsOpened (dim : Dim) (state kept : Option DecoderState) (c : CodedFrame) (packet : List ℕ) : Type 0 where
+  opening : ParsedPacket
+  opens : (limits : Limits) → dim.w * dim.h ≤ limits.pixels → parsed limits state packet ≡ Ok opening
+  says : HasContents (tag_key dim kept) (context_over dim kept) c packet opening
 
 -- a context of this size
 record IsBasisOf (dim : Dim) (context : FrameContext) : Type 0 where
-  width_is : context.width ≡ dim.w
-  height_is : context.height ≡ dim.h
+  width : context.width ≡ dim.w
+  height : context.height ≡ dim.h
   columns : context.modes.columns ≡ macroblocks dim.w
   rows : context.modes.rows ≡ macroblocks dim.h
 
-told_leaves : KeepsShape → (dim : Dim) (key : Option KeyTag) (context : FrameContext) (state : Option DecoderState) (c : CodedFrame) (packet : List ℕ) → IsPlain dim c → IsBasisOf dim context → context_of key state ≡ Ok context
-    → ((limits : Limits) → dim.w * dim.h ≤ limits.pixels → IfSome key (λ k. k.dim.w * k.dim.h ≤ limits.pixels)) → EncodesFrame key context c packet → Leaves dim state packet
-told_leaves law dim key context state c packet simple sized over within x =
-    let o : ParsedPacket = x.opening in
-    let s = picture_shaped law (frame_of_packet o) in
-    let newest = newest_is o.context.references o.header (picture_of (frame_of_packet o)) in
-    record {
-      kept = state_after o;
-      sound = record {
-        size = record {
-          width = ap (λ (p : Image). p.width) newest ∙ s.width_is ∙ ap (λ (b : FrameContext). b.width) x.says.context_is ∙ sized.width_is;
-          height = ap (λ (p : Image). p.height) newest ∙ s.height_is ∙ ap (λ (b : FrameContext). b.height) x.says.context_is ∙ sized.height_is;
-        };
-        segments = segments_stay dim key context c packet o sized.columns sized.rows simple.columns simple.rows x.says simple.zero;
-      };
-      is = λ limits fits. told_shows key context c packet x limits state over (within limits fits) ∙ ap (λ (p : Image). (Some (state_after o), Shown p)) (sym newest);
-    }
-
-key_sized : (dim : Dim) → IsBasisOf dim (key_context dim)
-key_sized dim = record { width_is = refl; height_is = refl; columns = refl; rows = refl }
-
-inter_sized : (dim : Dim) (k : DecoderState) → IsKeptFor dim k → IsBasisOf dim (inter_context k)
-inter_sized dim k sound = record { width_is = sound.size.width; height_is = sound.size.height; columns = sound.segments.columns; rows = sound.segments.rows }
-
--- What the next frame is told over is nothing, or the state that stands.
-none_or : (b : Bool) (state : Option DecoderState) → ((if b then None else state) ≡ None) ⊎ ((if b then None else state) ≡ state)
-none_or true state = inl refl
-none_or false state = inr refl
-
+-- The next frame is coded with nothing, or with the state.
 kept_is : (e : EncoderState) → (kept_for e ≡ None) ⊎ (kept_for e ≡ e.state)
-kept_is e = none_or (eqb e.since e.settings.key_every) e.state
+kept_is e = elim (cases_Bool (e.since == e.settings.key_every)) [ inl now ↦ inl (rw now refl) | inr later ↦ inr (rw later refl) ]
 
-basis_sized : (dim : Dim) (state kept : Option DecoderState) → (kept ≡ None) ⊎ (kept ≡ state) → IfSome state (IsKeptFor dim) → IsBasisOf dim (context_over dim kept)
-basis_sized dim state None is sound = key_sized dim
-basis_sized dim state (Some k) is sound = elim is [
-  | inl e ↦ absurd cc
-  | inr e ↦ inter_sized dim k (subst (λ (s : Option DecoderState). IfSome s (IsKeptFor dim)) (sym e) sound)
+opened : (dim : Dim) (state kept : Option DecoderState) (c : CodedFrame) (packet : List ℕ) → (kept ≡ None) ⊎ (kept ≡ state) → IsPacketOver dim kept c packet → IsOpened dim state kept c packet
+opened dim state None c packet is x = record { opening = x.opening; opens = λ limits fits. x.opens limits state refl fits; says = x.says }
+opened dim state (Some k) c packet (inl e) x = absurd cc
+opened dim state (Some k) c packet (inr e) x =
+    let y = x k refl refl in
+    record { opening = y.opening; opens = λ limits fits. subst (λ (s : Option DecoderState). parsed limits s packet ≡ Ok y.opening) e (y.opens limits (Some k) refl tt); says = y.says }
+
+basis : (dim : Dim) (state kept : Option DecoderState) → (kept ≡ None) ⊎ (kept ≡ state) → IfSome state (IsKeptFor dim) → IsBasisOf dim (context_over dim kept)
+basis dim state None is sound = record { width = refl; height = refl; columns = refl; rows = refl }
+basis dim state (Some k) (inl e) sound = absurd cc
+basis dim state (Some k) (inr e) sound =
+    let stands : IsKeptFor dim k = subst (λ (s : Option DecoderState). IfSome s (IsKeptFor dim)) (sym e) sound in
+    record { width = stands.size.width; height = stands.size.height; columns = stands.segments.columns; rows = stands.segments.rows }
+
+-- the step of a packet that is opened
+opened_step : (limits : Limits) (state : Option DecoderState) (packet : List ℕ) (o : ParsedPacket) → parsed limits state packet ≡ Ok o → step limits state packet ≡ decoded (Ok o)
+unfolding step parsed tag_of
+opened_step limits state [] o e = absurd cc
+opened_step limits state (b ∷ bs) o e = ap decoded e
+
+-- ---- the maps that are read have the frame's size
+
+rows-kept : {A : Type 0} (P : A → Type 0) (n : ℕ) (row : ℕ → A → Reader A) (a : A) (s : State) → ((k : ℕ) (b : A) (t : State) → P b → P (row k b t).0) → P a → P (rows_of n row a s).0
+unfolding rows_of bind
+rows-kept P zero row a s keeps h = h
+rows-kept P (suc n) row a s keeps h = keeps n (rows_of n row a s).0 (rows_of n row a s).1 (rows-kept P n row a s keeps h)
+
+-- the motion has this size
+abbrev IsSized : ℕ → ℕ → MacroblockInfo → Type 0
+IsSized columns rows m = (m.motion.columns ≡ columns) × (m.motion.rows ≡ rows)
+
+macroblock-sized : (columns rows : ℕ) (h : Header) (p : Place) (m : MacroblockInfo) (s : State) → IsSized columns rows m → IsSized columns rows (macroblock_read h p m s).0
+unfolding macroblock_read motion_read bind
+macroblock-sized columns rows h p m s sized = elim (cases_Bool (is_intra (modes_at h m.modes p s).0.reference)) [ inl own ↦ rw own sized | inr moved ↦ rw moved sized ]
+
+motion-sized : (o : ParsedPacket) → IsSized o.context.modes.columns o.context.modes.rows (frame_info_of o).maps
+unfolding frame_info_of maps_read row_read
+motion-sized o =
+    let columns = o.context.modes.columns in
+    let rows = o.context.modes.rows in
+    rows-kept (IsSized columns rows) rows (row_read o.header columns) _ o.first
+    (λ row a t. rows-kept (IsSized columns rows) columns (λ column. macroblock_read o.header (place row column)) a t
+    (λ column. macroblock-sized columns rows o.header (place row column))) (refl, refl)
+
+segment_at : (g : Grid Modes) (p : Place) → at 0 (segments_of g) p ≡ (at plain g p).segment
+unfolding plain
+segment_at g p = at-mapped (λ (m : Modes). m.segment) plain g p
+
+-- ---- a macroblock, as it is read
+
+-- what it is predicted from
+source_read : (s : Settings) (dim : Dim) (kept : Option DecoderState) (version : ℕ) (modes : Modes) (motion : MacroblockMotion) (c : Choice)
+    → version ≡ 0 → modes ≡ c.modes → motion ≡ saved_motion c → source_read_by (context_over dim kept).references version modes motion ≡ source_by (search_in s kept) c
+source_read s dim None version modes motion c v m e = ap Intra m
+source_read s dim (Some k) version modes motion c v m e = elim (cases_Bool (is_intra c.modes.reference)) [
+  | inl own ↦
+      let too : is_intra modes.reference ≡ true = ap (λ (x : Modes). is_intra x.reference) m ∙ own in
+      rw (own, too) (ap Intra m)
+  | inr away ↦
+      let too : is_intra modes.reference ≡ false = ap (λ (x : Modes). is_intra x.reference) m ∙ away in
+      let entry : motion ≡ record { reference = c.modes.reference; mode = c.motion.mode; vectors = c.motion.vectors } = e ∙ rw away refl in
+      rw (away, too) (λ i. Inter (entry i) (reference_picture k.references (m i).reference) (v i))
 ]
 
-packet_leaves : KeepsShape → (dim : Dim) (state kept : Option DecoderState) (c : CodedFrame) (packet : List ℕ) → (kept ≡ None) ⊎ (kept ≡ state)
-    → IsPlain dim c → IfSome state (IsKeptFor dim) → IsPacketOver dim kept c packet → Leaves dim state packet
-packet_leaves law dim state None c packet is simple sound x =
-    told_leaves law dim (Some (key_tag dim)) (key_context dim) state c packet simple (key_sized dim) refl (λ limits fits. fits) x
-packet_leaves law dim state (Some k) c packet is simple sound x = elim is [
-  | inl e ↦ absurd cc
-  | inr e ↦ subst (λ (s : Option DecoderState). Leaves dim s packet) e
-      (told_leaves law dim None (inter_context k) (Some k) c packet simple (basis_sized dim state (Some k) (inr e) sound) refl (λ limits fits. tt) (x k refl refl))
-]
+index_same : (n : ℕ) → n ≤ 127 → min n 127 ≡ n
+index_same n h = omega arith
 
--- ---- what the packet says
+-- ---- the frame, as it is read
 
-abbrev SaysOver : Dim → Option DecoderState → CodedFrame → List ℕ → ParsedPacket → Type 0
-SaysOver dim kept c packet = HasContents (tag_key dim kept) (context_over dim kept) c packet
+module _ (e : EncoderState) (source : Image) (c : CodedFrame) (packet : List ℕ) (allowed : AreAllowed e.settings) (sound : IfSome e.state (IsKeptFor e.dim))
+    (size : HasSize e.dim source) (is : IsFrameFor e source c) (over : IsPacketOver e.dim (kept_for e) c packet) where
+  abbrev g : Grid Choice
+  g = c.macroblocks
 
-is_ok_and : (P : ParsedPacket → Type 0) (r : Result ParsedPacket PacketFault) (o : ParsedPacket) → r ≡ Ok o → P o → IsOkAnd r P
-is_ok_and P r o is h = subst (λ (z : Result ParsedPacket PacketFault). IsOkAnd z P) (sym is) h
+  abbrev frame : FrameSearch
+  frame = frame_for e source
 
-packet_says : (dim : Dim) (state kept : Option DecoderState) (c : CodedFrame) (packet : List ℕ) → (kept ≡ None) ⊎ (kept ≡ state) → IsPacketOver dim kept c packet
-    → (l : Limits) → dim.w * dim.h ≤ l.pixels → IsOkAnd (parsed l state packet) (SaysOver dim kept c packet)
-packet_says dim state None c packet is x l fits = is_ok_and (SaysOver dim None c packet) (parsed l state packet) x.opening (x.opens l state refl fits) x.says
-packet_says dim state (Some k) c packet is x l fits = elim is [
-  | inl e ↦ absurd cc
-  | inr e ↦ subst (λ (s : Option DecoderState). IsOkAnd (parsed l s packet) (SaysOver dim (Some k) c packet)) e
-      (is_ok_and (SaysOver dim (Some k) c packet) (parsed l (Some k) packet) (x k refl refl).opening ((x k refl refl).opens l (Some k) refl tt) (x k refl refl).says)
-]
+  x : IsOpened e.dim e.state (kept_for e) c packet
+  x = opened e.dim e.state (kept_for e) c packet (kept_is e) over
 
--- ---- the frame that is chosen
+  abbrev o : ParsedPacket
+  o = x.opening
 
-module _ (e : EncoderState) (source : Image) (c : CodedFrame) (allowed : AreAllowed e.settings) (sound : IfSome e.state (IsKeptFor e.dim)) (size : HasSize e.dim source) (is : IsFrameFor e source c) where
-  width : (frame_for e source).source.width ≡ e.dim.w
+  abbrev plan : FrameInfo
+  plan = frame_info_of o
+
+  abbrev parts : List State
+  parts = map initial_state o.partitions
+
+  abbrev read : Place → Macroblock
+  read = (frame_of plan parts e.dim.w e.dim.h).macroblock
+
+  abbrev chosen : Place → Macroblock
+  chosen p = macroblock_by frame (coded_choice c p)
+
+  -- all that is opened has the encoder's size
+  context : IsBasisOf e.dim o.context
+  context = subst (IsBasisOf e.dim) (sym x.says.context_is) (basis e.dim e.state (kept_for e) (kept_is e) sound)
+
+  width : frame.source.width ≡ e.dim.w
   unfolding continued
   width = size.width
 
-  height : (frame_for e source).source.height ≡ e.dim.h
+  height : frame.source.height ≡ e.dim.h
   unfolding continued
   height = size.height
 
-  whole : record { header = header_of e; macroblocks = c.macroblocks } ≡ c
-  whole = λ i. record { header = sym is.header i; macroblocks = c.macroblocks }
+  columns : g.columns ≡ macroblocks e.dim.w
+  columns = is.chosen.columns ∙ ap macroblocks width
 
-  pub frame_plain : IsPlain e.dim c
-  frame_plain = record {
-    columns = is.chosen.columns ∙ ap macroblocks width;
-    rows = is.chosen.rows ∙ ap macroblocks height;
-    zero = λ p has. chosen_unsegmented (frame_for e source) c.macroblocks is.chosen p has;
+  rows : g.rows ≡ macroblocks e.dim.h
+  rows = is.chosen.rows ∙ ap macroblocks height
+
+  inside : (p : Place) → p.column < macroblocks e.dim.w → p.row < macroblocks e.dim.h → Has g p
+  inside p column row = let a = columns in let b = rows in record { column = omega arith; row = omega arith }
+
+  source_same : (p : Place) → Has g p → predictor_at plan p ≡ source_by frame.search (coded_choice c p)
+  unfolding predictor_at frame_info_of
+  source_same p has =
+      ap (λ (b : FrameContext). source_read_by b.references o.tag.version (modes_in plan.maps p) (motion_in plan.maps p)) x.says.context_is
+      ∙ source_read e.settings e.dim (kept_for e) o.tag.version (modes_in plan.maps p) (motion_in plan.maps p) (coded_choice c p) x.says.version (x.says.modes p has) (x.says.motion p has)
+
+  factors_same : (p : Place) → factors_at plan p ≡ frame.factors
+  unfolding factors_at frame_info_of
+  factors_same p =
+      ap (λ (h : Header). factors (index_of h (modes_in plan.maps p).segment) h.quantiser) (x.says.header ∙ is.header)
+      ∙ ap (λ (n : ℕ). factors n (quantiser e.settings.qi)) (index_same e.settings.qi allowed.quantiser)
+
+  macroblock_same : (p : Place) → Has g p → chosen p ≡ read p
+  macroblock_same p has = λ i. macroblock_of (sym (source_same p has) i) (sym (x.says.tokens p has) i) (sym (factors_same p) i)
+
+  like : (p : Place) → Has g p → AreLike (coded_choice c p) (choice_read plan parts p)
+  like p has = record {
+    modes = sym (x.says.modes p has);
+    tokens = sym (x.says.tokens p has);
+    motion = λ away.
+        let entry : motion_in plan.maps p ≡ record { reference = (coded_choice c p).modes.reference; mode = (coded_choice c p).motion.mode; vectors = (coded_choice c p).motion.vectors } =
+        x.says.motion p has ∙ rw away refl in
+        λ i. record { mode = (sym entry i).mode; vectors = (sym entry i).vectors };
   }
 
-  module _ (packet : List ℕ) (over : IsPacketOver e.dim (kept_for e) c packet) where
-    pub frame_leaves : KeepsShape → Leaves e.dim e.state packet
-    frame_leaves law = packet_leaves law e.dim e.state (kept_for e) c packet (kept_is e) frame_plain sound over
+  pictures_same : (p : Place) → Has g p → picture_before frame g p ≡ rebuilt_before e.dim.w e.dim.h read p
+  pictures_same p has =
+      let wide = columns in
+      (λ i. rebuilt_before (width i) (height i) chosen p)
+      ∙ rebuilt_before-same e.dim.w e.dim.h chosen read p (omega arith)
+      (λ q within earlier. macroblock_same q (let up = earlier.row in let row = has.row in record { column = omega arith; row = omega arith }))
 
-    says_whole : (l : Limits) → e.dim.w * e.dim.h ≤ l.pixels
-        → IsOkAnd (parsed l e.state packet) (SaysOver e.dim (kept_for e) (record { header = header_of e; macroblocks = c.macroblocks }) packet)
-    says_whole l fits =
-        subst (λ (x : CodedFrame). IsOkAnd (parsed l e.state packet) (SaysOver e.dim (kept_for e) x packet)) (sym whole)
-        (packet_says e.dim e.state (kept_for e) c packet (kept_is e) over l fits)
+  candidates_same : (p : Place) → Has g p → AreSameCandidates (saved_motions g) plan.maps.motion p
+  candidates_same p has r =
+      candidates-same (saved_motions g) plan.maps.motion p r no_biases (around (saved_motions g) plan.maps.motion p
+      (columns ∙ sym ((motion-sized o).0 ∙ context.columns)) (rows ∙ sym ((motion-sized o).1 ∙ context.rows)) has.column
+      (λ q within earlier. motion_by-at g q ∙ sym (x.says.motion q (let up = earlier.row in record { column = within; row = omega arith }))))
 
-    pub frame_chosen : (limits : Limits) → 268402689 ≤ limits.pixels → IsChosen e source packet
-    frame_chosen limits wide =
-        let sized = basis_sized e.dim e.state (kept_for e) (kept_is e) sound in
-        carried e source packet c.macroblocks allowed size.width size.height is.chosen sized.columns sized.rows limits (size_fits e.dim limits.pixels wide) says_whole
+  choices_read : AreChoices e source plan parts
+  choices_read p column row =
+      let has = inside p column row in
+      choice_like frame (picture_before frame g p) (rebuilt_before e.dim.w e.dim.h read p) (saved_motions g) plan.maps.motion p (coded_choice c p) (choice_read plan parts p)
+      (pictures_same p has) (candidates_same p has) (like p has) (is.chosen.each p has).is
 
-    pub frame_rebuilt : (limits : Limits) → 268402689 ≤ limits.pixels → (picture : Image) → picture ≡ picture_by (frame_for e source) c.macroblocks
-        → (o : ParsedPacket) → parsed limits e.state packet ≡ Ok o → IsRebuiltFrame o picture
-    frame_rebuilt limits wide picture by =
-        let sized = basis_sized e.dim e.state (kept_for e) (kept_is e) sound in
-        rebuilt_carried e source packet c.macroblocks allowed size.width size.height is.chosen sized.columns sized.rows limits (says_whole limits (size_fits e.dim limits.pixels wide))
-        picture by sized.width_is sized.height_is
+  pictures_read : (wide high : ℕ) → wide ≡ e.dim.w → high ≡ e.dim.h → picture_by frame g ≡ unfiltered (frame_of plan parts wide high)
+  unfolding unfiltered
+  pictures_read wide high across down =
+      rows-same frame.source.width (macroblocks frame.source.height) chosen read (blank_image frame.source.width frame.source.height 0)
+      (λ q column row. macroblock_same q (record { column = omega arith; row = omega arith }))
+      ∙ (λ i. all_rebuilt read (blank_image ((width ∙ sym across) i) ((height ∙ sym down) i) 0))
 
--- ---- what is shown
+  pub frame_chosen : IsChosen e source packet
+  frame_chosen = record {
+    opening = o;
+    opens = x.opens;
+    version = x.says.version;
+    shown = x.says.shown;
+    key = x.says.key_is;
+    header = x.says.header ∙ is.header;
+    choices = choices_read;
+    first_closed = x.says.first_closed;
+    closed = x.says.closed;
+  }
 
--- what is left and shown, where the decoder's step is known
-pub record IsShown (dim : Dim) (state : Option DecoderState) (packet : List ℕ) (new : Option DecoderState) (recon : Image) : Type 0 where
-  pub decoded : (limits : Limits) → dim.w * dim.h ≤ limits.pixels → step limits state packet ≡ (new, Shown recon)
-  pub size : HasSize dim recon
-  pub kept : IfSome new (IsKeptFor dim)
+  rebuilt_here : (picture : Image) → picture ≡ picture_by frame g → IsRebuiltFrame o picture
+  rebuilt_here picture by = record {
+    picture = by ∙ pictures_read o.context.width o.context.height context.width context.height;
+    skipped = λ q has.
+        let wide = (info-mapped o).columns_are ∙ context.columns in
+        let high = (info-mapped o).rows_are ∙ context.rows in
+        let there = inside q (omega arith) (omega arith) in
+        ap (λ (m : Modes). m.skip) (x.says.modes q there) ∙ (is.chosen.each q there).is.skip ∙ ap (λ (t : Tokens). not (any_token t)) (sym (x.says.tokens q there));
+  }
 
-picture_or : Image → Answer → Image
-picture_or p (Shown q) = q
-picture_or p Hidden = p
-picture_or p (Fault f) = p
+  -- the picture of the choices is the one that the packet describes
+  pub frame_rebuilt : (picture : Image) → picture ≡ picture_by frame g
+      → (limits : Limits) (found : ParsedPacket) → e.dim.w * e.dim.h ≤ limits.pixels → parsed limits e.state packet ≡ Ok found → IsRebuiltFrame found picture
+  frame_rebuilt picture by limits found fits opens =
+      let here = x.opens limits fits in
+      let same : o ≡ found = cc in
+      subst (λ (p : ParsedPacket). IsRebuiltFrame p picture) same (rebuilt_here picture by)
 
-same_picture : (p q : Image) → Shown p ≡ Shown q → p ≡ q
-unfolding picture_or
-same_picture p q e = ap (picture_or p) e
+  -- segments that are 0 stay so
+  unsegmented : AreUnsegmented e.dim (segments_of plan.maps.modes)
+  unsegmented =
+      let wide = (info-mapped o).columns_are ∙ context.columns in
+      let high = (info-mapped o).rows_are ∙ context.rows in
+      record {
+        columns = wide;
+        rows = high;
+        zero = λ p has.
+            let there = inside p (omega arith) (omega arith) in
+            segment_at plan.maps.modes p ∙ ap (λ (m : Modes). m.segment) (x.says.modes p there) ∙ (is.chosen.each p there).is.segment;
+      }
 
-is_shown : (limits : Limits) (dim : Dim) (state : Option DecoderState) (packet : List ℕ) (new : Option DecoderState) (recon : Image) → 268402689 ≤ limits.pixels
-    → Leaves dim state packet → step limits state packet ≡ (new, Shown recon) → IsShown dim state packet new recon
-is_shown limits dim state packet new recon wide l e =
-    let both : (Some l.kept, Shown l.kept.references.newest) ≡ (new, Shown recon) = sym (l.is limits (size_fits dim limits.pixels wide)) ∙ e in
-    let same : l.kept.references.newest ≡ recon = same_picture l.kept.references.newest recon (ap (λ (s : Option DecoderState × Answer). s.1) both) in
-    record {
-      decoded = λ other fits. l.is other fits ∙ both;
-      size = subst (HasSize dim) same l.sound.size;
-      kept = subst (λ (s : Option DecoderState). IfSome s (IsKeptFor dim)) (ap (λ (s : Option DecoderState × Answer). s.0) both) l.sound;
-    }
+  pub frame_shows : KeepsShape → ShowsNewest e.dim e.state packet
+  frame_shows law =
+      let shaped = picture_shaped law (frame_of_packet o) in
+      let newest = newest_is o.context.references o.header (picture_of (frame_of_packet o)) in
+      record {
+        kept = state_after o;
+        sound = record {
+          size = record {
+            width = ap (λ (p : Image). p.width) newest ∙ shaped.width_is ∙ context.width;
+            height = ap (λ (p : Image). p.height) newest ∙ shaped.height_is ∙ context.height;
+          };
+          segments = unsegmented;
+        };
+        is = λ limits fits.
+            opened_step limits e.state packet o (x.opens limits fits)
+            ∙ (λ i. (Some (state_after o), answer (x.says.shown i) (sym newest i)));
+      }
 
--- the state where the decoder came to an end or did not begin
-either_sound : (limits : Limits) (dim : Dim) (state : Option DecoderState) (packet : List ℕ) (new : Option DecoderState) → 268402689 ≤ limits.pixels → Leaves dim state packet
-    → IfSome state (IsKeptFor dim) → (new ≡ state) ⊎ (new ≡ (step limits state packet).0) → IfSome new (IsKeptFor dim)
-either_sound limits dim state packet new wide l sound is =
-    let P : Option DecoderState → Type 0 = λ s. IfSome s (IsKeptFor dim) in
-    elim is [
-      | inl e ↦ subst P (sym e) sound
-      | inr e ↦ subst P (sym (e ∙ ap (λ (s : Option DecoderState × Answer). s.0) (l.is limits (size_fits dim limits.pixels wide)))) l.sound
-    ]
+-- ---- a decoder after such a packet, in what the code has at hand: an encoder that is open
 
--- ---- the same, in what the code has at hand: an encoder z that is open, and the bytes of a packet that are lent
+module _ (dim : Dim) (settings : Settings) (n : ℕ) (d new : Decoder) (e : EncoderState) (packet : List ℕ)
+    (same : record { dim = dim; settings = settings; state = d.state; since = n } ≡ e) (sound : IsSound d.limits (record { dim = dim; settings = settings; state = d.state; since = n }))
+    (shows : ShowsNewest e.dim e.state packet) (stepped : new ≡ after d (step d.limits d.state packet)) where
+  pub kept_shown : new.state ≡ Some shows.kept
+  kept_shown =
+      ap (λ (z : Decoder). z.state) stepped ∙ (λ i. (step d.limits (same i).state packet).0)
+      ∙ ap (λ (s : Option DecoderState × Answer). s.0) (shows.is d.limits (size_fits e.dim d.limits.pixels sound.wide))
 
-module _ (law : KeepsShape) (limits : Limits) (z e : EncoderState) (source : Image) (c : CodedFrame) (packet bytes : List ℕ) (same : z ≡ e) (lent : bytes ≡ packet)
-    (sound : IsSound limits z) (size : HasSize e.dim source) (is : IsFrameFor e source c) (over : IsPacketOver e.dim (kept_for e) c packet) where
-  sound_too : IsSound limits e
-  sound_too = subst (IsSound limits) same sound
-
-  leaves : Leaves e.dim e.state packet
-  leaves = frame_leaves e source c sound_too.settings sound_too.kept size is packet over law
-
-  leaves_here : Leaves z.dim z.state bytes
-  leaves_here = subst (λ (x : EncoderState). Leaves x.dim x.state bytes) (sym same) (subst (Leaves e.dim e.state) (sym lent) leaves)
-
-  pub packet_shows : ShowsNewest limits z.state bytes
-  packet_shows = record { kept = leaves_here.kept; is = leaves_here.is limits (size_fits z.dim limits.pixels sound.wide) }
-
-  pub packet_rebuilt : (picture : Image) → picture ≡ picture_by (frame_for e source) c.macroblocks → (o : ParsedPacket) → parsed limits z.state bytes ≡ Ok o → IsRebuiltFrame o picture
-  packet_rebuilt picture by o opens =
-      frame_rebuilt e source c sound_too.settings sound_too.kept size is packet over limits sound.wide picture by o ((λ i. parsed limits (sym same i).state (sym lent i)) ∙ opens)
-
-  pub packet_shown : (new : Option DecoderState) (recon : Image) → step limits z.state bytes ≡ (new, Shown recon) → IsShown e.dim e.state packet new recon
-  packet_shown new recon shown =
-      let there : step limits z.state bytes ≡ step limits e.state packet = λ i. step limits (same i).state (lent i) in
-      is_shown limits e.dim e.state packet new recon sound.wide leaves (sym there ∙ shown)
-
-  pub packet_kept : (new : Option DecoderState) (recon : Image) → step limits z.state bytes ≡ (new, Shown recon) → IfSome new (IsKeptFor z.dim)
-  packet_kept new recon shown = subst (λ (x : EncoderState). IfSome new (IsKeptFor x.dim)) (sym same) (packet_shown new recon shown).kept
-
-  pub either_kept : (new : Option DecoderState) → (new ≡ z.state) ⊎ (new ≡ (step limits z.state bytes).0) → IfSome new (IsKeptFor z.dim)
-  either_kept new either = either_sound limits z.dim z.state bytes new sound.wide leaves_here sound.kept either
-
--- ---- what a frame is told over
-
--- a key frame is told over nothing
-module _ (e : EncoderState) (dim : Dim) (c : CodedFrame) (same : dim ≡ e.dim) (over : None ≡ kept_for e) where
-  pub told_over_nothing : CanBeEncoded (next_is_key e) (context_for e).saved (context_for e).modes c → CanBeEncoded true (key_context dim).saved (key_context dim).modes c
-  told_over_nothing told =
-      let T : Dim → Option DecoderState → Type 0 = λ d o. CanBeEncoded (is_none o) (context_over d o).saved (context_over d o).modes c in
-      subst (λ (d : Dim). T d None) (sym same) (subst (T e.dim) (sym over) told)
-
-  pub packet_over_nothing : (result : Result (List ℕ) PacketError) → IfOk result (λ v. IsKeyFramePacket dim c v) → IfOk result (λ v. IsPacketOver e.dim (kept_for e) c v)
-  packet_over_nothing result is =
-      let P : Dim → Option DecoderState → Type 0 = λ d o. IfOk result (λ v. IsPacketOver d o c v) in
-      subst (P e.dim) over (subst (λ (d : Dim). P d None) same is)
-
-  pub long_over_nothing : (result : Result (List ℕ) PacketError)
-      → IfErr result (λ f. f ≡ TooLong → HasLongPartition (Some (key_tag dim)) (key_context dim).saved (maps_before (key_context dim).modes) c)
-      → IfErr result (λ f. f ≡ TooLong → IsTooLongOver e.dim (kept_for e) c)
-  long_over_nothing result is =
-      let P : Dim → Option DecoderState → Type 0 = λ d o. IfErr result (λ f. f ≡ TooLong → IsTooLongOver d o c) in
-      subst (P e.dim) over (subst (λ (d : Dim). P d None) same is)
-
--- an inter frame is told over what is kept
-module _ (e : EncoderState) (k : DecoderState) (saved : Saved) (segments : Grid Segment) (c : CodedFrame)
-    (over : Some k ≡ kept_for e) (values : saved ≡ k.saved) (numbers : segments ≡ k.segments) where
-  pub told_over_kept : CanBeEncoded (next_is_key e) (context_for e).saved (context_for e).modes c → CanBeEncoded false saved (of_segments segments) c
-  told_over_kept told =
-      let T : Option DecoderState → Type 0 = λ o. CanBeEncoded (is_none o) (context_over e.dim o).saved (context_over e.dim o).modes c in
-      let K : Saved → Grid Segment → Type 0 = λ s g. CanBeEncoded false s (of_segments g) c in
-      subst (λ (s : Saved). K s segments) (sym values) (subst (K k.saved) (sym numbers) (subst T (sym over) told))
-
-  pub packet_over_kept : (result : Result (List ℕ) PacketError) → IfOk result (λ v. IsInterFramePacket saved segments c v) → IfOk result (λ v. IsPacketOver e.dim (kept_for e) c v)
-  packet_over_kept result is =
-      let P : Option DecoderState → Type 0 = λ o. IfOk result (λ v. IsPacketOver e.dim o c v) in
-      let K : Saved → Grid Segment → Type 0 = λ s g. IfOk result (λ v. IsInterFramePacket s g c v) in
-      subst P over (subst (K k.saved) numbers (subst (λ (s : Saved). K s segments) values is))
-
-  pub long_over_kept : (result : Result (List ℕ) PacketError)
-      → IfErr result (λ f. f ≡ TooLong → HasLongPartition None saved (maps_before (of_segments segments)) c)
-      → IfErr result (λ f. f ≡ TooLong → IsTooLongOver e.dim (kept_for e) c)
-  long_over_kept result is =
-      let P : Option DecoderState → Type 0 = λ o. IfErr result (λ f. f ≡ TooLong → IsTooLongOver e.dim o c) in
-      let K : Saved → Grid Segment → Type 0 = λ s g. IfErr result (λ f. f ≡ TooLong → HasLongPartition None s (maps_before (of_segments g)) c) in
-      subst P over (subst (K k.saved) numbers (subst (λ (s : Saved). K s segments) values is))
+  pub sound_after : (since : ℕ) → since ≤ settings.key_every → IsSound new.limits (record { dim = dim; settings = settings; state = new.state; since = since })
+  sound_after since few = record {
+    wide = rw stepped sound.wide;
+    settings = sound.settings;
+    since = few;
+    kept = subst (λ (z : EncoderState). IfSome new.state (IsKeptFor z.dim)) (sym same) (rw kept_shown shows.sound);
+  }

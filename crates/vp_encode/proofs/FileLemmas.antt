@@ -28,7 +28,7 @@ use Rattle.vp_encode.specs.declared.report.EncodeAllFault.TheVariants as fault
 use Rattle.vp_encode.specs.Encoder.{EncoderState, AreAllowed}
 use Rattle.vp_encode.specs.Encoded.{EncodedFrame, IsEncoded, AreEncoded, initial_encoder, packet_length, error_of}
 use Rattle.vp_encode.specs.Pictures.{IsPicture, BeginWith}
-use Rattle.vp_encode.specs.File.{IsWrittenFurther, Work, IsDone, HasAllPictures, IsEncodeReported, HasOneMore, IsEndedBehind, IsAnswerBehind, IsAnswerOver, HasDone, AreFramesOf, most_reads, source_of, packet_of, ivf_text, encoded_file, encode_fault_of, frames_report, so_far_of, progress_after, progress_of_frames}
+use Rattle.vp_encode.specs.File.{IsWrittenFurther, Work, IsDone, HasAllPictures, IsEncodeReported, HasOneMore, IsEndedBehind, IsAnswerBehind, IsAnswerOver, IsWatched, HasDone, AreFramesOf, most_reads, source_of, packet_of, ivf_text, encoded_file, encode_fault_of, frames_report, so_far_of, progress_after, progress_of_frames}
 use Rattle.vp_encode.specs.EncodeProgress.{EncodeProgress, IsAdded, IsPictureRefused, IsHeadLine, IsBegun, IsAt, HasWorkFrames, EndsEncode, start}
 
 -- ---- small facts, for where much else is known
@@ -51,6 +51,9 @@ begins_more : (w h : ℕ) (bytes : List ℕ) (ps : List Image) (mid : List ℕ) 
     → BeginWith w h bytes ps mid → IsPicture w h p → next_of w h mid ≡ Ok (Some (i420 p, rest)) → BeginWith w h bytes (ps ++ p ∷ []) rest
 begins_more w h bytes [] mid p rest e is next = (rest, is, ap (next_of w h) e ∙ next, refl)
 begins_more w h bytes (q ∷ ps) mid p rest b is next = (b.0, b.1, b.2, begins_more w h b.0 ps mid p rest b.3 is next)
+
+pub is_picture : (w h : ℕ) (p : Image) (before after : Option (List ℕ)) → GivesPicture w h p before after → IsPicture w h p
+is_picture w h p before after s = record { width = s.width; height = s.height; outside = s.outside }
 
 encoded_more : (e : EncoderState) (fs : List EncodedFrame) (mid : EncoderState) (f : EncodedFrame) (last : EncoderState)
     → AreEncoded e fs mid → IsEncoded mid f last → AreEncoded e (fs ++ f ∷ []) last
@@ -76,20 +79,17 @@ at_start head begun first = record {
   small = All-nil (λ f. length f.packet ≤ begun.limits.packet_bytes);
 }
 
-pub at_more : (head : Head) (begun now new : EncodeProgress) (bytes taken : List ℕ) (frames : List EncodedFrame) (f : EncodedFrame)
-    → IsAt head begun now bytes frames → IsPicture head.w head.h f.source
-    → ((rest : List ℕ) → next_of head.w head.h (taken ++ rest) ≡ Ok (Some (i420 f.source, rest)))
-    → IsAdded now f new → IsAt head begun new (bytes ++ taken) (frames ++ f ∷ [])
-at_more head begun now new bytes taken frames f h is next a =
+-- one picture more, whose frame is added
+pub at_next : (head : Head) (begun now new : EncodeProgress) (bytes : List ℕ) (frames : List EncodedFrame) (p : Image) (before after : Option (List ℕ))
+    → IsAt head begun now bytes frames → (s : GivesPicture head.w head.h p before after) → (f : EncodedFrame) → f.source ≡ p → IsAdded now f new
+    → IsAt head begun new (bytes ++ s.shown.taken) (frames ++ f ∷ [])
+at_next head begun now new bytes frames p before after h s f is a =
     let P : EncodedFrame → Type 0 = λ x. length x.packet ≤ begun.limits.packet_bytes in
     let many : length now.packets ≡ length frames = ap length h.packets ∙ length-map frames packet_of in
     record {
       pictures = λ rest.
-          let B : List ℕ → Type 0 = λ b. BeginWith head.w head.h b (map source_of (frames ++ f ∷ [])) rest in
-          let Q : List Image → Type 0 = λ ps. BeginWith head.w head.h (bytes ++ (taken ++ rest)) ps rest in
-          subst B (sym (append_assoc bytes taken rest))
-          (subst Q (sym (map-append source_of frames (f ∷ [])))
-          (begins_more head.w head.h (bytes ++ (taken ++ rest)) (map source_of frames) (taken ++ rest) f.source rest (h.pictures (taken ++ rest)) is (next rest)));
+          rw (append_assoc, map-append source_of frames, is)
+          (begins_more head.w head.h (bytes ++ (s.shown.taken ++ rest)) (map source_of frames) (s.shown.taken ++ rest) p rest (h.pictures (s.shown.taken ++ rest)) (is_picture head.w head.h p before after s) (s.shown.shown rest));
       encoded = encoded_more begun.encoder frames now.encoder f new.encoder h.encoded a.encoded;
       dim = a.encoded.dim ∙ h.dim;
       limits = a.limits ∙ h.limits;
@@ -97,7 +97,7 @@ at_more head begun now new bytes taken frames f h is next a =
       bytes_are = a.bytes ∙ (ap (λ n. n + packet_length f) h.bytes_are ∙ sym (sum_more packet_length frames f));
       error = a.error ∙ (ap (λ n. n + error_of f) h.error ∙ sym (sum_more error_of frames f));
       few = let room = a.room in let same = ap (λ (l : Limits). l.packets) h.limits in omega (arith, length-append frames (f ∷ []));
-      small = All-push P frames f h.small (let L : Limits → Type 0 = λ l. length f.packet ≤ l.packet_bytes in subst L h.limits a.small);
+      small = All-push P frames f h.small (rw (← h.limits) a.small);
     }
 
 -- ---- what a watcher is told
@@ -151,9 +151,8 @@ module _ (front : List ℕ) (head : Head) (begun now : EncodeProgress) (bytes : 
     small = h.small;
   }
 
-  one_more : (taken : List ℕ) (p : Image) → IsPicture head.w head.h p
-      → ((rest : List ℕ) → next_of head.w head.h (taken ++ rest) ≡ Ok (Some (i420 p, rest))) → HasOneMore (work taken) p
-  one_more taken p is next = ([], is, ap (next_of head.w head.h) (sym (append-nil taken)) ∙ next [], refl)
+  one_more : (p : Image) (before after : Option (List ℕ)) → (s : GivesPicture head.w head.h p before after) → HasOneMore (work s.shown.taken) p
+  one_more p before after s = ([], is_picture head.w head.h p before after s, ap (next_of head.w head.h) (sym (append-nil s.shown.taken)) ∙ s.shown.shown [], refl)
 
   many : length now.packets ≡ length frames
   many = ap length h.packets ∙ length-map frames packet_of
@@ -167,64 +166,33 @@ module _ (front : List ℕ) (head : Head) (begun now : EncodeProgress) (bytes : 
   most : now.limits.packets ≡ begun.limits.packets
   most = ap (λ (l : Limits). l.packets) h.limits
 
-  -- the run refuses a picture
-  refused : (taken : List ℕ) (p : Image) → IsPicture head.w head.h p
-      → ((rest : List ℕ) → next_of head.w head.h (taken ++ rest) ≡ Ok (Some (i420 p, rest)))
-      → (f : EncodeAllFault) → IsPictureRefused now p f → (written : Option (List ℕ)) → IsEndedBehind (length frames) begun.limits begun.encoder.settings f (front ++ (bytes ++ taken)) written written
-  refused taken p is next fault.Magic r written = absurd r
-  refused taken p is next fault.Size r written = absurd r
-  refused taken p is next fault.Colour r written = absurd r
-  refused taken p is next fault.Interlaced r written = absurd r
-  refused taken p is next fault.Torn r written = absurd r
-  refused taken p is next fault.Settings r written = absurd r
-  refused taken p is next fault.TooMany r written = (work taken, p, counted taken, one_more taken p is next, sym many ∙ (r ∙ most))
-  refused taken p is next fault.TooLong r written =
-      let room = r.0 in let same = most in let number = many in
-      (work taken, p, counted taken, one_more taken p is next, omega arith, r.1)
-  refused taken p is next fault.PacketTooLarge r written =
-      let room = r.3 in let same = most in let number = many in
-      let M : Image → Type 0 = λ q. HasOneMore (work taken) q in
-      let L : Limits → Type 0 = λ l. l.packet_bytes < length r.0.packet in
-      (work taken, r.0, r.1, counted taken, subst M (sym r.2) (one_more taken p is next), omega arith, r.4, subst L h.limits r.5)
-  refused taken p is next fault.Device r written = absurd r
-  refused taken p is next fault.Memory r written = inr (work taken, counted taken)
-
-  pub refused_behind : (taken : List ℕ) (p : Image) → IsPicture head.w head.h p
-      → ((rest : List ℕ) → next_of head.w head.h (taken ++ rest) ≡ Ok (Some (i420 p, rest)))
-      → (f : EncodeAllFault) → IsPictureRefused now p f
-      → AreFramesOf begun.limits begun.encoder.settings (front ++ (bytes ++ taken)) frames
+  -- the work ended by this fault behind these pictures, before anything was written
+  abbrev EndedBy : EncodeAllFault → List ℕ → Type 0
+  EndedBy f taken = AreFramesOf begun.limits begun.encoder.settings (front ++ (bytes ++ taken)) frames
       × ((written : Option (List ℕ)) → IsEndedBehind (length frames) begun.limits begun.encoder.settings f (front ++ (bytes ++ taken)) written written)
-  refused_behind taken p is next f r = (are taken, refused taken p is next f r)
+
+  -- the run refuses a picture
+  pub refused_behind : (p : Image) (before after : Option (List ℕ)) → (s : GivesPicture head.w head.h p before after)
+      → (f : EncodeAllFault) → IsPictureRefused now p f → EndedBy f s.shown.taken
+  refused_behind p before after s fault.TooMany r = let taken = s.shown.taken in
+      (are taken, λ written. (work taken, p, counted taken, one_more p before after s, sym many ∙ (r ∙ most)))
+  refused_behind p before after s fault.TooLong r =
+      let room = r.0 in let same = most in let number = many in let taken = s.shown.taken in
+      (are taken, λ written. (work taken, p, counted taken, one_more p before after s, omega arith, r.1))
+  refused_behind p before after s fault.PacketTooLarge r =
+      let room = r.3 in let same = most in let number = many in let taken = s.shown.taken in
+      (are taken, λ written. (work taken, r.0, r.1, counted taken, rw r.2 (one_more p before after s), omega arith, r.4, rw (← h.limits) r.5))
+  refused_behind p before after s fault.Memory r = let taken = s.shown.taken in (are taken, λ written. inr (work taken, counted taken))
+  refused_behind p before after s f r = absurd r
 
   -- the source has a fault behind these pictures
-  shown_end : (f : SourceFault) (taken : List ℕ) → ((rest : List ℕ) → next_of head.w head.h (taken ++ rest) ≡ Err f) → next_of head.w head.h taken ≡ Err f
-  shown_end f taken next = ap (next_of head.w head.h) (sym (append-nil taken)) ∙ next []
-
-  pub failed : (f : SourceFault) (before after : Option (List ℕ)) → Fails (next_of head.w head.h) f before after
-      → (taken : List ℕ) × Consumes before after taken
-      × AreFramesOf begun.limits begun.encoder.settings (front ++ (bytes ++ taken)) frames
-      × ((written : Option (List ℕ)) → IsEndedBehind (length frames) begun.limits begun.encoder.settings (encode_fault_of f) (front ++ (bytes ++ taken)) written written)
-  failed source.Magic before after s = (s.taken, s.consumed, are s.taken, λ written. inr (work s.taken, counted s.taken, shown_end source.Magic s.taken s.shown))
-  failed source.Size before after s = (s.taken, s.consumed, are s.taken, λ written. inr (work s.taken, counted s.taken, shown_end source.Size s.taken s.shown))
-  failed source.Colour before after s = (s.taken, s.consumed, are s.taken, λ written. inr (work s.taken, counted s.taken, shown_end source.Colour s.taken s.shown))
-  failed source.Interlaced before after s = (s.taken, s.consumed, are s.taken, λ written. inr (work s.taken, counted s.taken, shown_end source.Interlaced s.taken s.shown))
-  failed source.Torn before after s = (s.taken, s.consumed, are s.taken, λ written. inr (work s.taken, counted s.taken, s.shown))
-  failed source.Device before after s = (s.0, s.1, are s.0, λ written. inl (refl, inr (work s.0, counted s.0)))
-  failed source.Memory before after s = absurd s
-
   pub next_failed : (f : SourceFault) (before after : Option (List ℕ)) → (f ≢ source.Memory → Fails (next_of head.w head.h) f before after)
-      → (f ≡ source.Memory → after ≡ before)
-      → (taken : List ℕ) × Consumes before after taken
-      × AreFramesOf begun.limits begun.encoder.settings (front ++ (bytes ++ taken)) frames
-      × ((written : Option (List ℕ)) → IsEndedBehind (length frames) begun.limits begun.encoder.settings (encode_fault_of f) (front ++ (bytes ++ taken)) written written)
-  next_failed source.Magic before after s m = failed source.Magic before after (s (λ e. cc))
-  next_failed source.Size before after s m = failed source.Size before after (s (λ e. cc))
-  next_failed source.Colour before after s m = failed source.Colour before after (s (λ e. cc))
-  next_failed source.Interlaced before after s m = failed source.Interlaced before after (s (λ e. cc))
-  next_failed source.Torn before after s m = failed source.Torn before after (s (λ e. cc))
-  next_failed source.Device before after s m = failed source.Device before after (s (λ e. cc))
-  next_failed source.Memory before after s m =
-      let C : Option (List ℕ) → Type 0 = λ a. Consumes before a [] in ([], subst C (sym (m refl)) (Consumes-nil before), are [], λ written. inr (work [], counted []))
+      → (f ≡ source.Memory → after ≡ before) → (taken : List ℕ) × Consumes before after taken × EndedBy (encode_fault_of f) taken
+  next_failed source.Memory before after s m = ([], rw (m refl) (Consumes-nil before), (are [], λ written. inr (work [], counted [])))
+  next_failed source.Device before after s m = let t = s (λ e. cc) in (t.0, t.1, (are t.0, λ written. inl (refl, inr (work t.0, counted t.0))))
+  next_failed source.Torn before after s m = let t = s (λ e. cc) in (t.taken, t.consumed, (are t.taken, λ written. inr (work t.taken, counted t.taken, t.shown)))
+  next_failed f before after s m = let t = s (λ e. cc) in
+      (t.taken, t.consumed, (are t.taken, λ written. inr (work t.taken, counted t.taken, ap (next_of head.w head.h) (sym (append-nil t.taken)) ∙ t.shown [])))
 
   -- all pictures were encoded
   pub ended : (before after : Option (List ℕ)) → ShowsAtEnd (next_of head.w head.h) (Ok None) before after
@@ -235,18 +203,12 @@ module _ (front : List ℕ) (head : Head) (begun now : EncodeProgress) (bytes : 
 
 -- ---- the head
 
-head_shown_end : (pixels : ℕ) (f : SourceFault) (taken : List ℕ) → ((rest : List ℕ) → file_head pixels (taken ++ rest) ≡ Err f) → file_head pixels taken ≡ Err f
-head_shown_end pixels f taken shown = ap (file_head pixels) (sym (append-nil taken)) ∙ shown []
-
 pub head_failed : (limits : Limits) (settings : Settings) (f : SourceFault) (before after : Option (List ℕ)) → Fails (file_head limits.pixels) f before after
     → (file : List ℕ) × Consumes before after file × ((written : Option (List ℕ)) → IsEndedBehind 0 limits settings (encode_fault_of f) file written written)
-head_failed limits settings source.Magic before after s = (s.taken, s.consumed, λ written. inl (head_shown_end limits.pixels source.Magic s.taken s.shown, refl))
-head_failed limits settings source.Size before after s = (s.taken, s.consumed, λ written. inl (head_shown_end limits.pixels source.Size s.taken s.shown, refl))
-head_failed limits settings source.Colour before after s = (s.taken, s.consumed, λ written. inl (head_shown_end limits.pixels source.Colour s.taken s.shown, refl))
-head_failed limits settings source.Interlaced before after s = (s.taken, s.consumed, λ written. inl (head_shown_end limits.pixels source.Interlaced s.taken s.shown, refl))
 head_failed limits settings source.Torn before after s = (s.taken, s.consumed, λ written. inl (s.shown, refl))
 head_failed limits settings source.Device before after s = (s.0, s.1, λ written. inl (refl, inl refl))
 head_failed limits settings source.Memory before after s = absurd s
+head_failed limits settings f before after s = (s.taken, s.consumed, λ written. inl (ap (file_head limits.pixels) (sym (append-nil s.taken)) ∙ s.shown [], refl))
 
 -- the head is whole, and the settings are refused
 pub settings_refused : (limits : Limits) (settings : Settings) (head : Head) (before after written : Option (List ℕ)) → (s : Shows (file_head limits.pixels) (λ rest. Ok (head, rest)) before after)
@@ -276,31 +238,7 @@ end_answer head now o before after same is a =
     let Q : Option Image → Type 0 = λ x. AnswersNextPicture now.w now.h (Ok x) before after in
     subst P same (subst Q is a)
 
-pub is_picture : (w h : ℕ) (p : Image) (before after : Option (List ℕ)) → GivesPicture w h p before after → IsPicture w h p
-is_picture w h p before after s = record { width = s.width; height = s.height; outside = s.outside }
-
-pub at_next : (head : Head) (begun now new : EncodeProgress) (bytes : List ℕ) (frames : List EncodedFrame) (p : Image) (before after : Option (List ℕ))
-    → IsAt head begun now bytes frames → (s : GivesPicture head.w head.h p before after) → (f : EncodedFrame) → f.source ≡ p → IsAdded now f new
-    → IsAt head begun new (bytes ++ s.shown.taken) (frames ++ f ∷ [])
-at_next head begun now new bytes frames p before after h s f is a =
-    let P : Image → Type 0 = λ q. IsPicture head.w head.h q × ((rest : List ℕ) → next_of head.w head.h (s.shown.taken ++ rest) ≡ Ok (Some (i420 q, rest))) in
-    let k = subst P (sym is) (is_picture head.w head.h p before after s, s.shown.shown) in
-    at_more head begun now new bytes s.shown.taken frames f h k.0 k.1 a
-
 -- ---- the whole file
-
--- what encoding the pictures of a source came to, by the reader that it was opened over
-pub opened_ends : (pixels : ℕ) (limits : Limits) (settings : Settings) (result : Result (Unit {0}) EncodeAllFault) (after : EncodeProgress) (told told' : List EncodedSoFar → Type 0) (head now : Head) (before opened left : Option (List ℕ))
-    → now ≡ head → opened ≡ before
-    → ((front : List ℕ) → IsHeadLine pixels front now → (bytes : List ℕ) × (frames : List EncodedFrame) × Consumes opened left bytes
-    × IsWrittenFurther told told' (progress_of_frames frames) × EndsEncode limits settings result now (front ++ bytes) frames after)
-    → (front : List ℕ) → IsHeadLine pixels front head → (bytes : List ℕ) × (frames : List EncodedFrame) × Consumes before left bytes
-    × IsWrittenFurther told told' (progress_of_frames frames) × EndsEncode limits settings result head (front ++ bytes) frames after
-opened_ends pixels limits settings result after told told' head now before opened left is bytes_are ends =
-    let E : Head → Option (List ℕ) → Type 0 = λ h o. (front : List ℕ) → IsHeadLine pixels front h
-    → (bytes : List ℕ) × (frames : List EncodedFrame) × Consumes o left bytes
-    × IsWrittenFurther told told' (progress_of_frames frames) × EndsEncode limits settings result h (front ++ bytes) frames after in
-    subst (E head) bytes_are (subst (λ (h : Head). E h opened) is ends)
 
 -- the head, and then what encoding the pictures behind it came to
 pub work_ends : (limits : Limits) (settings : Settings) (dim : Dim) (encoder : EncoderState) (run after : EncodeProgress) (told told' : List EncodedSoFar → Type 0) (head : Head) (before mid left : Option (List ℕ)) (result : Result (Unit {0}) EncodeAllFault)
@@ -331,7 +269,6 @@ each h = 1025 + i420_length h.w h.h
 pub few_now : (head : Head) (begun now : EncodeProgress) (bytes : List ℕ) (frames : List EncodedFrame) → IsAt head begun now bytes frames → length now.packets ≤ begun.limits.packets
 few_now head begun now bytes frames h =
     let many = ap length h.packets ∙ length-map frames packet_of in
-    let few = h.few in
     omega arith
 
 -- those of one more picture
@@ -373,7 +310,6 @@ module _ (limits : Limits) (settings : Settings) (head : Head) (file : List ℕ)
   pub all_small : All (λ p. length p < 2 ^ 32) packets
   all_small =
       let P : List ℕ → Type 0 = λ p. length p < 2 ^ 32 in
-      let range = limits.packet_bytes_in_range in
       All-same P packets (map packet_of e.0.frames) packets_are
       (All-map P packet_of e.0.frames
       (All-weaker (λ (f : EncodedFrame). length f.packet ≤ limits.packet_bytes) (λ (f : EncodedFrame). length f.packet < 2 ^ 32) (λ f h. omega arith) e.0.frames e.1.small))
@@ -414,25 +350,15 @@ module _ (limits : Limits) (settings : Settings) (head : Head) (file : List ℕ)
 -- ---- the answer, by where the work ended
 
 device_by : (f : SourceFault) → encode_fault_of f ≡ fault.Device → f ≡ source.Device
-device_by source.Magic e = cc
-device_by source.Size e = cc
-device_by source.Colour e = cc
-device_by source.Interlaced e = cc
-device_by source.Torn e = cc
 device_by source.Device e = refl
-device_by source.Memory e = cc
+device_by f e = cc
 
 module _ {R W : Type 0} (remaining : R → Option (List ℕ)) (contents : W → Option (List ℕ)) (limits : Limits) (settings : Settings)
     (result : Result EncodeReport EncodeAllFault) (reader reader' : Counted R) where
   torn_by : (f : SourceFault) → Fails (file_head limits.pixels) f (counted_remaining remaining reader) (counted_remaining remaining reader')
       → encode_fault_of f ≡ fault.Torn → IsAtEnd (counted_remaining remaining reader')
-  torn_by source.Magic s e = cc
-  torn_by source.Size s e = cc
-  torn_by source.Colour s e = cc
-  torn_by source.Interlaced s e = cc
   torn_by source.Torn s e = s.at_end
-  torn_by source.Device s e = cc
-  torn_by source.Memory s e = cc
+  torn_by f s e = cc
 
   -- before anything is written
   pub unwritten_answer : {A : Type 0} (writer : Counted W) (f : EncodeAllFault) → result ≡ Err f
@@ -463,6 +389,15 @@ module _ {R W : Type 0} (remaining : R → Option (List ℕ)) (contents : W → 
       let now = head_failed limits settings f (counted_remaining remaining reader) (counted_remaining remaining reader') fails in
       unwritten_answer {A = A} writer (encode_fault_of f) is now.0 now.1 0 (now.2 (counted_contents contents writer))
       (λ e. torn_by f fails cc) (λ e. device (ap Err (device_by f cc))) (λ n. quiet (λ e. n (let same : f ≡ source.Device = cc in ap Err (ap encode_fault_of same))))
+
+  -- what the callback received where the work ended by a fault
+  pub ended_watched : (writer writer' : Counted W) (told told' : List EncodedSoFar → Type 0) (f : EncodeAllFault) → result ≡ Err f
+      → (frames : List EncodedFrame) → IsWrittenFurther told told' (progress_of_frames frames)
+      → (file : List ℕ) → Consumes (counted_remaining remaining reader) (counted_remaining remaining reader') file → AreFramesOf limits settings file frames
+      → IsEndedBehind (length frames) limits settings f file (counted_contents contents writer) (counted_contents contents writer')
+      → IsWatched remaining contents limits settings result reader reader' writer writer' told told'
+  ended_watched writer writer' told told' f is frames further file consumed are ended =
+      record { frames = frames; told = further; file = file; consumed = consumed; encoded = are; answer = rw is ended; reported = rw is tt }
 
   -- at the settings
   pub settings_answer : (writer : Counted W) → result ≡ Err fault.Settings

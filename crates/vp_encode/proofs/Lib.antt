@@ -1,17 +1,11 @@
 pub mod Candidates
 pub mod ContentLemmas
-pub mod RowLemmas
 pub mod ChoosingLemmas
-pub mod FrameLemmas
 pub mod SourceLemmas
 pub mod DistanceLemmas
-pub mod Carried
 pub mod TokenLemmas
-pub mod TagLemmas
 pub mod PacketLemmas
-pub mod Showing
 pub mod EncoderLemmas
 pub mod FileLemmas
 pub mod WritingLemmas
 pub mod PlayingLemmas
-pub mod CallLemmas

@@ -1,8 +1,19 @@
--- What is opened of a packet that was put together.
-use Rattle.std.proofs.Common.{◌≡◌, ◌∙◌, ℕ, zero, suc, ◌+◌, ◌-◌, ◌*◌, ◌^◌, ◌<◌, ◌≤◌, Bool, true, false, List, [], ◌∷◌, ◌++◌, length, take, drop, replicate, refl, sym, ap, subst, arith, append_assoc, length-append}
-use Rattle.std.specs.Prelude.{Option, Some, None, IfSome, Ok, Vec, nat_lt, unwrap_or, slice_get, slice_index_or, if◌then◌else◌}
+-- A packet that was put together is opened: its tag, its first partition and its token partitions.
+use Rattle.std.proofs.Common.{◌≡◌, ◌∙◌, ℕ, ◌+◌, ◌*◌, ◌/◌, ◌%◌, ◌^◌, ◌<◌, ◌≤◌, List, [], ◌∷◌, ◌++◌, length, sym, ap, arith, ◌-◌, true, take, drop, refl, subst, append_assoc, length-append}
+use Rattle.std.specs.Prelude.{Some, None, Ok, ◌==◌, Option, IfSome, Vec, slice_index_or}
+use Rattle.std.proofs.lemmas.Bool.{le-ltb}
+use Rattle.vp_base.specs.declared.limits.Dim.{Dim}
+use Rattle.vp_base.specs.declared.limits.Limits.{Limits}
+use Rattle.vp_head.specs.declared.fields.KeyTag.{KeyTag}
+use Rattle.vp_head.specs.Sides.{is_below_16384}
+use Rattle.vp_head.specs.Tag.{bit_field, tag_of, tag_of_word, key_of, dim_within_limits, tag_dim, key_with}
+use Rattle.vp_head.proofs.Sizes.{within-allowed}
+use Rattle.vp_encode.specs.PacketContents.{key_tag, HasFinalZero, HasContents, EncodesFrame, IsKeyFramePacket, IsInterFramePacket}
+use Rattle.vp_encode.specs.Written.{three_bytes, two_bytes, tag_bytes, encoder_tag, AreOf, Have, finished, first_read, IsFirst, IsPlanOf, IsPacket}
 use Rattle.std.specs.Global.{Global}
 use Rattle.std.proofs.lemmas.List.{drop_at, take_at, take-map, get_or-take, length-map, length-take}
+use Rattle.std.proofs.lemmas.Nat.{pow_pos}
+use Rattle.std.proofs.Math.Pow.{pow_mono}
 use Rattle.vp_bool.specs.Bools.{State, initial_state}
 use Rattle.vp_bool.specs.Intervals.{Interval, whole_interval}
 use Rattle.vp_bool.specs.Reader.{bind, ◌>>=◌, give, Reads}
@@ -11,21 +22,15 @@ use Rattle.vp_bool.specs.RoundTrip.{partition_of}
 use Rattle.vp_bool.proofs.RoundTripLemmas.{reads_back}
 use Rattle.vp_bool.proofs.WritingLemmas.{Writes-then, Continues-none}
 use Rattle.vp_base.specs.declared.place.Place.{Place}
-use Rattle.vp_base.specs.declared.limits.Dim.{Dim}
-use Rattle.vp_base.specs.declared.limits.Limits.{Limits}
-use Rattle.vp_base.specs.Grid.{Grid, Has, at, entry, repeated, all as everywhere}
+use Rattle.vp_base.specs.Grid.{Grid, Has}
 use Rattle.vp_head.specs.declared.fields.Tag.{Tag}
-use Rattle.vp_head.specs.declared.fields.KeyTag.{KeyTag}
 use Rattle.vp_head.specs.declared.fields.Header.{Header}
 use Rattle.vp_head.specs.declared.fields.Saved.{Saved}
-use Rattle.vp_head.specs.Tag.{tag_of}
 use Rattle.vp_head.specs.Header.{header}
 use Rattle.vp_head.specs.Saved.{kept_after}
 use Rattle.vp_head.specs.Spelled.{kept_before}
 use Rattle.vp_head.specs.Reference.{is_intra}
 use Rattle.vp_modes.specs.Map.{of_segments}
-use Rattle.vp_motion.specs.Vector.{MacroblockMotion}
-use Rattle.vp_motion.specs.Map.{intra}
 use Rattle.vp_tokens.specs.Partitions.{cut_of, lists, AreBelow24Bits}
 use Rattle.vp_decode.specs.MacroblockInfo.{MacroblockInfo, maps_read}
 use Rattle.vp_decode.specs.Frame.{FrameInfo}
@@ -33,26 +38,84 @@ use Rattle.vp_decode.specs.Step.{FrameContext, key_context, inter_context, Parse
 use Rattle.vp_decode.proofs.CutLemmas.{opened_ok, opened-by}
 use Rattle.vp_encode.specs.declared.coded_frame.CodedFrame.{CodedFrame}
 use Rattle.vp_encode.specs.CodedFrame.{coded_choice}
-use Rattle.vp_encode.specs.PacketContents.{key_tag, HasFinalZero, HasContents, EncodesFrame, IsKeyFramePacket, IsInterFramePacket}
-use Rattle.vp_encode.specs.Written.{AreOf, Have, finished, first_read, IsFirst, IsPlanOf, IsPacket, tag_bytes, encoder_tag}
 use Rattle.vp_encode.proofs.TokenLemmas.{one_zero, closed_by, parts_read, parts_closed}
-use Rattle.vp_encode.proofs.TagLemmas.{inter_tag, key_tag_read}
+
+word_back : (w : ℕ) → w % 256 + 256 * (w / 256 % 256) + 65536 * (w / 65536) ≡ w
+word_back w = omega arith
+
+two_back : (w : ℕ) → w % 256 + 256 * (w / 256) ≡ w
+two_back w = omega arith
+
+-- the bits of the word of a shown packet of version 0
+version_is : (n i : ℕ) → i < 2 → (32 * n + (16 + i)) / 2 ^ 1 % 2 ^ 3 ≡ 0
+version_is n i h = omega arith
+
+show_is : (n i : ℕ) → i < 2 → (32 * n + (16 + i)) / 2 ^ 4 % 2 ^ 1 ≡ 1
+show_is n i h = omega arith
+
+length_is : (n i : ℕ) → i < 2 → n < 2 ^ 19 → (32 * n + (16 + i)) / 2 ^ 5 % 2 ^ 19 ≡ n
+length_is n i h k = omega arith
+
+kind_is : (n i : ℕ) → i < 2 → (32 * n + (16 + i)) / 2 ^ 0 % 2 ^ 1 ≡ i
+kind_is n i h = omega arith
+
+pub inter_word : (limits : Limits) (n : ℕ) (packet : List ℕ) → n < 2 ^ 19 → tag_of_word limits (32 * n + 17) packet ≡ Ok (encoder_tag None n)
+unfolding tag_of_word
+inter_word limits n packet k =
+    rw (version_is n 1 (omega arith), kind_is n 1 (omega arith))
+    (λ j. Ok (record { version = 0; show = show_is n 1 (omega arith) j == 1; first_partition = length_is n 1 (omega arith) k j; key = None }))
+
+pub key_word : (limits : Limits) (n : ℕ) (packet : List ℕ) (key : KeyTag) → n < 2 ^ 19 → key_of limits packet ≡ Ok key → tag_of_word limits (32 * n + 16) packet ≡ Ok (encoder_tag (Some key) n)
+unfolding tag_of_word
+key_word limits n packet key k is =
+    rw (version_is n 0 (omega arith), kind_is n 0 (omega arith), is)
+    (λ j. Ok (record { version = version_is n 0 (omega arith) j; show = show_is n 0 (omega arith) j == 1; first_partition = length_is n 0 (omega arith) k j; key = Some key }))
+
+-- a tag's three bytes and what follows
+after_word : (limits : Limits) (w : ℕ) (rest : List ℕ) → tag_of limits (three_bytes w ++ rest) ≡ tag_of_word limits w (three_bytes w ++ rest)
+unfolding tag_of
+after_word limits w rest =
+    let long : 3 ≤ length (three_bytes w ++ rest) = omega arith in
+    rw (le-ltb (length (three_bytes w ++ rest)) 3 long) (ap (λ (x : ℕ). tag_of_word limits x (three_bytes w ++ rest)) (word_back w))
+
+pub inter_tag : (limits : Limits) (n : ℕ) (rest : List ℕ) → n < 2 ^ 19 → tag_of limits (tag_bytes None n ++ rest) ≡ Ok (encoder_tag None n)
+inter_tag limits n rest k = after_word limits (32 * n + 17) rest ∙ inter_word limits n (three_bytes (32 * n + 17) ++ rest) k
+
+low_bits : (n : ℕ) → n ≤ 16383 → n / 2 ^ 0 % 2 ^ 14 ≡ n
+low_bits n h = omega arith
+
+no_scale : (n : ℕ) → n ≤ 16383 → n / 2 ^ 14 % 2 ^ 2 ≡ 0
+no_scale n h = omega arith
+
+sized : (limits : Limits) (dim : Dim) → dim.w * dim.h ≤ limits.pixels → key_with dim.w dim.h (dim_within_limits limits (tag_dim dim.w dim.h)) ≡ Ok (key_tag dim)
+sized limits dim fits =
+    let wide = low_bits dim.w dim.w_in_range.1 in
+    let high = low_bits dim.h dim.h_in_range.1 in
+    let allowed : bit_field 0 14 dim.w * bit_field 0 14 dim.h ≤ limits.pixels = rw (wide, high) fits in
+    let is = within-allowed limits (bit_field 0 14 dim.w) (bit_field 0 14 dim.h) (is_below_16384 dim.w) (is_below_16384 dim.h) dim (sym wide) (sym high) allowed in
+    ap (key_with dim.w dim.h) (sym is)
+    ∙ (λ i. Ok (record { dim = dim; horizontal_scale = no_scale dim.w dim.w_in_range.1 i; vertical_scale = no_scale dim.h dim.h_in_range.1 i }))
+
+-- the ten bytes of a key packet's tag
+abbrev key_bytes : Dim → ℕ → List ℕ
+key_bytes dim n = tag_bytes (Some (key_tag dim)) n
+
+key_read : (limits : Limits) (dim : Dim) (n : ℕ) (rest : List ℕ) → dim.w * dim.h ≤ limits.pixels → key_of limits (key_bytes dim n ++ rest) ≡ Ok (key_tag dim)
+unfolding key_of
+key_read limits dim n rest fits =
+    let long : 10 ≤ length (key_bytes dim n ++ rest) = omega arith in
+    rw (le-ltb (length (key_bytes dim n ++ rest)) 10 long)
+    ((λ i. key_with (two_back dim.w i) (two_back dim.h i) (dim_within_limits limits (tag_dim (two_back dim.w i) (two_back dim.h i)))) ∙ sized limits dim fits)
+
+pub key_tag_read : (limits : Limits) (dim : Dim) (n : ℕ) (rest : List ℕ) → n < 2 ^ 19 → dim.w * dim.h ≤ limits.pixels
+    → tag_of limits (tag_bytes (Some (key_tag dim)) n ++ rest) ≡ Ok (encoder_tag (Some (key_tag dim)) n)
+key_tag_read limits dim n rest k fits =
+    let behind : List ℕ = (0x9d ∷ 0x01 ∷ 0x2a ∷ []) ++ two_bytes dim.w ++ two_bytes dim.h ++ rest in
+    after_word limits (32 * n + 16) behind ∙ key_word limits n (key_bytes dim n ++ rest) (key_tag dim) k (key_read limits dim n rest fits)
+
+-- ---- what is opened of a packet that was put together
 
 -- ---- the first partition
-
-got : (n i : ℕ) → unwrap_or (slice_get (replicate n intra) i) intra ≡ intra
-got zero i = refl
-got (suc n) zero = refl
-got (suc n) (suc i) = got n i
-
-chosen : (b : Bool) (o : Option MacroblockMotion) → unwrap_or o intra ≡ intra → unwrap_or (if b then o else None) intra ≡ intra
-chosen true o e = e
-chosen false o e = refl
-
--- without motion everywhere
-pub all_still : (columns rows : ℕ) (p : Place) → at intra (everywhere columns rows intra) p ≡ intra
-unfolding entry repeated
-all_still columns rows p = chosen (nat_lt p.column columns) (slice_get (replicate (rows * columns) intra) (p.row * columns + p.column)) (got (rows * columns) (p.row * columns + p.column))
 
 pub first_said : (kept : Saved) (tag : Tag) (before : MacroblockInfo) (c : CodedFrame) (maps : MacroblockInfo) (bytes : List ℕ) {old mid new : Interval} → old ≡ whole_interval
     → Writes (header kept tag) old mid (c.header, kept_after (kept_before kept tag) c.header) → Writes (maps_read c.header before) mid new maps → bytes ≡ finished new
@@ -217,11 +280,7 @@ inter_said saved segments c packet x k same_saved same_segments =
 
 pub count_small : (n : ℕ) → n < 2 ^ 2 → (0 < count_of n) × (count_of n ≤ 8)
 unfolding count_of
-count_small zero h = (omega arith, omega arith)
-count_small (suc zero) h = (omega arith, omega arith)
-count_small (suc (suc zero)) h = (omega arith, omega arith)
-count_small (suc (suc (suc zero))) h = (omega arith, omega arith)
-count_small (suc (suc (suc (suc n)))) h = absurd (omega (arith, h))
+count_small n h = (pow_pos n, pow_mono {i = n} {j = 3} (omega arith))
 
 -- the parts but the last, in what the code has at hand
 parts_but_last : (xs ys : List (Vec ℕ Global)) (n : ℕ) → xs ≡ ys → n ≡ length ys → lists (take (n - 1) xs) ≡ take (length ys - 1) (lists ys)

@@ -37,37 +37,22 @@ module _ (width height : ℕ) (p : Raster) (n : ℕ) (q : Raster) (whole : IsWho
   begun = with_run q 0 n own
 
   own_length : length own ≡ width
-  own_length =
-      let fits = made.size.columns in
-      length-take width (row_of p m) ∙ (let l : length (row_of p m) ≡ p.width = length-row_of p m whole (omega arith) in omega arith)
+  own_length = length-take width (row_of p m) ∙ (let long : length (row_of p m) ≡ p.width = length-row_of p m whole (omega arith) in omega arith)
 
   behind_length : length behind ≡ p.width - width
   behind_length = length-replicate (p.width - width) (pixel p (width - 1) m)
 
   begun_whole : IsWhole begun
-  begun_whole =
-      let a = own_length in
-      let b = made.size.columns in
-      let c = made.size.width_is in
-      let d = made.size.height_is in
-      with_run_whole q 0 n own made.size.whole (omega arith) (omega arith)
+  begun_whole = with_run_whole q 0 n own made.size.whole (omega (arith, own_length)) (omega arith)
 
   next_whole : IsWhole (row_continued width height p n q)
-  next_whole =
-      let a = behind_length in
-      let b = made.size.columns in
-      let c = made.size.width_is in
-      let d = made.size.height_is in
-      with_run_whole begun width n behind begun_whole (omega arith) (omega arith)
+  next_whole = with_run_whole begun width n behind begun_whole (omega (arith, behind_length)) (omega arith)
 
   -- the rows before stay
   earlier : (x y : ℕ) → x < p.width → y < n → pixel (row_continued width height p n q) x y ≡ pixel p (min x (width - 1)) (min y (height - 1))
   earlier x y xin yin =
       let a = own_length in
       let b = behind_length in
-      let c = made.size.columns in
-      let d = made.size.width_is in
-      let f = made.size.height_is in
       pixel-with_run_outside begun width n behind x y begun_whole (omega arith) (omega arith) (omega arith) (omega arith) (otherRow (λ e. omega arith))
       ∙ pixel-with_run_outside q 0 n own x y made.size.whole (omega arith) (omega arith) (omega arith) (omega arith) (otherRow (λ e. omega arith))
       ∙ made.each x y xin yin
@@ -76,9 +61,6 @@ module _ (width height : ℕ) (p : Raster) (n : ℕ) (q : Raster) (whole : IsWho
   shown x xin =
       let a = own_length in
       let b = behind_length in
-      let c = made.size.columns in
-      let d = made.size.width_is in
-      let f = made.size.height_is in
       pixel-with_run_outside begun width n behind x n begun_whole (omega arith) (omega arith) (omega arith) (omega arith) (before xin)
       ∙ pixel-with_run_inside q 0 n own x made.size.whole (omega arith) (omega arith) (omega arith) (omega arith)
       ∙ ap (λ (k : ℕ). get_or own k 0) (let e : x - 0 ≡ x = omega arith in e)
@@ -89,10 +71,6 @@ module _ (width height : ℕ) (p : Raster) (n : ℕ) (q : Raster) (whole : IsWho
   hidden : (x : ℕ) → width ≤ x → x < p.width → pixel (row_continued width height p n q) x n ≡ pixel p (min x (width - 1)) (min n (height - 1))
   hidden x out xin =
       let b = behind_length in
-      let c = made.size.columns in
-      let d = made.size.width_is in
-      let f = made.size.height_is in
-      let some = made.size.some_columns in
       pixel-with_run_inside begun width n behind x begun_whole (omega arith) (omega arith) out (omega arith)
       ∙ get_or-replicate (p.width - width) (x - width) (pixel p (width - 1) m) 0 (omega arith)
       ∙ ap (λ (k : ℕ). pixel p k m) (let e : width - 1 ≡ min x (width - 1) = omega arith in e)

@@ -1,8 +1,9 @@
 -- How the tokens of a frame are written, row after row, and what is read of them.
 use Rattle.std.proofs.Common.{◌≡◌, ◌∙◌, ℕ, zero, suc, ◌+◌, ◌-◌, ◌%◌, ◌<◌, Bool, true, List, [], ◌∷◌, ◌++◌, length, replicate, map, refl, sym, ap, subst, arith, inl, inr, get_or, length-append, add-one}
-use Rattle.std.specs.Prelude.{slice_index, slice_index_or, slice_set, Option, Some, None, unwrap_or}
+use Rattle.std.specs.Prelude.{slice_index_or, slice_set, Option, Some, None, unwrap_or}
 use Rattle.std.proofs.lemmas.Bool.{cases_Bool, cases_lt, cases_eq}
 use Rattle.std.proofs.lemmas.List.{length-set, get_or-set_same, get_or-set_other, length-replicate, ext_get_or, length-map, get_or-map}
+use Rattle.std.proofs.Math.Seq.{get_or-append_seam}
 use Rattle.vp_bool.specs.Bools.{State, initial_state}
 use Rattle.vp_bool.specs.Reader.{Reads, bind, rows}
 use Rattle.vp_bool.specs.Intervals.{Interval, whole_interval}
@@ -35,14 +36,10 @@ pub one_zero : AreBytes (0 ∷ [])
 one_zero zero = omega arith
 one_zero (suc i) = omega arith
 
-last_is : (xs : List ℕ) (x : ℕ) → slice_index (xs ++ x ∷ []) (length xs) ≡ x
-last_is [] x = refl
-last_is (y ∷ ys) x = last_is ys x
-
 pub closed_by : (xs : List ℕ) → HasFinalZero (xs ++ 0 ∷ [])
 closed_by xs = record {
   some = omega (arith, length-append xs (0 ∷ []));
-  last = let e : length (xs ++ 0 ∷ []) - 1 ≡ length xs = omega (arith, length-append xs (0 ∷ [])) in rw e (last_is xs 0);
+  last = let e : length (xs ++ 0 ∷ []) - 1 ≡ length xs = omega (arith, length-append xs (0 ∷ [])) in rw e (get_or-append_seam xs 0 [] 0);
 }
 
 -- ---- what a plan of the frame reads at a place
@@ -346,9 +343,3 @@ pub parts_closed : (bools : List (List (Bool × ℕ))) (parts : List (List ℕ))
 parts_closed bools parts are i below =
     let within : i < length bools = omega (arith, ap length are, length-map bools partition_of_bools) in
     subst HasFinalZero (sym (part_is bools parts i are within)) (closed_by (partition_of (bools_of bools i)))
-
--- ---- one after another
-
-pub no_items : {A : Type 0} (xs : List A) → length xs ≡ 0 → xs ≡ []
-no_items [] e = refl
-no_items (x ∷ xs) e = absurd (omega arith)

@@ -70,17 +70,9 @@ refusal_cases true left some = inl (refl, refl)
 refusal_cases false zero some = absurd (omega arith)
 refusal_cases false (suc left) some = inr (refl, refl)
 
-not_ok : (r : Result (Unit {0}) WriteFault) → is_err r ≡ true → not (is_ok r) ≡ true
-not_ok (Ok x) e = cc
-not_ok (Err f) e = refl
-
-is_good : (r : Result (Unit {0}) WriteFault) (f : WriteFault) → is_err r ≡ false → r ≡ Err f → ⊥
-is_good (Ok x) f e is = cc
-is_good (Err g) f e is = cc
-
-ok_stays : (r : Result (Unit {0}) WriteFault) → is_err r ≡ false → not (is_ok r) ≡ false
-ok_stays (Ok x) e = refl
-ok_stays (Err f) e = cc
+not_ok : (r : Result (Unit {0}) WriteFault) → not (is_ok r) ≡ is_err r
+not_ok (Ok x) = refl
+not_ok (Err f) = refl
 
 counted_true : (failed : Bool) (before now : ℕ) → failed ≡ true → IsCountedAt failed before now → HasFailed before now
 counted_true true before now e c = c
@@ -102,11 +94,7 @@ module _ {W : Type 0} (contents : W → Option (List ℕ)) (before : Option (Lis
       (stands : packet_refusal old ≡ None → (h : Written) → IsWriterAfter contents old h → IsWriterAfter contents new (with_packet h (timed (time, bytes)) (not (is_ok result))))
       (s : IsWriterAfter contents old (so_far i failed)) where
     some_left : 0 < packets_left old
-    some_left =
-        let left = s.left in
-        let long = length-map (enumerate_from 0 (take i xs)) timed in
-        let counted = length-enumerate_from 0 (take i xs) in
-        omega (arith, length-take i xs)
+    some_left = omega (arith, length-take i xs, length-map (enumerate_from 0 (take i xs)) timed, length-enumerate_from 0 (take i xs))
 
     next : (b : Bool) → IsWriterAfter contents new (with_packet (so_far i failed) (timed (time, bytes)) b) → IsWriterAfter contents new (so_far (i + 1) b)
     next b h =
@@ -116,10 +104,10 @@ module _ {W : Type 0} (contents : W → Option (List ℕ)) (before : Option (Lis
 
     pub packet_done : is_err result ≡ false → IsWriterAfter contents new (so_far (i + 1) false)
     packet_done good = elim (refusal_cases old.failed old.left some_left) as (λ _. IsWriterAfter contents new (so_far (i + 1) false)) [
-      | inl e ↦ absurd (is_good result Device good (refused Device e.1).0)
+      | inl e ↦ absurd (let never : true ≡ false = ap is_err (sym (refused Device e.1).0) ∙ good in cc)
       | inr e ↦
           let P : Bool → Type 0 = λ b. IsWriterAfter contents new (with_packet (so_far i failed) (timed (time, bytes)) b) in
-          next false (subst P (ok_stays result good) (stands e.1 (so_far i failed) s))
+          next false (subst P (not_ok result ∙ good) (stands e.1 (so_far i failed) s))
     ]
 
     -- the writer failed before, or fails now
@@ -131,7 +119,7 @@ module _ {W : Type 0} (contents : W → Option (List ℕ)) (before : Option (Lis
           (i, subst Q (sym (refused Device e.1).1) (subst P (sym s.failed ∙ e.0) s))
       | inr e ↦
           let P : Bool → Type 0 = λ b. IsWriterAfter contents new (with_packet (so_far i failed) (timed (time, bytes)) b) in
-          (i + 1, next true (subst P (not_ok result bad) (stands e.1 (so_far i failed) s)))
+          (i + 1, next true (subst P (not_ok result ∙ bad) (stands e.1 (so_far i failed) s)))
     ]
 
     pub packet_front : is_err result ≡ true → AppendsPrefix before (device_contents contents new) (file_text head (length xs) (timed_from 0 xs))
@@ -144,10 +132,7 @@ module _ {W : Type 0} (contents : W → Option (List ℕ)) (before : Option (Lis
       (s : IsWriterAfter contents file (so_far i failed)) where
     fails : failed ≡ true
     fails =
-        let left = s.left in
-        let long = length-map (enumerate_from 0 (take i xs)) timed in
-        let counted = length-enumerate_from 0 (take i xs) in
-        let none : packets_left file ≡ 0 = omega (arith, length-take i xs) in
+        let none : packets_left file ≡ 0 = omega (arith, length-take i xs, length-map (enumerate_from 0 (take i xs)) timed, length-enumerate_from 0 (take i xs)) in
         sym s.failed ∙ finish_failed (has_failed file) (packets_left file) fault none finish
 
     pub file_front : AppendsPrefix before (device_contents contents file) (file_text head (length xs) (timed_from 0 xs))

@@ -1,5 +1,5 @@
 -- Private to the crate: an encoder between frames, and the state after its packets.
-use Rattle.std.specs.Prelude.{◌≡◌, ◌≤◌, Option, Some, None, IfSome, List, ℕ}
+use Rattle.std.specs.Prelude.{◌≡◌, ◌≤◌, ◌*◌, Option, Some, None, IfSome, List, ℕ}
 use Rattle.vp_base.specs.declared.limits.Dim.{Dim}
 use Rattle.vp_base.specs.declared.limits.Limits.{Limits}
 use Rattle.vp_base.specs.Image.{Image}
@@ -19,15 +19,17 @@ abbrev pub IsPacketOver : Dim → Option DecoderState → CodedFrame → List �
 IsPacketOver dim None c packet = IsKeyFramePacket dim c packet
 IsPacketOver dim (Some k) c packet = IsInterFramePacket k.saved k.segments c packet
 
--- decoding the packet shows the picture that becomes the newest
-pub record ShowsNewest (limits : Limits) (state : Option DecoderState) (packet : List ℕ) : Type 0 where
-  pub kept : DecoderState
-  pub is : step limits state packet ≡ (Some kept, Shown kept.references.newest)
-
 -- a state for frames of this size: its pictures have that size, and all segments are 0
 pub record IsKeptFor (dim : Dim) (k : DecoderState) : Type 0 where
   pub size : HasSize dim k.references.newest
   pub segments : AreUnsegmented dim k.segments
+
+-- under all limits that allow this size, decoding the packet shows the picture that becomes the newest
+pub record ShowsNewest (dim : Dim) (state : Option DecoderState) (packet : List ℕ) : Type 0 where
+  pub kept : DecoderState
+  pub sound : IsKeptFor dim kept
+  pub is : (limits : Limits) → dim.w * dim.h ≤ limits.pixels
+      → step limits state packet ≡ (Some kept, Shown kept.references.newest)
 
 -- the invariant of an encoder between frames; its decoder has these limits
 pub record IsSound (limits : Limits) (e : EncoderState) : Type 0 where

@@ -14,7 +14,7 @@ ghost use Rattle.vp_encode.specs.FrameChoices.{picture_by};
 ghost use Rattle.vp_encode.specs.TooLong.{IsFrameFor, IsTooLong, IsTooLongOver};
 ghost use Rattle.vp_encode.specs.Between.{HasSize, IsPacketOver, IsKeptFor, ShowsNewest};
 ghost use Rattle.vp_encode.specs.Choice.{IsChosen, squared_distance};
-ghost use Rattle.vp_encode.specs.Calls.{Call, IsEncoderAfter};
+ghost use Rattle.vp_encode.specs.Calls.{Call, IsEncodedWithError, IsEncoderAfter};
 
 use crate::coded_frame::CodedFrame;
 use crate::distance::squared_distance;
@@ -91,29 +91,6 @@ fn are_allowed(settings: &Settings) -> bool
     matches!(settings.partitions, 1 | 2 | 4 | 8)
 }
 
-/// Decodes a packet, given its picture before the loop filter, and returns the picture that it shows.
-fn decode_shown(
-    decoder: &mut Decoder,
-    packet: &[u8],
-    rebuilt: Picture,
-) -> Result<Rc<Picture>, AllocError>
-    requires shows { ShowsNewest decoder.old.limits decoder.old.state packet.now }
-    requires rebuilt { (o : ParsedPacket) → parsed decoder.old.limits decoder.old.state packet.now ≡ Ok o
-        → IsRebuiltFrame o rebuilt }
-    ensures limits { decoder.new.limits ≡ decoder.old.limits }
-    ensures shown { IfOk result (λ r. step decoder.old.limits decoder.old.state packet.now
-        ≡ (decoder.new.state, Shown r.value)) }
-    // Memory may run out before the packet is decoded, or after it.
-    ensures state { (decoder.new.state ≡ decoder.old.state) ⊎ (decoder.new.state
-        ≡ (step decoder.old.limits decoder.old.state packet.now).0) }
-{
-    decoder.decode_rebuilt(packet, rebuilt)?;
-    match decoder.kept() {
-        Some(kept) => kept.references().newest().clone(),
-        None => unreachable!(),
-    }
-}
-
 impl Encoder {
     /// Creates an encoder for pictures of this size.
     ///
@@ -175,29 +152,53 @@ impl Encoder {
     }
 
     /// Encodes a frame of the encoder's size. If it is refused, the state that is left must be dropped.
+    #[tactic(auto, unfolding(crate::specs::Encoder::continued))]
     fn encode_frame(&mut self, source: &Picture) -> Result<Encoded, PacketError>
         requires { HasSize self.old.dim source.now }
         ensures dim { self.new.dim ≡ self.old.dim }
         ensures settings { self.new.settings ≡ self.old.settings }
-        ensures decoded { IfOk result (λ r. (limits : Limits) → self.old.dim.w * self.old.dim.h ≤ limits.pixels
-            → step limits self.old.state r.packet ≡ (self.new.state, Shown r.recon.value)) }
-        ensures choice { IfOk result (λ r. IsChosen self.old source.now r.packet) }
-        ensures error { IfOk result (λ r. r.squared_error ≡ squared_distance source.now r.recon.value) }
-        ensures since { IfOk result (λ _. self.new.since ≡ (if next_is_key self.old then 1 else self.old.since + 1)) }
+        ensures encoded { IfOk result (λ r. IsEncodedWithError self.old source.now r self.new) }
         ensures too_long { IfErr result (λ e. e ≡ PacketError.TooLong → IsTooLong self.old source.now) }
     {
         unfiltered_picture_solves_its_equation();
         let since = self.next_since();
         let chosen = self.choose(source)?;
         let packet = self.write(&chosen.coded)?;
-        let recon = decode_shown(&mut self.decoder, packet.as_slice(), chosen.rebuilt)?;
-        self.since = since;
+        let recon = self.decode(packet.as_slice(), chosen.rebuilt, since)?;
         let squared_error = squared_distance(source, &recon);
         Ok(Encoded {
             packet,
             recon,
             squared_error,
         })
+    }
+
+    /// Decodes the packet of the next frame, given its picture before the loop filter, and returns the picture that it
+    /// shows. `since` is the number of frames since the last key frame, including this one.
+    fn decode(
+        &mut self,
+        packet: &[u8],
+        rebuilt: Picture,
+        since: u32,
+    ) -> Result<Rc<Picture>, AllocError>
+        requires shows { ShowsNewest self.old.dim self.old.state packet.now }
+        requires rebuilt { (limits : Limits) (o : ParsedPacket) → self.old.dim.w * self.old.dim.h ≤ limits.pixels
+            → parsed limits self.old.state packet.now ≡ Ok o → IsRebuiltFrame o rebuilt }
+        requires few { since ≤ self.old.settings.key_every }
+        ensures dim { self.new.dim ≡ self.old.dim }
+        ensures settings { self.new.settings ≡ self.old.settings }
+        ensures since { IfOk result (λ _. self.new.since ≡ since) }
+        ensures decoded { IfOk result (λ r. (limits : Limits) → self.old.dim.w * self.old.dim.h ≤ limits.pixels
+            → step limits self.old.state packet.now ≡ (self.new.state, Shown r.value)) }
+        ensures size { IfOk result (λ r. HasSize self.old.dim r.value) }
+    {
+        self.decoder.decode_rebuilt(packet, rebuilt)?;
+        let recon = match self.decoder.kept() {
+            Some(kept) => kept.references().newest().clone()?,
+            None => unreachable!(),
+        };
+        self.since = since;
+        Ok(recon)
     }
 
     /// Returns the state that the next frame is coded with; None for a key frame.
@@ -238,6 +239,8 @@ impl Encoder {
             f.coded.macroblocks) }
         ensures told { IfOk result (λ f. CanBeEncoded (next_is_key self.now) (context_for self.now).saved
             (context_for self.now).modes f.coded) }
+        ensures allowed { AreAllowed self.now.settings }
+        ensures kept { IfSome self.now.state (IsKeptFor self.now.dim) }
     {
         let golden = self.refreshes_golden();
         let kept = self.kept();

@@ -6,9 +6,7 @@ ghost use Rattle.std.specs.List.{All};
 ghost use Rattle.std.specs.Io.KnownBytes.{Appends, Consumes, IsAtEnd};
 ghost use Rattle.vp_base.specs.Counted.{counted_remaining, counted_contents, counted_failures, counted_reads};
 ghost use Rattle.vp_base.specs.Counted.{HasFailed, AppendsPrefix};
-ghost use Rattle.vp_y4m.specs.declared.source.Progress.{Progress};
 ghost use Rattle.vp_y4m.specs.Shown.{head_model};
-ghost use Rattle.vp_y4m.specs.Source.{reader_name, bytes_left, failures_of, reads_of, head_of, progress_of};
 ghost use Rattle.vp_y4m.specs.Reads.{TakesInReads};
 ghost use Rattle.vp_y4m.specs.Text.{i420_length};
 ghost use Rattle.vp_encode.specs.declared.report.EncodeAllFault.{EncodeAllFault};
@@ -102,13 +100,13 @@ pub fn encode_all_watched<R: Read, W: Write, T: Watcher>(
     let head = SourceHead::read(reader, limits)?;
     let encoder = Encoder::new(alloc, head.dim, settings)?;
     let mut run = EncodeProgress::new(alloc, encoder, limits);
-    encode_source(alloc, reader, head, &mut run, watcher)?;
+    encode_pictures(alloc, reader, head, &mut run, watcher)?;
     write_file(head, run.packets(), writer)?;
     Ok(run.report())
 }
 
-/// Encodes the pictures that follow a file's head.
-fn encode_source<R: Read, T: Watcher>(
+/// Encodes the pictures that follow a file's head, which the callback receives.
+fn encode_pictures<R: Read, T: Watcher>(
     alloc: Global,
     reader: &mut Counted<R>,
     head: SourceHead,
@@ -135,40 +133,9 @@ fn encode_source<R: Read, T: Watcher>(
         + (run.old.limits.packets + 1) * (1025 + i420_length head.dim.w head.dim.h) }
 {
     let mut source = Source::open(alloc, reader, head);
-    encode_pictures(&mut source, &head, run, watcher)
-}
-
-/// Encodes the pictures that follow a file's head, which the callback receives.
-fn encode_pictures<R: Read, T: Watcher>(
-    source: &mut Source<'_, R>,
-    head: &SourceHead,
-    run: &mut EncodeProgress,
-    watcher: &mut T,
-) -> Result<(), EncodeAllFault>
-    requires open { progress_of source.old ≡ Progress.Open }
-    requires start { run.old ≡ start run.old.limits (initial_encoder run.old.encoder.dim run.old.encoder.settings) }
-    requires allowed { AreAllowed run.old.encoder.settings }
-    requires width { run.old.encoder.dim.w ≡ (head_of source.old).w }
-    requires height { run.old.encoder.dim.h ≡ (head_of source.old).h }
-    ensures same_reference { reader_name source.new ≡ reader_name source.old }
-    ensures ends { (front : List ℕ) → IsHeadLine run.old.limits.pixels front (head_of source.old)
-        → (bytes : List ℕ) × (frames : List EncodedFrame)
-        × Consumes (bytes_left R.remaining source.old) (bytes_left R.remaining source.new) bytes
-        × IsWrittenFurther (T.told watcher.old) (T.told watcher.new) (progress_of_frames frames)
-        × EndsEncode run.old.limits run.old.encoder.settings result (head_of source.old) (front ++ bytes) frames
-        run.new }
-    ensures end { OnOk result (IsAtEnd (bytes_left R.remaining source.new)) }
-    ensures torn { result ≡ Err EncodeAllFault.Torn → IsAtEnd (bytes_left R.remaining source.new) }
-    ensures device { result ≡ Err EncodeAllFault.Device → HasFailed (failures_of source.old) (failures_of source.new) }
-    ensures quiet { result ≢ Err EncodeAllFault.Device → failures_of source.new ≡ failures_of source.old }
-    ensures reads { TakesInReads 1 (bytes_left R.remaining source.old) (bytes_left R.remaining source.new)
-        (reads_of source.old) (reads_of source.new) }
-    ensures within { reads_of source.new ≤ reads_of source.old
-        + (run.old.limits.packets + 1) * (1025 + i420_length (head_of source.old).w (head_of source.old).h) }
-{
     while let Some(picture) = source.next_picture()? {
         run.picture(&picture)?;
-        watcher.encoded(head, run.so_far());
+        watcher.encoded(&head, run.so_far());
     }
     Ok(())
 }

@@ -8,7 +8,7 @@ ghost use Rattle.vp_tokens.specs.Partitions.{lists, AreBelow24Bits};
 ghost use Rattle.vp_decode.specs.Step.{key_context, maps_before};
 ghost use Rattle.vp_encode.specs.CodedFrame.{CanBeEncoded};
 ghost use Rattle.vp_encode.specs.PacketContents.{key_tag, IsKeyFramePacket, IsInterFramePacket};
-ghost use Rattle.vp_encode.specs.Written.{IsFirst, AreTokenPartitions, IsPutTogether, IsPacket, HasLongPartition};
+ghost use Rattle.vp_encode.specs.Written.{IsFirst, IsPutTogether, IsPacket, HasLongPartition};
 ghost use Rattle.vp_encode.specs.Written.{encoder_tag, kept_by};
 ghost use Rattle.vp_encode.specs.declared.fault.PacketError.{PacketError};
 

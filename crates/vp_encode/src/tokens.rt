@@ -1,6 +1,6 @@
 //! Writes the token partitions of a frame.
 
-ghost use Rattle.std.specs.Prelude.{◌≡◌, ◌<◌, ◌≤◌, ◌+◌, ◌^◌, ℕ, length, map, slice_index_or, OnOk, IfOk};
+ghost use Rattle.std.specs.Prelude.{◌≡◌, ◌<◌, ◌≤◌, ℕ, length, map, slice_index_or, OnOk, IfOk};
 ghost use Rattle.vp_base.specs.Grid.{Grid};
 ghost use Rattle.vp_bool.specs.Intervals.{whole_interval};
 ghost use Rattle.vp_tokens.specs.Blocks.{Blocks};
@@ -123,7 +123,6 @@ pub(crate) fn write_tokens(alloc: Global, coded: &CodedFrame) -> Result<Vec<Vec<
 fn partition_count(log2: u8) -> usize
     requires { log2 ≤ 3 }
     ensures value { result ≡ count_of log2 }
-    ensures few { result ≤ 8 }
     ensures some { 0 < result }
 {
     1 << log2

@@ -1,6 +1,6 @@
 use Rattle.std.proofs.Common.{◌∙◌, ap}
 use Rattle.vp_quant.specs.Quant.{factors}
-use Rattle.vp_encode.proofs.FrameLemmas.{none_is, told_as}
+use Rattle.vp_encode.proofs.ChoosingLemmas.{none_is, told_as}
 use Rattle.vp_encode.proofs.frame.choose_frame.Goals as goal
 
 pub returns-clause-told : goal.returns-clause-told

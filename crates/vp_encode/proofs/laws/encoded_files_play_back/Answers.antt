@@ -1,8 +1,5 @@
 use Rattle.vp_encode.proofs.PlayingLemmas.{fits, plays}
 use Rattle.vp_encode.proofs.laws.encoded_files_play_back.Goals as goal
 
-pub returns-clause-fit : goal.returns-clause-fit
-returns-clause-fit c = fits
-
-pub returns-clause-play : goal.returns-clause-play
-returns-clause-play c = plays
+pub returns : goal.returns
+returns c = record { fit = fits; play = plays }

@@ -5,7 +5,8 @@ use Rattle.vp_motion.specs.Map.{intra}
 use Rattle.vp_decode.specs.MacroblockInfo.{MacroblockInfo, maps_read}
 use Rattle.vp_decode.specs.Step.{maps_before}
 use Rattle.vp_encode.specs.Written.{encoder_tag}
-use Rattle.vp_encode.proofs.PacketLemmas.{all_still, first_said}
+use Rattle.vp_encode.proofs.Candidates.{all_still}
+use Rattle.vp_encode.proofs.PacketLemmas.{first_said}
 use Rattle.vp_encode.proofs.packet.write_first.Goals as goal
 
 pub write-requires-2-clause-unmoved : goal.write-requires-2-clause-unmoved

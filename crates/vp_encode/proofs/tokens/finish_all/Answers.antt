@@ -1,9 +1,8 @@
 use Rattle.std.proofs.Common.{◌≡◌, ◌∙◌, ◌++◌, ◌∷◌, List, [], map, sym, ap, append_assoc}
-use Rattle.std.proofs.lemmas.List.{append-nil, map-append}
+use Rattle.std.proofs.lemmas.List.{append-nil, map-append, nil_from_length}
 use Rattle.vp_bool.specs.Intervals.{Interval}
 use Rattle.vp_tokens.specs.Partitions.{lists}
 use Rattle.vp_encode.specs.Written.{finished}
-use Rattle.vp_encode.proofs.TokenLemmas.{no_items}
 use Rattle.vp_encode.proofs.tokens.finish_all.Goals as goal
 
 pub loop-encoder-init : goal.loop-encoder-init
@@ -30,6 +29,6 @@ loop-encoder-preserved c =
 pub returns : goal.returns
 returns c =
     let rest = c.loop-encoder.encoder-iterator.rest in
-    let none : rest.items ≡ [] = no_items rest.items (sym rest.ok.0 ∙ c.in-None.ensures.steps.0) in
+    let none : rest.items ≡ [] = nil_from_length rest.items (sym rest.ok.0 ∙ c.in-None.ensures.steps.0) in
     let all_of : c.args.encoders.items ≡ c.loop-encoder.yielded = c.loop-encoder.invariant.whole ∙ ap (λ (l : List Interval). c.loop-encoder.yielded ++ l) none ∙ append-nil c.loop-encoder.yielded in
     c.loop-encoder.invariant.so_far ∙ ap (map finished) (sym all_of)

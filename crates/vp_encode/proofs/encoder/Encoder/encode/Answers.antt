@@ -2,8 +2,7 @@ use Rattle.std.proofs.Common.{Ok, Err, refl, ap, ◌∙◌}
 use Rattle.vp_decode.specs.Step.{Decoder}
 use Rattle.vp_encode.specs.declared.fault.EncodeFault.TheVariants.{SourceSize}
 use Rattle.vp_encode.specs.Encoder.{EncoderState}
-use Rattle.vp_encode.specs.Calls.{IsEncodedWithError}
-use Rattle.vp_encode.proofs.CallLemmas.{stands_after, stands_refused}
+use Rattle.vp_encode.proofs.PlayingLemmas.{stands_after, stands_refused}
 use Rattle.vp_encode.proofs.encoder.Encoder.encode.Goals as goal
 
 pub returns-then-dim-self-clause-stands : goal.returns-then-dim-self-clause-stands
@@ -12,12 +11,7 @@ returns-then-dim-self-clause-stands c = λ calls stands.
 
 pub returns-in-Ok-clause-stands : goal.returns-in-Ok-clause-stands
 returns-in-Ok-clause-stands c = λ calls stands.
-    let f = c.in-Ok.ensures in
-    let told : IsEncodedWithError c.args.self.now c.args.source.now c.in-Ok.encoded c.encode_frame.new.self = record {
-      frame = record { chosen = f.choice; decoded = f.decoded; dim = f.dim; settings = f.settings; since = f.since };
-      error = f.error;
-    } in
-    stands_after c.args.self.now calls c.args.source.now (Ok c.in-Ok.encoded) c.encode_frame.new.self stands told
+    stands_after c.args.self.now calls c.args.source.now (Ok c.in-Ok.encoded) c.encode_frame.new.self stands c.in-Ok.ensures.encoded
 
 pub returns-in-Err-clause-stands : goal.returns-in-Err-clause-stands
 returns-in-Err-clause-stands c = λ calls stands.

@@ -3,7 +3,7 @@ use Rattle.vp_bool.specs.Reader.{rows}
 use Rattle.vp_bool.specs.Writing.{Writes}
 use Rattle.vp_bool.proofs.WritingLemmas.{rows-written, rows-unwritten}
 use Rattle.vp_decode.specs.MacroblockInfo.{row_read, maps_read}
-use Rattle.vp_encode.proofs.RowLemmas.{rows_none, rows_next}
+use Rattle.vp_encode.proofs.ContentLemmas.{rows_none, rows_next}
 use Rattle.vp_encode.proofs.macroblock_info.MacroblockInfo.write.Goals as goal
 
 pub loop-row-init : goal.loop-row-init

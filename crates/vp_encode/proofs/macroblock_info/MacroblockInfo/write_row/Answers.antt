@@ -8,7 +8,7 @@ use Rattle.vp_choose.specs.declared.frame.Choice.{Choice}
 use Rattle.vp_encode.specs.CodedFrame.{nothing, coded_choice}
 use Rattle.vp_encode.specs.Written.{AreMapsUpdated}
 use Rattle.vp_encode.proofs.ContentLemmas.{row_none, row_next}
-use Rattle.vp_encode.proofs.RowLemmas.{gives}
+use Rattle.vp_encode.proofs.ContentLemmas.{gives}
 use Rattle.vp_encode.proofs.macroblock_info.MacroblockInfo.write_row.Goals as goal
 
 pub loop-column-init : goal.loop-column-init
