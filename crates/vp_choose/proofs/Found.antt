@@ -1,21 +1,77 @@
--- What a block costs that was cut from a plane.
-use Rattle.std.proofs.Common.{◌≡◌, ◌∙◌, ℕ, ◌+◌, ◌*◌, ◌<◌, List, get_or, ap}
+-- The best vector in a reference frame for a block that was cut from a plane. Each reference frame has one.
+use Rattle.std.proofs.Common.{◌≡◌, ◌∙◌, ℕ, ◌<◌, true, false, List, refl}
 use Rattle.vp_base.specs.declared.place.Place.{Place}
 use Rattle.vp_base.specs.Raster.{Raster}
 use Rattle.vp_intra.specs.Edges.{block}
 use Rattle.vp_intra.proofs.BlockLemmas.{read_block}
 use Rattle.vp_search.specs.declared.vector.WholeVector.{WholeVector}
 use Rattle.vp_search.specs.declared.vector.QuarterVector.{QuarterVector}
+use Rattle.vp_search.specs.declared.vector.Refined.{Refined}
 use Rattle.vp_search.specs.Differences.{block16}
+use Rattle.vp_search.specs.Vectors.{quarters}
 use Rattle.vp_search.specs.Blocks.{whole_cost, quarter_cost}
-use Rattle.vp_search.proofs.WindowLemmas.{whole_cost-same, quarter_cost-same}
+use Rattle.vp_search.specs.Least.{IsLeast}
+use Rattle.vp_search.specs.Refined.{IsRefined}
+use Rattle.vp_search.proofs.WindowLemmas.{whole_cost-same, quarter_cost-same, least_same}
+use Rattle.vp_search.proofs.RefinedLemmas.{refined_same}
+use Rattle.vp_search.proofs.Existence.{BestVector, best_vector, best_refined}
+use Rattle.vp_choose.specs.Costs.{block_pixels}
+use Rattle.vp_choose.specs.Frame.{Search}
+use Rattle.vp_choose.specs.Inter.{IsFound, vector_cost}
+use Rattle.vp_choose.proofs.OneLuma.{either}
 
-module _ (xs : List ℕ) (f : ℕ → ℕ → ℕ) (are : xs ≡ block 16 f) (reference : Raster) (place : Place) where
-  pixel_is : (r c : ℕ) → r < 16 → c < 16 → block16 xs r c ≡ f r c
-  pixel_is r c rin cin = ap (λ (ys : List ℕ). get_or ys (r * 16 + c) 0) are ∙ read_block 16 f r c rin cin
+module _ (xs : List ℕ) (source : Raster) (reference : Raster) (place : Place) (are : xs ≡ block 16 (block_pixels 16 source place)) where
+  pixel_is : (r c : ℕ) → r < 16 → c < 16 → block16 xs r c ≡ block_pixels 16 source place r c
+  pixel_is r c rin cin = rw are (read_block 16 (block_pixels 16 source place) r c rin cin)
 
-  pub whole_cost-listed : (v : WholeVector) → whole_cost (block16 xs) reference place v ≡ whole_cost f reference place v
-  whole_cost-listed v = whole_cost-same (block16 xs) f reference place v pixel_is
+  pub cost_is : (v : QuarterVector) → quarter_cost (block16 xs) reference place v ≡ vector_cost source reference place v
+  cost_is v = quarter_cost-same (block16 xs) (block_pixels 16 source place) reference place v pixel_is
 
-  pub quarter_cost-listed : (v : QuarterVector) → quarter_cost (block16 xs) reference place v ≡ quarter_cost f reference place v
-  quarter_cost-listed v = quarter_cost-same (block16 xs) f reference place v pixel_is
+  pub found_is : (s : Search) (whole : WholeVector) (found : Refined) → IsLeast s.range (whole_cost (block16 xs) reference place) whole
+      → (s.subpel ≡ true → IsRefined (quarter_cost (block16 xs) reference place) whole found.vector)
+      → (s.subpel ≡ false → found.vector ≡ quarters whole)
+      → found.cost ≡ quarter_cost (block16 xs) reference place found.vector → IsFound s source reference place found
+  found_is s whole found least refined unrefined cost = record {
+    whole = whole;
+    least = least_same s.range (whole_cost (block16 xs) reference place) (whole_cost (block_pixels 16 source place) reference place) whole
+        (λ u near. whole_cost-same (block16 xs) (block_pixels 16 source place) reference place u pixel_is) least;
+    refined = λ on. refined_same (quarter_cost (block16 xs) reference place) (vector_cost source reference place) whole found.vector cost_is (refined on);
+    unrefined = unrefined;
+    cost = cost ∙ cost_is found.vector;
+  }
+
+module _ (s : Search) (source reference : Raster) (place : Place) where
+  -- what is found in a reference frame
+  pub record HasFound : Type 0 where
+    pub found : Refined
+    pub is : IsFound s source reference place found
+
+  best_whole : BestVector s.range (whole_cost (block_pixels 16 source place) reference place)
+  best_whole = best_vector s.range (whole_cost (block_pixels 16 source place) reference place)
+
+  -- the best vector, if it is not refined
+  pub unrefined_is : s.subpel ≡ false → (whole : BestVector s.range (whole_cost (block_pixels 16 source place) reference place))
+      → IsFound s source reference place (record { vector = quarters whole.vector; cost = vector_cost source reference place (quarters whole.vector) })
+  unrefined_is off whole = record {
+    whole = whole.vector;
+    least = whole.is;
+    refined = λ on. absurd (let wrong : ⊥ = cc in wrong);
+    unrefined = λ _. refl;
+    cost = refl;
+  }
+
+  pub has_found : HasFound
+  has_found =
+      let refined = best_refined (vector_cost source reference place) best_whole.vector in
+      either s.subpel
+      (λ on. record {
+        found = record { vector = refined.vector; cost = vector_cost source reference place refined.vector };
+        is = record {
+          whole = best_whole.vector;
+          least = best_whole.is;
+          refined = λ _. refined.is;
+          unrefined = λ off. absurd (let wrong : ⊥ = cc in wrong);
+          cost = refl;
+        };
+      })
+      (λ off. record { found = _; is = unrefined_is off best_whole })

@@ -1,23 +1,12 @@
 -- Lists made one after another.
-use Rattle.std.proofs.Common.{◌≡◌, ◌∙◌, ℕ, ◌+◌, ◌*◌, ◌/◌, ◌%◌, ◌<◌, add-mul, ℤ, pos, ◌-ℤ◌, List, length, get_or, set, map, sym, ap, subst, arith, inl, inr}
+use Rattle.std.proofs.Common.{◌≡◌, ◌∙◌, ℕ, ◌+◌, ◌*◌, ◌/◌, ◌%◌, ◌<◌, add-mul, ℤ, pos, ◌-ℤ◌, List, length, get_or, map, sym, ap, arith}
 use Rattle.std.specs.List.{range_with_len}
 use Rattle.std.proofs.lemmas.Nat.{div_below, mod_below}
 use Rattle.std.proofs.lemmas.List.FromFn.{length-map-range_with_len, get_or-map-range_with_len}
 use Rattle.vp_intra.specs.Edges.{block}
 use Rattle.vp_intra.proofs.BlockLemmas.{read_block, is_block}
 use Rattle.vp_choose.specs.Levels.{part}
-use Rattle.std.proofs.lemmas.Bool.{cases_lt}
-use Rattle.std.proofs.lemmas.List.{get_or-set_same, get_or-set_other, ext_get_or}
-
--- one more
-pub each_more : {A : Type 0} (P : ℕ → A → Type 0) (other : A) (k : ℕ) (xs : List A) (x : A) → k < length xs
-    → ((j : ℕ) → j < k → P j (get_or xs j other)) → P k x → (j : ℕ) → j < k + 1 → P j (get_or (set xs k x) j other)
-each_more P other k xs x within before here j below = elim (cases_lt j k) [
-  | inl less ↦ subst (P j) (sym (get_or-set_other xs k j x other (omega arith))) (before j less)
-  | inr more ↦
-      let e : j ≡ k = omega arith in
-      subst (λ (i : ℕ). P i (get_or (set xs k x) i other)) (sym e) (subst (P k) (sym (get_or-set_same xs k x other within)) here)
-]
+use Rattle.std.proofs.lemmas.List.{ext_get_or}
 
 -- a list whose items are those of f
 pub is_mapped : {A : Type 0} (other : A) (n : ℕ) (f : ℕ → A) (xs : List A) → length xs ≡ n → ((i : ℕ) → i < n → get_or xs i other ≡ f i) → xs ≡ map f (range_with_len 0 n)

@@ -1,6 +1,6 @@
 -- What is chosen for the motion of a macroblock is one.
 use Rattle.std.proofs.Common.{◌≡◌, ◌∙◌, ℕ, refl, sym, ap, subst, arith, inl, inr}
-use Rattle.std.proofs.lemmas.Int.{ints}
+use Rattle.std.proofs.lemmas.Grind.{common_steps}
 use Rattle.std.proofs.lemmas.Bool.{cases_lt}
 use Rattle.vp_base.specs.declared.place.Place.{Place}
 use Rattle.vp_base.specs.Raster.{Raster}
@@ -10,11 +10,10 @@ use Rattle.vp_head.specs.declared.fields.Reference.TheVariants as reference_is
 use Rattle.vp_motion.specs.Vector.{Vector, Candidates}
 use Rattle.vp_search.specs.declared.vector.WholeVector.{WholeVector}
 use Rattle.vp_search.specs.declared.vector.Refined.{Refined}
-use Rattle.vp_search.specs.Vectors.{vector_length, quarters}
+use Rattle.vp_search.specs.Vectors.{quarters}
 use Rattle.vp_search.specs.Blocks.{whole_cost}
 use Rattle.vp_search.specs.Least.{IsLeast}
 use Rattle.vp_search.specs.Refined.{IsRefined}
-use Rattle.vp_search.proofs.OrderLemmas.{vector_is}
 use Rattle.vp_search.proofs.RefinedLemmas.{refined_is_one}
 use Rattle.vp_choose.specs.declared.motion.Moved.{Moved}
 use Rattle.vp_choose.specs.Costs.{block_pixels}
@@ -23,22 +22,7 @@ use Rattle.vp_choose.specs.Inter.{IsFound, IsMoved, IsFirstGiving, found_in, vec
 use Rattle.vp_choose.proofs.OneLuma.{either}
 
 least_is_one : (range : ℕ) (cost : WholeVector → ℕ) (v w : WholeVector) → IsLeast range cost v → IsLeast range cost w → v ≡ w
-least_is_one range cost v w p q =
-    let a = p.least w q.near in
-    let b = q.least v p.near in
-    let c = a.by_cost in
-    let d = b.by_cost in
-    let same : cost v ≡ cost w = omega arith in
-    let e = a.by_size same in
-    let f = b.by_size (sym same) in
-    let sizes : vector_length v ≡ vector_length w = omega arith in
-    let g = a.by_row same sizes in
-    let h = b.by_row (sym same) (sym sizes) in
-    let rows : v.row ≡ w.row = omega (arith, ints) in
-    let i = a.by_column same sizes rows in
-    let j = b.by_column (sym same) (sym sizes) (sym rows) in
-    let columns : v.column ≡ w.column = omega (arith, ints) in
-    vector_is v w rows columns
+least_is_one range cost v w p q = grind (arith, common_steps)
 
 refined_of : (a b : Refined) → a.vector ≡ b.vector → a.cost ≡ b.cost → a ≡ b
 refined_of a b v c = λ i. record { vector = v i; cost = c i }
@@ -70,23 +54,7 @@ moved_is_one s source place a b h k =
 
 pub giving_is_one : (c : Candidates) (v : Vector) (a b : VectorMode) → IsFirstGiving c v a → IsFirstGiving c v b → a ≡ b
 giving_is_one c v vector_is.Zero vector_is.Zero p q = refl
-giving_is_one c v vector_is.Zero vector_is.Nearest p q = absurd (q.0 p)
-giving_is_one c v vector_is.Zero vector_is.Near p q = absurd (q.0 p)
-giving_is_one c v vector_is.Zero vector_is.New p q = absurd (q.0 p)
-giving_is_one c v vector_is.Zero vector_is.Split p q = absurd q
-giving_is_one c v vector_is.Nearest vector_is.Zero p q = absurd (p.0 q)
 giving_is_one c v vector_is.Nearest vector_is.Nearest p q = refl
-giving_is_one c v vector_is.Nearest vector_is.Near p q = absurd (q.1 p.1)
-giving_is_one c v vector_is.Nearest vector_is.New p q = absurd (q.1 p.1)
-giving_is_one c v vector_is.Nearest vector_is.Split p q = absurd q
-giving_is_one c v vector_is.Near vector_is.Zero p q = absurd (p.0 q)
-giving_is_one c v vector_is.Near vector_is.Nearest p q = absurd (p.1 q.1)
 giving_is_one c v vector_is.Near vector_is.Near p q = refl
-giving_is_one c v vector_is.Near vector_is.New p q = absurd (q.2 p.2)
-giving_is_one c v vector_is.Near vector_is.Split p q = absurd q
-giving_is_one c v vector_is.New vector_is.Zero p q = absurd (p.0 q)
-giving_is_one c v vector_is.New vector_is.Nearest p q = absurd (p.1 q.1)
-giving_is_one c v vector_is.New vector_is.Near p q = absurd (p.2 q.2)
 giving_is_one c v vector_is.New vector_is.New p q = refl
-giving_is_one c v vector_is.New vector_is.Split p q = absurd q
-giving_is_one c v vector_is.Split b p q = absurd p
+giving_is_one c v a b p q = absurd (grind arith)

@@ -1,5 +1,5 @@
 -- A plane whose macroblock is written as it was is the plane that it was.
-use Rattle.std.proofs.Common.{◌≡◌, ◌∙◌, ℕ, ◌+◌, ◌-◌, ◌*◌, ◌/◌, ◌%◌, ◌<◌, ◌≤◌, Bool, true, false, cond, refl, sym, ap, arith, inl, inr}
+use Rattle.std.proofs.Common.{◌≡◌, ◌∙◌, ℕ, ◌+◌, ◌-◌, ◌*◌, ◌/◌, ◌%◌, ◌<◌, ◌≤◌, true, false, refl, sym, arith, inl, inr}
 use Rattle.std.proofs.lemmas.Bool.{cases_Bool}
 use Rattle.std.proofs.lemmas.Bool.Decides.{nat_tests}
 use Rattle.vp_base.specs.declared.place.Place.{Place}
@@ -29,9 +29,7 @@ one_more p x y q a b g xa ax yb by h = record {
   same = λ u v uin vin out.
       let w = h.width in
       let t = h.height in
-      pixel-with_block q a b 4 4 g u v (omega arith) (omega arith)
-      ∙ ap (λ (s : Bool). cond s (g (v - b) (u - a)) (pixel q u v)) (in_part x y a b u v xa ax yb by out)
-      ∙ h.same u v uin vin out;
+      pixel-with_block q a b 4 4 g u v (omega arith) (omega arith) ∙ rw (in_part x y a b u v xa ax yb by out) (h.same u v uin vin out);
 }
 
 pub after_outside : (factors : Factors) (place : Place) (p : Raster) (s : Subblocks) (n : ℕ) → n ≤ 16
@@ -53,19 +51,14 @@ restored p q place f whole h kept =
     let y = 16 * place.row in
     let w = h.width in
     let t = h.height in
-    same_raster (with_block q x y 16 16 f) p h.width h.height (IsWhole-with_block q x y 16 16 f) whole
-    (λ u v uin vin.
-    pixel-with_block q x y 16 16 f u v uin vin
-    ∙ elim (cases_Bool (is_in_block x y 16 16 u v)) [
+    same_raster (with_block q x y 16 16 f) p h.width h.height (IsWhole-with_block q x y 16 16 f) whole (λ u v uin vin.
+    pixel-with_block q x y 16 16 f u v uin vin ∙ elim (cases_Bool (is_in_block x y 16 16 u v)) [
       | inl within ↦
           let at = in_it x y u v within in
-          ap (λ (s : Bool). cond s (f (v - y) (u - x)) (pixel q u v)) within
-          ∙ kept (v - y) (u - x) (omega (arith, at)) (omega (arith, at))
-          ∙ ap (λ (i : ℕ). pixel p i (y + (v - y))) (let e : x + (u - x) ≡ u = omega (arith, at) in e)
-          ∙ ap (pixel p u) (let e : y + (v - y) ≡ v = omega (arith, at) in e)
-      | inr past ↦
-          ap (λ (s : Bool). cond s (f (v - y) (u - x)) (pixel q u v)) past
-          ∙ h.same u v (omega arith) (omega arith) past
+          let column : x + (u - x) ≡ u = omega (arith, at) in
+          let row : y + (v - y) ≡ v = omega (arith, at) in
+          rw within (kept (v - y) (u - x) (omega (arith, at)) (omega (arith, at)) ∙ rw (column, row))
+      | inr past ↦ rw past (h.same u v (omega arith) (omega arith) past)
     ])
 
 -- the other way: the macroblock of q, written into p

@@ -27,3 +27,5 @@ pub record IsPartlyRebuilt (factors : Factors) (place : Place) (p q : Image) : T
   pub number : ℕ
   pub most : number ≤ 16
   pub is : q ≡ with_plane p 0 (after_subblocks factors place p.luma subblocks number)
+  pub width : q.luma.width ≡ p.luma.width
+  pub height : q.luma.height ≡ p.luma.height

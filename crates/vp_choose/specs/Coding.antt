@@ -1,14 +1,19 @@
 -- Private to the crate: how a macroblock is coded and predicted, and the choice that its levels complete.
-use Rattle.std.specs.Prelude.{◌≡◌, ℕ, ◌+◌, ◌*◌, ◌<◌, ◌≤◌, ◌⊎◌, ℤ, pos, Bool, false, not, List, [], length, None}
+use Rattle.std.specs.Prelude.{◌≡◌, ℕ, ◌+◌, ◌*◌, ◌<◌, ◌≤◌, ℤ, pos, Bool, true, false, not, List, [], replicate}
 use Rattle.std.specs.Prelude.{is_some, IfSome, slice_index, slice_index_or, unsigned_abs}
 use Rattle.vp_base.specs.declared.place.Place.{Place}
+use Rattle.vp_base.specs.Grid.{Grid}
 use Rattle.vp_base.specs.Raster.{Raster}
 use Rattle.vp_base.specs.Block.{with_block}
 use Rattle.vp_base.specs.Image.{Image}
+use Rattle.vp_tables.specs.declared.modes.VectorMode.TheVariants as vector_is
+use Rattle.vp_head.specs.Reference.{is_intra}
+use Rattle.vp_motion.specs.Vector.{MacroblockMotion, IsWithin, last_of, zero_vector}
+use Rattle.vp_motion.specs.Near.{candidates}
+use Rattle.vp_motion.specs.Spelled.{CanBeWritten}
 use Rattle.vp_tokens.specs.declared.contexts.Tokens.{Tokens}
-use Rattle.vp_tokens.specs.Block.{IsBlock}
 use Rattle.vp_tokens.specs.Blocks.{block_of as tokens_of, any_token, no_blocks}
-use Rattle.vp_tokens.specs.Spelled.{AreSpelled, AreTight}
+use Rattle.vp_tokens.specs.Spelled.{AreSpelled, AreTight, levels_of}
 use Rattle.vp_quant.specs.declared.factors.Factors.{Factors}
 use Rattle.vp_intra.specs.Edges.{block as listed}
 use Rattle.vp_recon.specs.declared.given.MacroblockPixels.{MacroblockPixels}
@@ -16,12 +21,15 @@ use Rattle.vp_recon.specs.Predictor.{Predictor, macroblock_of, has_sub_modes, ha
 use Rattle.vp_recon.specs.Prediction.{luma_prediction, chroma_prediction}
 use Rattle.vp_recon.specs.Rebuilt.{luma_rebuilt}
 use Rattle.vp_choose.specs.declared.subblocks.Subblocks.{Subblocks}
+use Rattle.vp_choose.specs.declared.luma.LumaChoice.{LumaChoice}
 use Rattle.vp_choose.specs.declared.coding.Coding.{Coding}
 use Rattle.vp_choose.specs.declared.frame.Choice.{Choice}
 use Rattle.vp_choose.specs.Costs.{block_pixels}
 use Rattle.vp_choose.specs.Levels.{HasLumaAndY2, HasChroma}
 use Rattle.vp_choose.specs.Subblocks.{after_subblocks}
-use Rattle.vp_choose.specs.Intra.{HasSubblocks}
+use Rattle.vp_choose.specs.Frame.{FrameSearch, source_by, no_biases}
+use Rattle.vp_choose.specs.Intra.{IsLuma, HasSubblocks}
+use Rattle.vp_choose.specs.Choice.{IsTaken}
 
 -- the source pixels of the macroblock at a place
 pub record AreCut (source : Image) (place : Place) (b : MacroblockPixels) : Type 0 where
@@ -35,19 +43,9 @@ pub record AreCut (source : Image) (place : Place) (b : MacroblockPixels) : Type
 abbrev pub AreSmall : List (List ℤ) → Type 0
 AreSmall all = (k i : ℕ) → unsigned_abs (slice_index_or (slice_index_or all k []) i (pos 0)) ≤ 2047
 
--- each block ends after its last nonzero level
-pub record AreMade (t : Tokens) : Type 0 where
-  pub number : length t.blocks ≡ 25
-  pub tight : AreTight t.blocks
-  pub blocks : (k : ℕ) → IsBlock (tokens_of t k)
-
--- the blocks but those of chroma plane n are the same
-abbrev pub AreOthersKept : ℕ → Tokens → Tokens → Type 0
-AreOthersKept n t u = (k : ℕ) → (k < 13 + 4 * n) ⊎ (17 + 4 * n ≤ k) → tokens_of u k ≡ tokens_of t k
-
--- luma blocks after a Y2 block have no DC level
-abbrev pub HaveNoDc : Tokens → Type 0
-HaveNoDc t = (k : ℕ) → k < 16 → slice_index_or (tokens_of t (1 + k)).levels 0 (pos 0) ≡ pos 0
+-- the blocks of Y2 and luma have these levels
+abbrev pub HaveLuma : List (List ℤ) → Tokens → Type 0
+HaveLuma all t = (k : ℕ) → k < 17 → (tokens_of t k).levels ≡ levels_of all k
 
 -- The blocks can be written as they are. Each ends after its last nonzero level, all are empty if there is no token,
 -- and all levels can be coded as tokens.
@@ -71,8 +69,8 @@ pub record HasPrediction (predictor : Predictor) (factors : Factors) (place : Pl
     : Type 0 where
   pub sub_modes : has_sub_modes predictor ≡ is_some c.subblocks
   pub y2 : has_y2 predictor ≡ not (is_some c.subblocks)
-  pub at_once : c.subblocks ≡ None → c.prediction.luma ≡ listed 16 (luma_prediction predictor place p.luma)
-  pub by_subblocks : IfSome c.subblocks (λ s. (t : Tokens) → HasSubblocks s t
+  pub at_once : is_some c.subblocks ≡ false → c.prediction.luma ≡ listed 16 (luma_prediction predictor place p.luma)
+  pub by_subblocks : (t : Tokens) → IfSome c.subblocks (λ s. HasSubblocks s t
       → with_block p.luma (16 * place.column) (16 * place.row) 16 16
       (λ r c'. slice_index c.prediction.luma (r * 16 + c'))
       ≡ luma_rebuilt (macroblock_of predictor t factors) place p.luma)
@@ -82,7 +80,7 @@ pub record HasPrediction (predictor : Predictor) (factors : Factors) (place : Pl
 -- the levels of the macroblock at a place: source minus prediction, or with B_PRED those of its subblocks
 pub record HasLevels (source : Image) (predictor : Predictor) (factors : Factors) (place : Place) (p : Image)
     (c : Coding) (t : Tokens) : Type 0 where
-  pub at_once : c.subblocks ≡ None
+  pub at_once : is_some c.subblocks ≡ false
       → HasLumaAndY2 (block_pixels 16 source.luma place) (luma_prediction predictor place p.luma) factors t
   pub by_subblocks : IfSome c.subblocks (λ s. HasSubblocks s t)
   pub u : HasChroma (block_pixels 8 source.u place) (chroma_prediction predictor 1 place p.u) factors t 1
@@ -92,3 +90,30 @@ pub record HasLevels (source : Image) (predictor : Predictor) (factors : Factors
 pub record Completes (coding : Coding) (c : Choice) : Type 0 where
   pub modes : c.modes ≡ record coding.modes { skip = not (any_token c.tokens) }
   pub motion : c.motion ≡ coding.motion
+
+-- A coding whose prediction is that of a predictor, which is known once the choice completes it. With its levels the
+-- completed choice is as `IsChosen` says.
+pub record IsCodedBy (source : Image) (factors : Factors) (place : Place) (p : Image) (predictor : Choice → Predictor)
+    (IsChosen : Choice → Type 0) (coding : Coding) : Type 0 where
+  pub segment : coding.modes.segment ≡ 0
+  pub predicted : (c : Choice) → Completes coding c → HasPrediction (predictor c) factors place p coding
+  pub completed : (c : Choice) → Completes coding c → HasLevels source (predictor c) factors place p coding c.tokens
+      → IsChosen c
+
+-- the motion can be written, and an intra macroblock has none
+pub record IsShortMotion (g : Grid MacroblockMotion) (place : Place) (c : Coding) : Type 0 where
+  pub written : is_intra c.modes.reference ≡ false
+      → CanBeWritten (candidates g place c.modes.reference no_biases) c.motion
+  pub short : IsWithin 259 (last_of c.motion.vectors)
+  pub unmoved : is_intra c.modes.reference ≡ true → (c.motion.mode ≡ vector_is.Zero)
+      × (c.motion.vectors ≡ replicate 16 zero_vector)
+
+-- the coding whose completion is the choice for the macroblock at a place of p
+pub record IsCoding (frame : FrameSearch) (p : Image) (g : Grid MacroblockMotion) (place : Place) (coding : Coding)
+    : Type 0 where
+  pub luma : LumaChoice
+  pub best : IsLuma (block_pixels 16 frame.source.luma place) frame.factors place p.luma luma
+  pub coded : IsCodedBy frame.source frame.factors place p (source_by frame.search)
+      (IsTaken frame.search frame p g place luma) coding
+  pub small : IfSome coding.subblocks (λ s. AreSmall s.levels)
+  pub motion : IsShortMotion g place coding

@@ -7,7 +7,7 @@ ghost use Rattle.vp_choose.specs.Costs.{HasMacroblock, plane_cost, chroma_cost};
 ghost use Rattle.vp_choose.specs.Coding.{AreCut};
 ghost use Rattle.vp_choose.specs.Intra.{IsChroma};
 
-use crate::difference::sad8;
+use crate::kernel::sad8;
 use vp_base::{Picture, Place, Plane};
 use vp_intra::predict_chroma;
 use vp_recon::MacroblockPixels;
@@ -18,6 +18,7 @@ use vp_tables::ChromaMode;
 const ORDER: [ChromaMode; 4] = [ChromaMode::Dc, ChromaMode::V, ChromaMode::H, ChromaMode::Tm];
 
 /// Returns the cost of a mode in one chroma plane: the sum of absolute differences.
+#[tactic(auto, unfolding(crate::specs::Costs::plane_cost))]
 fn plane_cost(block: &[u8; 64], plane: &Plane, place: Place, mode: ChromaMode) -> u32
     requires columns { 8 * place.column + 8 ≤ plane.now.width }
     requires rows { 8 * place.row + 8 ≤ plane.now.height }

@@ -12,19 +12,35 @@ ghost use Rattle.vp_motion.specs.Near.{candidates};
 ghost use Rattle.vp_motion.specs.Spelled.{CanBeWritten};
 ghost use Rattle.vp_recon.specs.Predictor.{macroblock_of};
 ghost use Rattle.vp_recon.specs.Rebuilt.{rebuilt};
+ghost use Rattle.vp_choose.specs.Costs.{HasMacroblock};
 ghost use Rattle.vp_choose.specs.Levels.{ArePositive};
+ghost use Rattle.vp_choose.specs.Coding.{AreCut};
 ghost use Rattle.vp_choose.specs.Frame.{lent_frame, source_by, no_biases};
 ghost use Rattle.vp_choose.specs.Choice.{IsChoice};
 
-use crate::blocks::cut_blocks;
 use crate::frame::{Choice, FrameSearch};
-use crate::macroblock::choose_with_motion;
+use crate::macroblock::coding_of;
 use crate::motion::find_motion;
 use crate::searchers::{Searchers, searchers_of};
 use std::alloc::Global;
 use std::marker::Model;
 use vp_base::{Picture, Place};
 use vp_motion::VectorMap;
+use vp_recon::MacroblockPixels;
+use vp_search::{cut_block, macroblock};
+
+/// Copies the source pixels of the macroblock at `place`.
+fn cut_blocks(source: &Picture, place: Place) -> MacroblockPixels
+    requires { HasMacroblock source.now place }
+    ensures { AreCut source.now place result }
+{
+    let _known = source.dim();
+    MacroblockPixels {
+        luma: macroblock(source.plane(0), place),
+        u: cut_block::<8, 64>(source.plane(1), place),
+        v: cut_block::<8, 64>(source.plane(2), place),
+    }
+}
 
 /// Chooses the macroblocks of one frame as `choose_macroblock` does, and keeps what the motion search can use again.
 #[derive(Drop)]
@@ -97,6 +113,7 @@ impl<'a> FrameChooser<'a> {
         let _known = [self.frame.source.dim(), picture.dim()];
         let blocks = cut_blocks(self.frame.source, place);
         let moved = find_motion(&mut self.searchers, &self.frame, &blocks.luma, place);
-        choose_with_motion(&self.frame, &blocks, picture, vectors, place, moved)
+        let coding = coding_of(&self.frame, &blocks, picture, vectors, place, moved);
+        coding.complete(&blocks, self.frame.factors, picture, place)
     }
 }

@@ -2,9 +2,9 @@
 
 ghost use Rattle.std.specs.Prelude.{◌≡◌, ℕ, ◌+◌, ◌*◌, ◌<◌, ◌≤◌, slice_index};
 ghost use Rattle.std.specs.Int.{abs_diff};
+ghost use Rattle.vp_intra.specs.Edges.{block as listed};
 ghost use Rattle.vp_search.specs.Sums.{sum_below};
 ghost use Rattle.vp_search.specs.Differences.{sum_of_differences};
-ghost use Rattle.vp_choose.specs.Costs.{block_from_rows};
 
 use std::simd::prelude::*;
 use vp_lanes::load16;
@@ -35,18 +35,20 @@ fn total(a: u32x16) -> u32
     a.strict_reduce_sum()
 }
 
-/// The sum of absolute differences of sixteen pixels.
-pub(crate) fn sixteen(a: &[u8; 16], b: &[u8; 16]) -> u32
-    ensures value { result ≡ sum_below 16 (λ j. abs_diff (slice_index a.now j) (slice_index b.now j)) }
-    ensures bound { result ≤ 16 * 255 }
+/// The sum of absolute differences of two blocks of 4 by 4 pixels in raster order.
+pub(crate) fn sad4(a: &[u8; 16], b: &[u8; 16]) -> u32
+    ensures value { (f g : ℕ → ℕ → ℕ) → a.now ≡ listed 4 f → b.now ≡ listed 4 g
+        → result ≡ sum_of_differences 4 4 f g }
+    ensures bound { result ≤ 4080 }
 {
     total(apart(u8x16::from_array(*a), u8x16::from_array(*b)))
 }
 
-/// The sum of absolute differences of 64 pixels.
-pub(crate) fn sixty_four(a: &[u8; 64], b: &[u8; 64]) -> u32
-    ensures value { result ≡ sum_of_differences 4 16 (block_from_rows 16 a.now) (block_from_rows 16 b.now) }
-    ensures bound { result ≤ 4 * 16 * 255 }
+/// The sum of absolute differences of two blocks of 8 by 8 pixels in raster order.
+pub(crate) fn sad8(a: &[u8; 64], b: &[u8; 64]) -> u32
+    ensures value { (f g : ℕ → ℕ → ℕ) → a.now ≡ listed 8 f → b.now ≡ listed 8 g
+        → result ≡ sum_of_differences 8 8 f g }
+    ensures bound { result ≤ 16320 }
 {
     let first = apart(load16(a, 0), load16(b, 0));
     let second = apart(load16(a, 16), load16(b, 16));

@@ -1,10 +1,8 @@
 //! The encoder's choices for one macroblock: modes, motion vector and levels. RFC 6386 leaves all of them open.
 #![tactic(auto)]
 
-mod blocks;
 mod chroma;
 mod coding;
-mod difference;
 mod frame;
 mod frame_chooser;
 mod kernel;

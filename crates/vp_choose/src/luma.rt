@@ -53,14 +53,14 @@ fn cost_of(block: &[u8; 256], plane: &Plane, place: Place, mode: LumaMode) -> u3
 }
 
 /// Returns the costs of the modes other than B_PRED, in tie-breaking order.
-fn whole_costs(block: &[u8; 256], plane: &Plane, place: Place) -> [u32; 4]
-    requires columns { 16 * place.column + 16 ≤ plane.now.width }
-    requires rows { 16 * place.row + 16 ≤ plane.now.height }
+fn whole_costs(block: &[u8; 256], picture: &Picture, place: Place) -> [u32; 4]
+    requires { HasMacroblock picture.now place }
     ensures value { (f : ℕ → ℕ → ℕ) → block.now ≡ listed 16 f → (i : ℕ) → i < 4
-        → slice_index result i ≡ luma_mode_cost f plane.now place (luma_at i) }
+        → slice_index result i ≡ luma_mode_cost f picture.now.luma place (luma_at i) }
     ensures bound { slice_index result 0 ≤ 65280 }
 {
-    let _known = [plane.width(), plane.height()];
+    let _known = picture.dim();
+    let plane = picture.plane(0);
     [
         cost_of(block, plane, place, LumaMode::Dc),
         cost_of(block, plane, place, LumaMode::V),
@@ -83,6 +83,7 @@ fn subblocks_limit(whole: u32, limit: u32) -> u32
 
 /// Returns the luma mode of the least cost for a source `block`; None if that is not less than `limit`. The picture is
 /// used as scratch memory and restored.
+#[tactic(auto, using(crate::proofs::LumaModes::free_luma))]
 pub(crate) fn choose_luma_below(
     block: &[u8; 256],
     factors: &Factors,
@@ -106,7 +107,7 @@ pub(crate) fn choose_luma_below(
         return None;
     }
     let _known = picture.dim();
-    let whole = whole_costs(block, picture.plane(0), place);
+    let whole = whole_costs(block, picture, place);
     let most = subblocks_limit(whole[first_least(&whole)], limit);
     let rebuilt = choose_subblocks(block, factors, picture, place, most)?;
     let subblocks = rebuilt.subblocks;
@@ -125,21 +126,4 @@ pub(crate) fn choose_luma_below(
         luma,
         rebuilt: pixels,
     })
-}
-
-/// Returns the luma mode of the least cost for a source `block`. The picture is used as scratch memory and restored.
-pub(crate) fn choose_luma(
-    block: &[u8; 256],
-    factors: &Factors,
-    picture: &mut Picture,
-    place: Place,
-) -> RebuiltLuma
-    requires picture { HasMacroblock picture.old place }
-    requires factors { ArePositive factors.now }
-    ensures luma { (f : ℕ → ℕ → ℕ) → block.now ≡ listed 16 f
-        → IsLuma f factors.now place picture.old.luma result.luma }
-    ensures rebuilt { IsRebuiltLuma factors.now place picture.old.luma result.luma.subblocks result.rebuilt }
-    ensures kept { picture.new ≡ picture.old }
-{
-    choose_luma_below(block, factors, picture, place, u32::MAX).unwrap()
 }

@@ -38,6 +38,7 @@ pub(crate) struct Moved {
 }
 
 /// Completes the search in one reference frame: refines its best vector in whole pixels, if the settings say so.
+#[tactic(auto, using(crate::proofs::Found::found_is))]
 pub(crate) fn refined(
     search: &Search,
     block: &[u8; 256],
@@ -159,6 +160,7 @@ pub(crate) fn better_of(last: Refined, golden: Option<Refined>) -> Moved
 }
 
 /// Returns the reference frame and the vector with the least cost.
+#[tactic(auto, using(crate::proofs::Unsearched::free_motion))]
 pub(crate) fn choose_reference(
     searchers: &mut Searchers,
     search: &Search,

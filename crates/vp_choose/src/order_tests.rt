@@ -5,7 +5,7 @@ ghost use Rattle.vp_motion.specs.Vector.{IsWithin};
 
 use crate::chroma::choose_chroma;
 use crate::frame::Search;
-use crate::luma::choose_luma;
+use crate::luma::choose_luma_below;
 use crate::motion::{choose_reference, mode_of};
 use crate::searchers::Searchers;
 use crate::tests::FACTORS;
@@ -60,7 +60,8 @@ fn luma_mode(block: &[u8; 256], picture: &mut Picture, place: Place) -> Option<L
     if place.column >= usize::from(dim.mb_cols()) || place.row >= usize::from(dim.mb_rows()) {
         return None;
     }
-    Some(choose_luma(block, &FACTORS, picture, place).luma.mode)
+    let chosen = choose_luma_below(block, &FACTORS, picture, place, u32::MAX)?;
+    Some(chosen.luma.mode)
 }
 
 /// Returns the chroma mode of a macroblock whose U and V are equal; None outside the picture.

@@ -9,15 +9,15 @@ ghost use Rattle.vp_recon.specs.Rebuilt.{with_sub};
 ghost use Rattle.vp_recon.specs.Residue.{residue};
 ghost use Rattle.vp_search.specs.Differences.{sum_of_differences};
 ghost use Rattle.vp_search.specs.FirstLeast.{IsFirstLeast};
-ghost use Rattle.vp_choose.specs.Costs.{block_from_rows, sub_cost};
+ghost use Rattle.vp_choose.specs.Costs.{sub_cost};
 ghost use Rattle.vp_choose.specs.Levels.{ArePositive, coefficients, quantised_levels};
 ghost use Rattle.vp_choose.specs.Coding.{AreSmall, IsRebuiltLuma};
 ghost use Rattle.vp_choose.specs.Subblocks.{IsBestMode, AreSubblocksChosen, after_subblocks, mode_at, sub_levels};
 ghost use Rattle.vp_choose.specs.Below.{AreSubblocksOver, IsPartlyRebuilt};
 
-use crate::difference::sad4;
+use crate::kernel::sad4;
 use crate::levels::{coefficients, part_of, quantised_levels};
-use vp_base::{Picture, Place, Plane};
+use vp_base::{Picture, Place};
 use vp_intra::predict_sub_modes;
 use vp_quant::Factors;
 use vp_recon::rebuild_subblock_from;
@@ -62,18 +62,11 @@ struct Subblock {
     cost: u32,
 }
 
-/// The mode of the least cost for one subblock.
-#[derive(Clone, Copy)]
-struct Best {
-    number: usize,
-    cost: u32,
-    prediction: [u8; 16],
-}
-
 /// Returns the cost of each mode: the sum of absolute differences.
 fn costs_of(block: &[u8; 16], predictions: &[[u8; 16]; 10]) -> [u32; 10]
-    ensures value { (i : ℕ) → i < 10 → slice_index result i ≡ sum_of_differences 4 4 (block_from_rows 4 block.now)
-        (block_from_rows 4 (slice_index_or predictions.now i [])) }
+    ensures value { (f : ℕ → ℕ → ℕ) (g : ℕ → ℕ → ℕ → ℕ) → block.now ≡ listed 4 f
+        → ((i : ℕ) → i < 10 → slice_index_or predictions.now i [] ≡ listed 4 (g i))
+        → (i : ℕ) → i < 10 → slice_index result i ≡ sum_of_differences 4 4 f (g i) }
     ensures bound { (i : ℕ) → slice_index result i ≤ 4080 }
 {
     let mut costs = [0; 10];
@@ -81,41 +74,6 @@ fn costs_of(block: &[u8; 16], predictions: &[[u8; 16]; 10]) -> [u32; 10]
         costs[i] = sad4(block, &predictions[i]);
     }
     costs
-}
-
-/// Returns the mode of the least cost.
-fn best_mode(block: &[u8; 16], plane: &Plane, place: Place) -> Best
-    requires columns { 4 * place.column + 4 ≤ plane.now.width }
-    requires rows { 4 * place.row + 4 ≤ plane.now.height }
-    ensures best { (f : ℕ → ℕ → ℕ) → block.now ≡ listed 4 f → IsFirstLeast 10
-        (λ i. sub_cost f plane.now place (mode_at i)) result.number }
-    ensures cost { (f : ℕ → ℕ → ℕ) → block.now ≡ listed 4 f
-        → result.cost ≡ sub_cost f plane.now place (mode_at result.number) }
-    ensures prediction { result.prediction
-        ≡ listed 4 (sub_pixel (mode_at result.number) plane.now (4 * place.column) (4 * place.row)) }
-    ensures number { result.number < 10 }
-    ensures bound { result.cost ≤ 4080 }
-{
-    let _known = [plane.width(), plane.height()];
-    let predictions = predict_sub_modes(plane, 4 * place.column, 4 * place.row);
-    let costs = costs_of(block, &predictions);
-    let number = first_least(&costs);
-    Best {
-        number,
-        cost: costs[number],
-        prediction: predictions[number],
-    }
-}
-
-/// Returns the levels of a subblock from its prediction.
-fn levels_by(block: &[u8; 16], prediction: &[u8; 16], factors: &Factors) -> [i16; 16]
-    requires { ArePositive factors.now }
-    ensures value { (f g : ℕ → ℕ → ℕ) → block.now ≡ listed 4 f → prediction.now ≡ listed 4 g
-        → result ≡ quantised_levels (coefficients f g) factors.now.y_dc factors.now.y_ac }
-    ensures within { (i : ℕ) → unsigned_abs (slice_index_or result i (pos 0)) ≤ 2047 }
-{
-    let numbers = coefficients(block, prediction);
-    quantised_levels(&numbers, factors.y_dc, factors.y_ac)
 }
 
 /// Chooses the mode of one subblock, and rebuilds it.
@@ -139,15 +97,18 @@ fn choose_subblock(
     ensures bound { result.cost ≤ 4080 }
 {
     let _known = [picture.plane(0).width(), picture.plane(0).height()];
-    let best = best_mode(block, picture.plane(0), place);
-    let mode = ORDER[best.number];
-    let levels = levels_by(block, &best.prediction, factors);
+    let predictions = predict_sub_modes(picture.plane(0), 4 * place.column, 4 * place.row);
+    let costs = costs_of(block, &predictions);
+    let best = first_least(&costs);
+    let prediction = predictions[best];
+    let numbers = coefficients(block, &prediction);
+    let levels = quantised_levels(&numbers, factors.y_dc, factors.y_ac);
     let own = Block::of_levels(&levels);
-    rebuild_subblock_from(picture, place, &best.prediction, &own, factors);
+    rebuild_subblock_from(picture, place, &prediction, &own, factors);
     Subblock {
-        mode,
+        mode: ORDER[best],
         levels,
-        cost: best.cost,
+        cost: costs[best],
     }
 }
 
@@ -201,6 +162,7 @@ fn choose_all(
 
 /// Returns the choice for all subblocks of a macroblock, and the luma rebuilt by it; None if their cost reaches `limit`
 /// while one is left. The picture is used as scratch memory and restored.
+#[tactic(auto, using(crate::proofs::SubblockChoice::free_subblocks))]
 pub(crate) fn choose_subblocks(
     source: &[u8; 256],
     factors: &Factors,

@@ -1,12 +1,22 @@
 use Rattle.std.proofs.Common.{◌≡◌, ℤ, to_z, of_z, w32, subst, arith}
 use Rattle.std.proofs.lemmas.Int.{ints}
+use Rattle.vp_tables.specs.declared.modes.VectorMode.{VectorMode}
+use Rattle.vp_tables.specs.declared.modes.VectorMode.TheVariants as vector_is
 use Rattle.vp_motion.specs.Vector.{Vector, Candidates, IsWithin}
+use Rattle.vp_motion.specs.Spelled.{GivesVector, difference_of}
 use Rattle.vp_motion.proofs.Sizes.{candidates-short, new-short}
 use Rattle.vp_motion.specs.Near.{candidates}
 use Rattle.vp_choose.specs.Frame.{no_biases}
 use Rattle.vp_choose.specs.Inter.{IsFirstGiving}
-use Rattle.vp_choose.proofs.Giving.{first_gives}
 use Rattle.vp_choose.proofs.motion.motion_of.Goals as goal
+
+-- the first mode that gives a vector gives it
+first_gives : (c : Candidates) (v : Vector) (mode : VectorMode) → IsWithin 1023 (difference_of v c.best) → IsFirstGiving c v mode → GivesVector c mode v
+first_gives c v vector_is.Zero near h = h
+first_gives c v vector_is.Nearest near h = h.1
+first_gives c v vector_is.Near near h = h.2
+first_gives c v vector_is.New near h = near
+first_gives c v vector_is.Split near h = absurd h
 
 pub returns-clause-written : goal.returns-clause-written
 returns-clause-written c =

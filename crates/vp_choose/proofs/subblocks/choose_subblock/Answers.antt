@@ -1,47 +1,63 @@
-use Rattle.std.proofs.Common.{◌≡◌, ◌∙◌, ◌+◌, ◌*◌, ℕ, ℤ, pos, List, get_or, refl, ap, subst}
-use Rattle.vp_base.specs.Raster.{Raster}
-use Rattle.vp_base.specs.Image.{Image, with_plane}
+use Rattle.std.proofs.Common.{◌≡◌, ◌∙◌, ◌+◌, ◌*◌, ◌<◌, ℕ, pos, List, [], length, get_or, refl, ap, rules}
+use Rattle.std.proofs.lemmas.List.{get_or-map}
+use Rattle.vp_base.specs.Image.{with_plane}
 use Rattle.vp_base.proofs.BlockLemmas.{with_block_same}
+use Rattle.vp_tables.specs.declared.modes.SubMode.{SubMode}
+use Rattle.vp_tables.specs.declared.modes.SubMode.TheVariants.{Dc}
 use Rattle.vp_intra.specs.Edges.{block}
 use Rattle.vp_intra.proofs.BlockLemmas.{read_block}
-use Rattle.vp_intra.specs.Sub.{sub_pixel}
+use Rattle.vp_intra.specs.Sub.{sub_modes, sub_pixel}
 use Rattle.vp_recon.specs.Residue.{residue}
-use Rattle.vp_recon.specs.Rebuilt.{summed, with_sub}
+use Rattle.vp_recon.specs.Rebuilt.{summed}
 use Rattle.vp_search.specs.FirstLeast.{IsFirstLeast}
+use Rattle.vp_search.proofs.RefinedLemmas.{first_same}
 use Rattle.vp_choose.specs.Costs.{sub_cost}
-use Rattle.vp_choose.specs.Subblocks.{mode_at, sub_levels}
+use Rattle.vp_choose.specs.Subblocks.{mode_at}
 use Rattle.vp_choose.proofs.subblocks.choose_subblock.Goals as goal
 
-pub returns : goal.returns
-returns c =
-    let p : Image = c.args.picture.now in
-    let n : ℕ = c.best_mode-best.result.number in
-    record {
-      mode = λ f e. record {
-        number = n;
-        first = subst (λ (q : Raster). IsFirstLeast 10 (λ i. sub_cost f q c.args.place (mode_at i)) n) c.plane-3.ensures (c.best_mode-best.ensures.best f e);
-        is = refl;
-      };
-      levels = λ f e.
-          let g : ℕ → ℕ → ℕ = sub_pixel (mode_at n) c.plane-3.result.now (4 * c.args.place.column) (4 * c.args.place.row) in
-          c.levels_by-levels.ensures.value f g e c.best_mode-best.ensures.prediction
-          ∙ ap (λ (q : Raster). sub_levels f q c.args.place (mode_at n) c.args.factors.now) c.plane-3.ensures;
-      cost = λ f e.
-          c.best_mode-best.ensures.cost f e
-          ∙ ap (λ (q : Raster). sub_cost f q c.args.place (mode_at n)) c.plane-3.ensures;
-      rebuilt =
-          let x : ℕ = 4 * c.args.place.column in
-          let y : ℕ = 4 * c.args.place.row in
-          let own = residue c.of_levels-own.result.levels c.args.factors.now.y_dc c.args.factors.now.y_ac in
-          let made : c.best_mode-best.result.prediction ≡ block 4 (sub_pixel (mode_at n) p.luma x y) =
-          c.best_mode-best.ensures.prediction ∙ ap (λ (q : Raster). block 4 (sub_pixel (mode_at n) q x y)) c.plane-3.ensures in
-          c.rebuild_subblock_from.ensures
-          ∙ ap (with_plane p 0) (with_block_same p.luma x y 4 4
-          (λ r j. summed (get_or c.best_mode-best.result.prediction (r * 4 + j) 0) (get_or own (4 * r + j) (pos 0)))
-          (λ r j. summed (sub_pixel (mode_at n) p.luma x y r j) (get_or own (4 * r + j) (pos 0)))
-          (λ r j rin jin. ap (λ (q : ℕ). summed q (get_or own (4 * r + j) (pos 0)))
-          (ap (λ (ps : List ℕ). get_or ps (r * 4 + j) 0) made ∙ read_block 4 (sub_pixel (mode_at n) p.luma x y) r j rin jin)))
-          ∙ ap (λ (l : List ℤ). with_plane p 0 (with_sub p.luma c.args.place (mode_at n) (residue l c.args.factors.now.y_dc c.args.factors.now.y_ac))) c.of_levels-own.ensures.levels;
-      within = c.levels_by-levels.ensures.within;
-      bound = c.best_mode-best.ensures.bound;
-    }
+module _ (c : goal.After-result-1) where
+  predicted_at : (i : ℕ) → i < 10
+      → get_or c.predict_sub_modes-predictions.result i [] ≡ block 4 (sub_pixel (mode_at i) c.args.picture.now.luma (4 * c.args.place.column) (4 * c.args.place.row))
+  predicted_at i below =
+      let all = rw c.plane-3.ensures at c.predict_sub_modes-predictions.ensures in
+      rw all (get_or-map (λ (m : SubMode). block 4 (sub_pixel m c.args.picture.now.luma (4 * c.args.place.column) (4 * c.args.place.row))) sub_modes i Dc [] below)
+
+  cost_at : (f : ℕ → ℕ → ℕ) → c.args.block.now ≡ block 4 f → (i : ℕ) → i < 10 → get_or c.costs_of-costs.result i 0 ≡ sub_cost f c.args.picture.now.luma c.args.place (mode_at i)
+  unfolding sub_cost
+  cost_at f e = c.costs_of-costs.ensures.value f (λ j. sub_pixel (mode_at j) c.args.picture.now.luma (4 * c.args.place.column) (4 * c.args.place.row)) e predicted_at
+
+  first : IsFirstLeast 10 (λ i. get_or c.costs_of-costs.result i 0) c.first_least-best.result
+  first = let long : length c.costs_of-costs.result ≡ 10 = search rules in rw long at c.first_least-best.ensures
+
+pub returns-clause-mode : goal.returns-clause-mode
+returns-clause-mode c f e = record {
+  number = c.first_least-best.result;
+  first = first_same 10 (λ i. get_or c.costs_of-costs.result i 0) (λ i. sub_cost f c.args.picture.now.luma c.args.place (mode_at i)) c.first_least-best.result (cost_at c f e) (first c);
+  is = refl;
+}
+
+pub returns-clause-levels : goal.returns-clause-levels
+returns-clause-levels c f e = rw (
+  c.quantised_levels-levels.ensures.value,
+  c.coefficients-numbers.ensures.value f (sub_pixel (mode_at c.first_least-best.result) c.args.picture.now.luma (4 * c.args.place.column) (4 * c.args.place.row)) e
+      (predicted_at c c.first_least-best.result (first c).within),
+)
+
+pub returns-clause-cost : goal.returns-clause-cost
+returns-clause-cost c f e = cost_at c f e c.first_least-best.result (first c).within
+
+pub returns-clause-rebuilt : goal.returns-clause-rebuilt
+returns-clause-rebuilt c =
+    let p = c.args.picture.now in
+    let mode : SubMode = mode_at c.first_least-best.result in
+    let x : ℕ = 4 * c.args.place.column in
+    let y : ℕ = 4 * c.args.place.row in
+    let own = residue c.of_levels-own.result.levels c.args.factors.now.y_dc c.args.factors.now.y_ac in
+    let made = predicted_at c c.first_least-best.result (first c).within in
+    let prediction : List ℕ = get_or c.predict_sub_modes-predictions.result c.first_least-best.result [] in
+    c.rebuild_subblock_from.ensures
+    ∙ ap (with_plane p 0) (with_block_same p.luma x y 4 4
+    (λ r j. summed (get_or prediction (r * 4 + j) 0) (get_or own (4 * r + j) (pos 0)))
+    (λ r j. summed (sub_pixel mode p.luma x y r j) (get_or own (4 * r + j) (pos 0)))
+    (λ r j rin jin. rw (made, read_block 4 (sub_pixel mode p.luma x y) r j rin jin)))
+    ∙ rw c.of_levels-own.ensures.levels

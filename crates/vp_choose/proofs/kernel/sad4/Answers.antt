@@ -2,15 +2,15 @@ use Rattle.std.proofs.Common.{◌∙◌, ◌≤◌, ◌*◌, get_or, arith}
 use Rattle.std.specs.Int.{abs_diff}
 use Rattle.vp_search.specs.Sums.{sum_below}
 use Rattle.vp_search.proofs.SumLemmas.{sum_below-same, sum_below-bound}
-use Rattle.vp_choose.proofs.kernel.sixteen.Goals as goal
-
-pub total-requires : goal.total-requires
-total-requires c j h = let x = c.apart.ensures.range j h in omega arith
+use Rattle.vp_choose.proofs.SumLemmas.{sum_below-rows, differences-listed}
+use Rattle.vp_choose.proofs.kernel.sad4.Goals as goal
 
 pub returns-clause-value : goal.returns-clause-value
-returns-clause-value c =
+returns-clause-value c f g fe ge =
     c.total.ensures.value
     ∙ sum_below-same 16 (λ j. get_or c.apart.result j 0) (λ j. abs_diff (get_or c.args.a.now j 0) (get_or c.args.b.now j 0)) c.apart.ensures.value
+    ∙ sum_below-rows 4 4 (λ j. abs_diff (get_or c.args.a.now j 0) (get_or c.args.b.now j 0))
+    ∙ differences-listed 4 c.args.a.now c.args.b.now f g fe ge
 
 pub returns-clause-bound : goal.returns-clause-bound
 returns-clause-bound c =

@@ -1,9 +1,10 @@
-use Rattle.std.proofs.Common.{◌≡◌, ℕ, ◌+◌, ◌<◌, List, get_or, refl, ap₂, ◌∙◌, arith}
+use Rattle.std.proofs.Common.{◌≡◌, ℕ, ◌+◌, ◌<◌, List, get_or, refl, sym, ap₂, ◌∙◌, arith}
 use Rattle.std.specs.Int.{abs_diff}
 use lib.Lanes.{chunk}
 use Rattle.vp_choose.specs.Costs.{block_from_rows}
 use Rattle.vp_search.proofs.RowLemmas.{lane_at, four_sums}
-use Rattle.vp_choose.proofs.kernel.sixty_four.Goals as goal
+use Rattle.vp_choose.proofs.SumLemmas.{sum_below-rows, differences-listed}
+use Rattle.vp_choose.proofs.kernel.sad8.Goals as goal
 
 -- a lane of a row's differences
 lane_is_pixel : (p q d a b : List ℕ) (x y x' y' : ℕ) → p ≡ chunk x 16 a → q ≡ chunk y 16 b → x ≡ x' → y ≡ y'
@@ -12,20 +13,8 @@ lane_is_pixel : (p q d a b : List ℕ) (x y x' y' : ℕ) → p ≡ chunk x 16 a 
 lane_is_pixel p q d a b x y x' y' ep eq ex ey all j h =
     all j h ∙ ap₂ abs_diff (lane_at p a x x' ep ex j h) (lane_at q b y y' eq ey j h)
 
-pub both-requires-3-clause-a_in : goal.both-requires-3-clause-a_in
-both-requires-3-clause-a_in c j h = let e = c.both.ensures j h in let x = c.apart-first.ensures.range j h in let y = c.apart-second.ensures.range j h in omega arith
-
-pub both-requires-3-clause-b_in : goal.both-requires-3-clause-b_in
-both-requires-3-clause-b_in c j h = let e = c.both-2.ensures j h in let x = c.apart-third.ensures.range j h in let y = c.apart-fourth.ensures.range j h in omega arith
-
-pub total-requires : goal.total-requires
-total-requires c j h =
-    let g = c.both-3.ensures j h in
-    let e = c.both.ensures j h in let x = c.apart-first.ensures.range j h in let y = c.apart-second.ensures.range j h in
-    let f = c.both-2.ensures j h in let z = c.apart-third.ensures.range j h in let w = c.apart-fourth.ensures.range j h in omega arith
-
 pub returns-clause-value : goal.returns-clause-value
-returns-clause-value c =
+returns-clause-value c f g fe ge =
     let a = c.args.a.now in let b = c.args.b.now in
     let row : ℕ → ℕ → ℕ = λ r j. abs_diff (block_from_rows 16 a r j) (block_from_rows 16 b r j) in
     let r0 : (j : ℕ) → j < 16 → get_or c.apart-first.result j 0 ≡ row 0 j =
@@ -41,3 +30,5 @@ returns-clause-value c =
     let e = c.both-3.ensures j h in let f = c.both.ensures j h in let g = c.both-2.ensures j h in
     let p = r0 j h in let q = r1 j h in let u = r2 j h in let v = r3 j h in
     omega arith)
+    ∙ sym (sum_below-rows 4 16 (λ i. abs_diff (get_or a i 0) (get_or b i 0))) ∙ sum_below-rows 8 8 (λ i. abs_diff (get_or a i 0) (get_or b i 0))
+    ∙ differences-listed 8 a b f g fe ge
