@@ -65,8 +65,8 @@ pub record HasSubblocks (s : Subblocks) (t : Tokens) : Type 0 where
   pub luma : (k : ℕ) → k < 16 → (tokens_of t (1 + k)).levels ≡ levels_in s k
 
 -- the modes and the levels of an intra macroblock with this luma
-pub record IsIntra (source : Image) (factors : Factors) (place : Place) (p : Image) (l : LumaChoice) (m : Modes) (t : Tokens)
-    : Type 0 where
+pub record IsIntra (source : Image) (factors : Factors) (place : Place) (p : Image) (l : LumaChoice) (m : Modes)
+    (t : Tokens) : Type 0 where
   pub reference : m.reference ≡ reference_is.Intra
   pub luma : m.luma ≡ l.mode
   pub subs : m.subs ≡ (if is_by_subblocks l.mode then l.subblocks.modes else replicate 16 sub_is.Dc)

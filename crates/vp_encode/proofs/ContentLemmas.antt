@@ -1,6 +1,6 @@
 -- How the modes and the motion of a frame's macroblocks are told, one after another.
 use Rattle.std.proofs.Common.{◌≡◌, ◌∙◌, ◌≢◌, ℕ, ◌+◌, ◌≤◌, true, false, refl, sym, ap, subst, arith, inl, inr, ◌<◌}
-use Rattle.std.specs.Prelude.{Some, unwrap_or, if◌then◌else◌}
+use Rattle.std.specs.Prelude.{Some, unwrap_or}
 use Rattle.std.proofs.lemmas.Bool.{cases_Bool, cases_lt}
 use Rattle.vp_base.specs.declared.place.Place.{Place}
 use Rattle.vp_base.specs.Grid.{Grid, at, entry, with_entry}
@@ -12,7 +12,6 @@ use Rattle.vp_head.specs.declared.fields.Reference.{Reference}
 use Rattle.vp_head.specs.Reference.{is_intra}
 use Rattle.vp_modes.specs.Entry.{Modes, plain}
 use Rattle.vp_modes.specs.Modes.{modes_at}
-use Rattle.vp_modes.specs.Spelled.{AreWritableModes}
 use Rattle.vp_motion.specs.Vector.{MacroblockMotion, Candidates}
 use Rattle.vp_motion.specs.Map.{intra}
 use Rattle.vp_motion.specs.Motion.{motion_at}
@@ -126,15 +125,6 @@ row_next c row n old m r made last still =
           let more = made.others p (λ e. let w = behind e in omega arith) in
           record { modes = one.modes ∙ more.modes; motion = one.motion ∙ more.motion };
     }
-
-pub spelled_same : (h : Header) (g k : Grid Modes) (p : Place) (m : Modes) → at plain k p ≡ at plain g p → AreWritableModes h g p m → AreWritableModes h k p m
-spelled_same h g k p m same spelled = record {
-  segment = λ e. spelled.segment e ∙ ap (λ (x : Modes). if h.key then 0 else x.segment) (sym same);
-  skip = spelled.skip;
-  reference = spelled.reference;
-  inter = spelled.inter;
-  subs = spelled.subs;
-}
 
 -- ---- the vectors of a macroblock are told over those of the frame
 

@@ -11,7 +11,6 @@ use Rattle.vp_inter.specs.declared.vector.PlaneVector.{PlaneVector}
 use Rattle.vp_inter.specs.Inter.{reference_pixel, horizontal_pass, inter_pixel}
 use Rattle.vp_inter.specs.Vectors.{fraction, first_tap, whole_pixels, mean_of_four, chroma_eighths, luma_vector, chroma_vector}
 use Rattle.vp_inter.specs.Filter.{taps, filter_six}
-use Rattle.vp_inter.proofs.FilterLemmas.{filtered_bound}
 use Rattle.vp_recon.specs.Prediction.{moved_pixel, four_from, luma_moved, chroma_moved}
 use Rattle.vp_recon.specs.Sums.{sub_of_quarter}
 use Rattle.vp_recon.proofs.Parts.{sub_at, subblock_has}
@@ -39,15 +38,6 @@ moved_quarter version reference x y vector n r c rin cin =
     (x + 8 * (n % 2) + 4 * (c / 4)) (y + 8 * (n / 2) + 4 * (r / 4)) (sub_of_quarter n (2 * (r / 4) + c / 4)) (r % 4) (c % 4)
     (x + 4 * ((8 * (n % 2) + c) / 4)) (y + 4 * ((8 * (n / 2) + r) / 4)) (4 * ((8 * (n / 2) + r) / 4) + (8 * (n % 2) + c) / 4) ((8 * (n / 2) + r) % 4) ((8 * (n % 2) + c) % 4)
     (omega arith) (omega arith) (omega arith) (omega arith) (omega arith)
-
--- pixels that are moved are bytes
-pub inter_bound : (version : ℕ) (reference : Raster) (x y : ℕ) (v : PlaneVector) (r c : ℕ) → inter_pixel version reference x y v r c ≤ 255
-unfolding inter_pixel
-inter_bound version reference x y v r c =
-    filtered_bound (taps version (fraction v.row)) (above 0) (above 1) (above 2) (above 3) (above 4) (above 5)
-  where
-    above : ℕ → ℕ
-    above k = horizontal_pass (taps version (fraction v.column)) reference (first_tap x v.column) (first_tap y v.row) (r + k) c
 
 -- ---- a block that moves as a whole
 
