@@ -66,7 +66,8 @@ def stages(command, rules, folder):
     for line in said.stdout.splitlines():
         found = re.match(r"\s*([\d,]+) \([ \d.]+%\)\s+(.*)", line)
         if found:
-            count, name = int(found[1].replace(",", "")), found[2]
+            # A type parameter, as that of the filter of rows, says nothing of the stage.
+            count, name = int(found[1].replace(",", "")), re.sub(r"::<[^<>]*>(?= \[|$)", "", found[2])
             every = ((ALL, "^PROGRAM TOTALS"), *COMMON, *rules)
             sums[next((stage for stage, words in every if re.search(words, name)), ELSE)] += count
     return sums
