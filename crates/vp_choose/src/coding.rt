@@ -20,7 +20,7 @@ use vp_recon::{MacroblockPixels, rebuild_from};
 /// How a macroblock is coded, and its prediction.
 #[derive(Clone, Copy)]
 pub(crate) struct Coding {
-    /// Not skipped: whether it is depends on its levels.
+    /// With `skip` false: whether the macroblock is skipped depends on its levels.
     pub(crate) modes: Modes,
     pub(crate) motion: Motion,
     /// With B_PRED its luma is rebuilt already.

@@ -42,7 +42,7 @@ fn cut_blocks(source: &Picture, place: Place) -> MacroblockPixels
     }
 }
 
-/// Chooses the macroblocks of one frame as `choose_macroblock` does, and keeps what the motion search can use again.
+/// Chooses the macroblocks of one frame, one after another, and keeps what the motion search can use again.
 #[derive(Drop)]
 pub struct FrameChooser<'a> {
     frame: FrameSearch<'a>,
@@ -76,7 +76,7 @@ impl<'a> FrameChooser<'a> {
         }
     }
 
-    /// Prepares the same choice without searchers, whose searches are each independent.
+    /// Prepares the same choice without searchers: each search is independent. Only `choose_macroblock` calls it.
     pub(crate) fn without_searchers(frame: &FrameSearch<'a>) -> FrameChooser<'a>
         requires range { IfSome (lent_frame frame.now).search (λ s. s.range ≤ 64) }
         ensures { result ≡ lent_frame frame.now }
@@ -87,7 +87,7 @@ impl<'a> FrameChooser<'a> {
         }
     }
 
-    /// Chooses the coding of the macroblock at `place`, and rebuilds it, as `choose_macroblock` does.
+    /// Chooses the coding of the macroblock at `place`, and rebuilds it in `picture`.
     ///
     /// In `picture` the macroblocks before it, in raster order, are rebuilt and not filtered yet; `vectors` has their
     /// motion. The macroblock's own motion is not stored there. The motion search is fastest if macroblocks are chosen

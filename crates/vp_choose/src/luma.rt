@@ -69,8 +69,8 @@ fn whole_costs(block: &[u8; 256], picture: &Picture, place: Place) -> [u32; 4]
     ]
 }
 
-/// Returns the limit of the subblocks' cost: if they reach it, no mode costs less than `limit`. It is out of reach if
-/// another mode does, of cost `whole`.
+/// Returns the limit of the subblocks' cost: if they reach it, no luma mode costs less than `limit`. If `whole`, the
+/// least cost of the other modes, is less than `limit` already, it is out of reach.
 fn subblocks_limit(whole: u32, limit: u32) -> u32
     ensures over { limit ≤ whole → limit ≤ result + 128 }
     ensures all { whole < limit → 65280 < result }

@@ -1,6 +1,6 @@
 //! Chooses for one macroblock: intra or inter.
 
-ghost use Rattle.std.specs.Prelude.{◌≡◌, ◌+◌, ◌*◌, ◌≤◌, true, false, None, IfSome, replicate};
+ghost use Rattle.std.specs.Prelude.{◌≡◌, ◌*◌, ◌≤◌, true, false, None, IfSome, replicate};
 ghost use Rattle.vp_base.specs.Grid.{Grid, Has};
 ghost use Rattle.vp_base.specs.Image.{Image};
 ghost use Rattle.vp_base.specs.Raster.{Raster};
@@ -176,7 +176,8 @@ fn inter_coding(search: &Search, vectors: &VectorMap, place: Place, moved: &Move
     }
 }
 
-/// Chooses the coding of a macroblock whose motion is found. The picture is used as scratch memory and restored.
+/// Chooses the coding of a macroblock: intra if its luma costs less than `moved`, the motion that was found, which is
+/// None in a key frame. The picture is used as scratch memory and restored.
 pub(crate) fn coding_of(
     frame: &FrameSearch,
     blocks: &MacroblockPixels,

@@ -102,8 +102,8 @@ fn find(
     }
 }
 
-/// Finds the best vector in golden; None only if it costs at least `limit`. A refinement can make a vector cheaper than
-/// the limit, so that all are searched then.
+/// Finds the best vector in golden; None only if it costs at least `limit`. If vectors are refined the limit is not
+/// used, since a refinement can make a vector cheaper than it; nor is it without a searcher.
 fn find_golden(
     searcher: &mut Option<Searcher>,
     search: &Search,

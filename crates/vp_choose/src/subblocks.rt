@@ -4,15 +4,13 @@ ghost use Rattle.std.specs.Prelude.{◌≡◌, ℕ, ◌+◌, ◌*◌, ◌<◌, �
 ghost use Rattle.std.specs.Prelude.{IfSome, IsSome, MatchOption};
 ghost use Rattle.vp_base.specs.Image.{with_plane};
 ghost use Rattle.vp_intra.specs.Edges.{block as listed};
-ghost use Rattle.vp_intra.specs.Sub.{sub_pixel};
 ghost use Rattle.vp_recon.specs.Rebuilt.{with_sub};
 ghost use Rattle.vp_recon.specs.Residue.{residue};
 ghost use Rattle.vp_search.specs.Differences.{sum_of_differences};
-ghost use Rattle.vp_search.specs.FirstLeast.{IsFirstLeast};
 ghost use Rattle.vp_choose.specs.Costs.{sub_cost};
 ghost use Rattle.vp_choose.specs.Levels.{ArePositive, coefficients, quantised_levels};
 ghost use Rattle.vp_choose.specs.Coding.{AreSmall, IsRebuiltLuma};
-ghost use Rattle.vp_choose.specs.Subblocks.{IsBestMode, AreSubblocksChosen, after_subblocks, mode_at, sub_levels};
+ghost use Rattle.vp_choose.specs.Subblocks.{IsBestMode, AreSubblocksChosen, after_subblocks, sub_levels};
 ghost use Rattle.vp_choose.specs.Below.{AreSubblocksOver, IsPartlyRebuilt};
 
 use crate::kernel::sad4;

@@ -174,7 +174,7 @@ impl Encoder {
     }
 
     /// Decodes the packet of the next frame, given its picture before the loop filter, and returns the picture that it
-    /// shows. `since` is the number of frames since the last key frame, including this one.
+    /// shows. `since` is the number of frames from the last key frame to this one, both included.
     fn decode(
         &mut self,
         packet: &[u8],

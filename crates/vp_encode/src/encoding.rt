@@ -13,7 +13,8 @@ ghost use Rattle.vp_encode.specs.declared.report.EncodeAllFault.{EncodeAllFault}
 ghost use Rattle.vp_encode.specs.declared.report.EncodedSoFar.{EncodedSoFar};
 ghost use Rattle.vp_encode.specs.Encoder.{AreAllowed};
 ghost use Rattle.vp_encode.specs.Encoded.{EncodedFrame, initial_encoder};
-ghost use Rattle.vp_encode.specs.File.{IsAnswerOver, IsWrittenFurther, IsWatched, ivf_text, most_reads, progress_of_frames};
+ghost use Rattle.vp_encode.specs.File.{IsAnswerOver, IsWrittenFurther, IsWatched, ivf_text, most_reads};
+ghost use Rattle.vp_encode.specs.File.{progress_of_frames};
 ghost use Rattle.vp_encode.specs.EncodeProgress.{start, IsHeadLine, EndsEncode};
 
 use crate::encode_progress::EncodeProgress;

@@ -67,7 +67,7 @@ impl FrameChoices {
         })
     }
 
-    /// Chooses the macroblock at a place, and rebuilds it.
+    /// Chooses the macroblock at a place, rebuilds it, and keeps the choice and its motion.
     fn macroblock(&mut self, chooser: &mut FrameChooser, place: Place)
         requires place { Has self.old.chosen place }
         requires factors { ArePositive chooser.old.factors }

@@ -1,8 +1,7 @@
 //! Filtering the edges of one macroblock. All lines of an edge are filtered at once, and those of both chroma planes
 //! together.
 
-ghost use Rattle.std.specs.Prelude.{◌≡◌, ℕ, ◌+◌, ◌<◌, ◌≤◌, Some, IsTrue};
-ghost use Rattle.vp_base.specs.Image.{Image};
+ghost use Rattle.std.specs.Prelude.{◌≡◌, ◌+◌, ◌<◌, ◌≤◌, Some, IsTrue};
 ghost use Rattle.vp_loop.specs.Lanes.{KeepsEnds};
 ghost use Rattle.vp_loop.specs.Edges.{vertical, horizontal, edge_lines, inner_edges, block_edges, block_filtered};
 ghost use Rattle.vp_loop.specs.Edges.{on_luma, on_chroma};

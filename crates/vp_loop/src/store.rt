@@ -1,9 +1,9 @@
 //! Storing rows of pixels in a plane.
 
-ghost use Rattle.std.specs.Prelude.{◌≡◌, ℕ, ◌+◌, ◌*◌, ◌<◌, ◌≤◌, List, [], length, slice_index, slice_index_or};
+ghost use Rattle.std.specs.Prelude.{◌≡◌, ℕ, ◌+◌, ◌*◌, ◌<◌, ◌≤◌, [], length, slice_index, slice_index_or};
 ghost use Rattle.std.specs.Simd.Lanes.{put_chunk};
 ghost use Rattle.vp_base.specs.Raster.{Raster, pixel_index};
-ghost use Rattle.vp_base.specs.Image.{Image, plane_of, with_plane};
+ghost use Rattle.vp_base.specs.Image.{plane_of};
 ghost use Rattle.vp_base.specs.Block.{with_block, written, IsWhole};
 ghost use Rattle.vp_loop.specs.Edges.{on_plane};
 

@@ -1,7 +1,7 @@
 //! Loading the lines of an edge: those of a vertical edge are transposed to lanes and back, those of a horizontal edge
 //! need no transpose.
 
-ghost use Rattle.std.specs.Prelude.{◌≡◌, ℕ, ◌+◌, ◌*◌, ◌-◌, ◌≤◌, ◌<◌, List, [], ◌∷◌, length, slice_index};
+ghost use Rattle.std.specs.Prelude.{◌≡◌, ℕ, ◌+◌, ◌*◌, ◌-◌, ◌≤◌, ◌<◌, [], ◌∷◌, length, slice_index};
 ghost use Rattle.std.specs.Prelude.{slice_index_or};
 ghost use Rattle.std.specs.Simd.Lanes.{chunk};
 ghost use Rattle.vp_loop.specs.Edges.{vertical, horizontal, line_at, pixel_at};
@@ -271,8 +271,8 @@ fn load_rows_horizontal_chroma(
     }
 }
 
-/// Loads the lines of a vertical edge: eight from index `u_at` of one list on, followed by eight of the other. Lines are
-/// a stride apart: each index is the previous one plus the stride.
+/// Loads the sixteen lines of a vertical edge: eight from index `u_at` of `u` on, then eight from `v_at` of `v` on,
+/// each a stride further. A luma edge has all of them in one list. Indices are added up: no stride is multiplied.
 #[inline(always)]
 fn rows_vertical(
     u: &[u8],

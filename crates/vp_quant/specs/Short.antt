@@ -1,5 +1,5 @@
--- When the coefficients of a block fit in 16 bits, so that narrow lanes compute the transforms exactly. Pinned by the
--- test `short_coefficients`.
+-- When the coefficients of a block fit in 16 bits, so that narrow lanes compute the transforms exactly, and the factors
+-- of such blocks. Pinned by the test `short_coefficients`.
 use Rattle.std.specs.Prelude.{◌≡◌, ℕ, ◌+◌, ◌*◌, ◌/◌, ◌<◌, ◌≤◌, ◌==◌, max, min, ℤ, pos, List, slice_index_or}
 use Rattle.std.specs.Prelude.{unsigned_abs, if◌then◌else◌}
 use Rattle.vp_lanes.specs.Lane.{lane}

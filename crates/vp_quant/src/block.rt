@@ -1,6 +1,6 @@
 //! Dequantisation of a block.
 
-ghost use Rattle.std.specs.Prelude.{◌≡◌, ℕ, ◌+◌, ◌*◌, ◌^◌, ◌<◌, ◌≤◌, max, pos, unsigned_abs, slice_index_or};
+ghost use Rattle.std.specs.Prelude.{◌≡◌, ℕ, ◌*◌, ◌^◌, ◌<◌, ◌≤◌, max, pos, unsigned_abs, slice_index_or};
 ghost use Rattle.vp_tables.specs.Tables.{zigzag};
 ghost use Rattle.vp_quant.specs.Quant.{coefficient, dequantised};
 

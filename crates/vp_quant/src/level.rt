@@ -1,6 +1,6 @@
 //! Quantisation of a coefficient.
 
-ghost use Rattle.std.specs.Prelude.{◌≡◌, ◌+◌, ◌*◌, ◌<◌, ◌≤◌, ◌^◌, pos, ◌-ℤ◌, ◌*ℤ◌, unsigned_abs};
+ghost use Rattle.std.specs.Prelude.{◌≡◌, ◌+◌, ◌*◌, ◌<◌, ◌≤◌, pos, ◌-ℤ◌, ◌*ℤ◌, unsigned_abs};
 ghost use Rattle.vp_quant.specs.Level.{quantised};
 
 /// Quantises a coefficient: divides it by the factor, to the nearest level. Halves are rounded away from 0; the result

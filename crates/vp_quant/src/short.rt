@@ -1,10 +1,10 @@
-//! Dequantisation in i16 lanes, for coefficients from -2,200 to 2,200.
+//! Dequantisation in i16 lanes, for coefficients from -2,200 to 2,200 (RFC 6386, chapter 14.1).
 
 ghost use Rattle.std.specs.Prelude.{◌≡◌, ◌≢◌, ℕ, ◌*◌, ◌/◌, ◌<◌, ◌≤◌, pos, ◌*ℤ◌, ℤ, List, Some, None, true, max, min};
 ghost use Rattle.std.specs.Prelude.{unsigned_abs, slice_index, slice_index_or, ◌==◌, if◌then◌else◌};
 ghost use Rattle.vp_lanes.specs.Lane.{lane};
 ghost use Rattle.vp_quant.specs.Quant.{position_at, dequantised};
-ghost use Rattle.vp_quant.specs.Short.{largest, AreFactors, AreShort, HasSmallProduct};
+ghost use Rattle.vp_quant.specs.Short.{largest, AreFactors, AreShort};
 
 use crate::quantised_block::are_below;
 use std::simd::prelude::*;
@@ -31,17 +31,17 @@ pub fn dequant_short(levels: [i16; 16], dc: u16, ac: u16) -> Option<[i16; 16]>
     }
 }
 
-/// The factors of blocks whose coefficients fit in 16 bits.
+/// A DC and an AC factor, made ready once to dequantise many blocks in 16 bits (RFC 6386, chapter 14.1).
 #[derive(Clone, Copy)]
 pub struct ShortFactors {
-    /// More than the magnitude of any level.
+    /// One more than the greatest magnitude of a level whose product with the larger factor is at most 2,200.
     bound: u16,
     /// The factor of each position in zigzag order.
     factors: i16x16,
 }
 
 impl ShortFactors {
-    /// The factors of blocks whose first level is multiplied by `dc`, the others by `ac`.
+    /// The factors of blocks whose first level is multiplied by `dc`, the others by `ac`, both of any size.
     pub fn of(dc: u16, ac: u16) -> ShortFactors
         ensures { AreFactors result dc ac }
     {
@@ -51,7 +51,8 @@ impl ShortFactors {
         }
     }
 
-    /// Whether all levels of two blocks are small enough for these factors.
+    /// Whether each level of two blocks, and its product with the larger factor, is from -2,200 to 2,200. No level may
+    /// be -32,768.
     pub fn are_small(&self, left: [i16; 16], right: [i16; 16]) -> bool
         requires left { (i : ℕ) → unsigned_abs (slice_index_or left i (pos 0)) ≤ 32767 }
         requires right { (i : ℕ) → unsigned_abs (slice_index_or right i (pos 0)) ≤ 32767 }
@@ -63,7 +64,8 @@ impl ShortFactors {
         are_below(larger(left, right), self.bound)
     }
 
-    /// The dequantised block of levels that are small enough.
+    /// Dequantises sixteen levels in zigzag order that are small enough for `are_small`: the coefficients are in raster
+    /// order, each from -2,200 to 2,200. Of other levels the result is unspecified.
     pub fn dequant(&self, levels: [i16; 16]) -> [i16; 16]
         ensures value { (dc ac : ℕ) → AreFactors self.now dc ac → AreShort levels dc ac
             → result ≡ dequantised levels dc ac }
@@ -104,7 +106,7 @@ fn are_same(a: i16x16, b: i16x16) -> bool
     a.simd_eq(b).all()
 }
 
-/// The levels times their factors. Each product must be small.
+/// The levels times their factors, if each product is from -2,200 to 2,200.
 fn scaled(levels: i16x16, factors: i16x16) -> i16x16
     ensures { ((j : ℕ) → j < 16 → unsigned_abs (lane levels j *ℤ lane factors j) ≤ 2200)
         → (j : ℕ) → j < 16 → lane result j ≡ lane levels j *ℤ lane factors j }
@@ -112,7 +114,7 @@ fn scaled(levels: i16x16, factors: i16x16) -> i16x16
     levels * factors
 }
 
-/// The factor of each position in zigzag order, at most the bound: a larger one stands beside zeros alone.
+/// The factor of each position in zigzag order, but at most 2,200: with a larger one all levels are 0.
 fn factor_lanes(dc: u16, ac: u16) -> i16x16
     ensures { (j : ℕ) → j < 16 → lane result j ≡ pos (min (if j == 0 then dc else ac) 2200) }
 {

@@ -60,7 +60,8 @@ pub(crate) fn add_luma(
     add_residues::<4>(picture, 0, x, y, &residues);
 }
 
-/// Adds the residues of a macroblock's chroma plane to its prediction: 1 is U, 2 is V.
+/// Adds the residues of a macroblock's chroma plane to its prediction: 1 is U, 2 is V. The block begins at column
+/// `x` of row `y`.
 pub(crate) fn add_chroma(
     picture: &mut Picture,
     plane: usize,
@@ -148,7 +149,7 @@ fn add_all_firsts<const ACROSS: usize>(
     }
 }
 
-/// Adds the residues of a block's subblocks to its pixels.
+/// Adds the residues of a block's subblocks to its pixels. The first pixel is at index `at`; rows are `stride` apart.
 #[inline(never)]
 fn add_strips<const ACROSS: usize>(pixels: &mut [u8], at: usize, stride: usize, residues: &Residues)
     requires across { IsAcross ACROSS }
@@ -168,7 +169,8 @@ fn add_strips<const ACROSS: usize>(pixels: &mut [u8], at: usize, stride: usize, 
     }
 }
 
-/// Adds the residues of subblocks `k` to `k + ACROSS - 1`, which are side by side and have DC coefficients only.
+/// Adds the residues of subblocks `k` to `k + ACROSS - 1`, which are side by side and have DC coefficients only. Their
+/// first pixel is at index `at`.
 #[inline(always)]
 fn add_firsts<const ACROSS: usize>(
     pixels: &mut [u8],
@@ -196,7 +198,7 @@ fn add_firsts<const ACROSS: usize>(
     }
 }
 
-/// Adds the residues of subblocks `k` to `k + ACROSS - 1`, which are side by side.
+/// Adds the residues of subblocks `k` to `k + ACROSS - 1`, which are side by side. Their first pixel is at index `at`.
 #[inline(always)]
 fn add_strip<const ACROSS: usize>(
     pixels: &mut [u8],
@@ -228,7 +230,7 @@ fn add_strip<const ACROSS: usize>(
     }
 }
 
-/// Adds the residues of subblocks `k` and `k + 1`, which are side by side.
+/// Adds the residues of subblocks `k` and `k + 1`, which are side by side. Their first pixel is at index `at`.
 #[inline(always)]
 fn add_two(
     pixels: &mut [u8],

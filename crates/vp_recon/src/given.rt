@@ -1,7 +1,7 @@
 //! Rebuilds macroblocks and subblocks whose prediction is made already: adds their residue to it (RFC 6386, chapter
 //! 14.5).
 
-ghost use Rattle.std.specs.Prelude.{◌≡◌, ℕ, ◌+◌, ◌*◌, ◌<◌, ◌≤◌, pos, not, slice_index, slice_index_or, true};
+ghost use Rattle.std.specs.Prelude.{◌≡◌, ◌+◌, ◌*◌, ◌<◌, ◌≤◌, pos, not, slice_index, slice_index_or, true};
 ghost use Rattle.vp_base.specs.Block.{with_block};
 ghost use Rattle.vp_base.specs.Image.{macroblocks, plane_of, with_plane};
 ghost use Rattle.vp_recon.specs.Predictor.{Predictor, macroblock_of, has_sub_modes, has_y2};
@@ -27,8 +27,9 @@ pub struct MacroblockPixels {
     pub v: [u8; 64],
 }
 
-/// Rebuilds the macroblock at `place` from its prediction and its residue. With B_PRED each luma subblock is predicted
-/// from those rebuilt before it: then `by_subblocks` is true, and the luma is given as it is rebuilt already.
+/// Rebuilds the macroblock at `place`, which has no split vectors, from its prediction and its residue. With B_PRED
+/// each luma subblock is predicted from those rebuilt before it: then `by_subblocks` is true, and the luma that is
+/// given is rebuilt already.
 pub fn rebuild_from(
     picture: &mut Picture,
     place: Place,

@@ -23,7 +23,7 @@ use vp_quant::Factors;
 use vp_tables::SubMode;
 use vp_tokens::{Block, Tokens};
 
-/// Rebuilds the macroblock at `place` from its prediction and its residue.
+/// Rebuilds the macroblock at `place` from its prediction and its residue (RFC 6386, chapters 12, 14.5 and 18).
 pub fn rebuild_macroblock(
     picture: &mut Picture,
     place: Place,
@@ -40,7 +40,8 @@ pub fn rebuild_macroblock(
     rebuild_chroma(picture, place, source, tokens, factors);
 }
 
-/// Rebuilds the macroblock at `place`, which has no tokens and no intra modes of subblocks: it is its prediction.
+/// Rebuilds the macroblock at `place`, which has no tokens and no intra modes of subblocks, so that its pixels are
+/// those of its prediction (RFC 6386, chapters 12 and 18).
 pub fn predict_macroblock(picture: &mut Picture, place: Place, source: &Predictor)
     requires column { place.column < macroblocks picture.old.width }
     requires row { place.row < macroblocks picture.old.height }
@@ -124,8 +125,8 @@ fn rebuild_subs(
     }
 }
 
-/// Rebuilds one luma subblock from the pixels around it and its residue, for macroblocks without a Y2 block. `block` is
-/// its place among all luma subblocks of the picture.
+/// Rebuilds one luma subblock of a macroblock without a Y2 block, from the pixels around it and its residue (RFC 6386,
+/// chapters 12.3 and 14.5). `block` is its place among all luma subblocks of the picture.
 pub fn rebuild_subblock(
     picture: &mut Picture,
     block: Place,

@@ -15,8 +15,11 @@ pub enum Predictor<'a> {
     /// Inter: predicted from a reference frame, which is filtered, by motion vectors. The frame's version selects the
     /// interpolation filter.
     Inter {
+        /// Its vectors, in quarter luma pixels.
         motion: &'a MacroblockMotion,
+        /// The reference frame.
         reference: &'a Picture,
+        /// The frame's version, 0 to 3.
         version: u8,
     },
 }

@@ -64,8 +64,8 @@ fn residue_with_first(block: &Block, first: i64, ac: u16) -> [i16; 16]
     }
 }
 
-/// Returns the coefficients of a subblock whose DC coefficient is `first`, if all are from -2200 to 2200. Its levels
-/// must be small enough for 16-bit products.
+/// Returns the coefficients of a subblock whose DC coefficient is `first`, if all are from -2200 to 2200. None also if
+/// a level is too large for 16-bit products.
 fn short_with_first(block: &Block, first: i64, ac: u16) -> Option<[i16; 16]>
     ensures value { (zs : List ℤ) → result ≡ Some zs → zs ≡ slice_set (dequantised block.now.levels 0 ac) 0 first }
     ensures small { (zs : List ℤ) → result ≡ Some zs → EachWithin 2200 zs }
@@ -264,7 +264,7 @@ impl<'a> Residues<'a> {
         idct_pair(&left, &right)
     }
 
-    /// Returns such rows for coefficients of any size.
+    /// Returns rows as `rows_of_two` does, for coefficients of any size.
     #[cold]
     #[inline(never)]
     fn large_rows_of_two(&self, k: usize) -> (i16x8, i16x8, i16x8, i16x8)
@@ -309,7 +309,7 @@ impl<'a> Residues<'a> {
         even_row(self.number(k), self.number(k + 1))
     }
 
-    /// Returns such a row of subblocks `k` to `k + 3`.
+    /// Returns a row of the residues of subblocks `k` to `k + 3`, which have DC coefficients only.
     #[inline(always)]
     pub(crate) fn row_of_four(&self, k: usize) -> i16x16
         requires subblocks { k + 3 < 16 }

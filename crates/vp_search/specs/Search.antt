@@ -37,7 +37,7 @@ pub record IsBestInRow (w : SearchWindow) (i from to : ℕ) (old new : Found) : 
   pub better : IsNoWorse new.cost new.vector old.cost old.vector
   pub seen : (j : ℕ) → from ≤ j → j < to → j ≤ 2 * w.range → IsNoWorseAt w new i j
 
--- those of these vectors that are within range cost more than a limit
+-- the vectors of row i within range from column `from` to before column `to` cost more than a limit
 abbrev pub AreAbove : SearchWindow → ℕ → ℕ → ℕ → ℕ → Type 0
 AreAbove w limit i from to = (j : ℕ) → from ≤ j → j < to → j ≤ 2 * w.range → limit < cost_in w (vector_at w.range i j)
 

@@ -12,8 +12,8 @@ use crate::rows::Block;
 use vp_base::Place;
 use vp_inter::{ColumnFilter, FilteredRows};
 
-/// The cost of the vector `down` quarter pixels below that whose rows these are, which has a row of whole pixels. If it
-/// is above `limit`, returns some number above `limit`.
+/// The cost of the vector `down` quarter pixels below the one that `rows` were filtered for, whose row is in whole
+/// pixels. If it is above `limit`, returns some number above `limit`.
 pub(crate) fn cost_of_row(block: &Block, rows: &FilteredRows, down: usize, limit: u32) -> u32
     requires { down < 8 }
     ensures { (p : Raster) (place : Place) (whole column : ℤ) → IsColumn p place whole column rows.now
@@ -37,29 +37,30 @@ pub(crate) fn cost_of_row(block: &Block, rows: &FilteredRows, down: usize, limit
     sum
 }
 
-/// The costs of the vectors `distance` quarter pixels above and below that `level` quarter pixels below that whose rows
-/// these are. Half a pixel beside whole pixels, one vertical pass serves both.
-pub(crate) fn costs_beside(
+/// The costs of two vectors: `down - distance` and `down + distance` quarter pixels below the one that `rows` were
+/// filtered for, whose row is in whole pixels. With a distance of 2 both lie half a pixel from whole pixels, so that
+/// one vertical pass serves both. In place of a cost above `limit`, returns some number above `limit`.
+pub(crate) fn costs_above_and_below(
     block: &Block,
     rows: &FilteredRows,
-    level: usize,
+    down: usize,
     distance: usize,
     limit: u32,
 ) -> [u32; 2]
-    requires level { (2 ≤ level) × (level ≤ 6) }
+    requires down { (2 ≤ down) × (down ≤ 6) }
     requires distance { (1 ≤ distance) × (distance ≤ 2) }
-    requires halves { distance ≡ 2 → level ≡ 4 }
+    requires halves { distance ≡ 2 → down ≡ 4 }
     ensures above { (p : Raster) (place : Place) (whole column : ℤ) → IsColumn p place whole column rows.now
         → IsWithin limit (slice_index result 0) (quarter_cost (block16 block.now) p place
-        (record { row = pos 4 *ℤ whole +ℤ pos (level - distance); column = column })) }
+        (record { row = pos 4 *ℤ whole +ℤ pos (down - distance); column = column })) }
     ensures below { (p : Raster) (place : Place) (whole column : ℤ) → IsColumn p place whole column rows.now
         → IsWithin limit (slice_index result 1) (quarter_cost (block16 block.now) p place
-        (record { row = pos 4 *ℤ whole +ℤ pos (level + distance); column = column })) }
+        (record { row = pos 4 *ℤ whole +ℤ pos (down + distance); column = column })) }
 {
     if distance == 1 {
         return [
-            cost_of_row(block, rows, level - 1, limit),
-            cost_of_row(block, rows, level + 1, limit),
+            cost_of_row(block, rows, down - 1, limit),
+            cost_of_row(block, rows, down + 1, limit),
         ];
     }
     let both = rows.filtered_rows(&ColumnFilter::of(4));

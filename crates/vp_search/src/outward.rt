@@ -13,8 +13,8 @@ use crate::vector::Found;
 
 impl<'a> SearchWindow<'a> {
     /// The best of a known vector and all others of the window. If it has sums, rows are searched by their bounds, or
-    /// without where these exclude little. `first` are the rows that begin without. Always inlined: where there are no
-    /// sums, only a small loop is left.
+    /// without where these exclude little. `first` says how many are searched without at the start. Always inlined:
+    /// where there are no sums, only a small loop is left.
     #[inline(always)]
     pub(crate) fn search_outwards(
         &self,

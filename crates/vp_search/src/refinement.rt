@@ -1,15 +1,14 @@
 //! Refinement of a vector to quarter pixels.
 
 ghost use Rattle.std.specs.Prelude.{◌≡◌, ℕ, ℤ, pos, negsuc, ◌+◌, ◌*◌, ◌<◌, ◌≤◌, ◌⊎◌, ◌+ℤ◌, ◌-ℤ◌, ◌*ℤ◌, ◌≤ℤ◌};
-ghost use Rattle.std.specs.Prelude.{slice_index, unsigned_abs};
-ghost use Rattle.vp_base.specs.Raster.{Raster};
+ghost use Rattle.std.specs.Prelude.{unsigned_abs};
 ghost use Rattle.vp_search.specs.Vectors.{quarters, IsNear};
 ghost use Rattle.vp_search.specs.Differences.{block16};
 ghost use Rattle.vp_search.specs.Blocks.{quarter_cost};
 ghost use Rattle.vp_search.specs.Refined.{candidates_around, IsBestOf, IsRefined};
 ghost use Rattle.vp_search.specs.Columns.{IsColumn, AreWithin, AreBestOf};
 
-use crate::columns::{cost_of_row, costs_beside};
+use crate::columns::{cost_of_row, costs_above_and_below};
 use crate::least::first_least;
 use crate::rows::Block;
 use crate::vector::{Found, QuarterVector, Refined, quarters};
@@ -128,7 +127,7 @@ fn filter_column(target: Target, column: i32, rows: &mut FilteredRows)
     rows.filter(target.reference, x, y, first);
 }
 
-/// The column that lies `beside` quarter pixels from `own`, two at most.
+/// The column that lies `beside` quarter pixels to the right of `own`: -2, 0 or 2.
 fn column_beside<'a>(
     left: &'a FilteredRows,
     own: &'a FilteredRows,
@@ -146,8 +145,8 @@ fn column_beside<'a>(
     }
 }
 
-/// The cost of `centre`, which is known, and those of its eight neighbours at a distance, in the order of `around`,
-/// from the rows of their three columns.
+/// The cost of `centre`, which is known, and those of its eight neighbours `distance` quarter pixels away, in the order
+/// of `around`, from the filtered rows of their three columns. A cost above that of `centre` need not be exact.
 fn costs_around(
     target: Target,
     left: &FilteredRows,
@@ -171,17 +170,17 @@ fn costs_around(
         (block16 target.entry.block.now) target.entry.reference.now target.entry.place) centre (pos distance) }
 {
     let (block, limit) = (target.block, centre.cost);
-    let level = (centre.vector.row - 4 * target.above) as usize;
-    let [above_left, below_left] = costs_beside(block, left, level, distance, limit);
-    let [above, below] = costs_beside(block, own, level, distance, limit);
-    let [above_right, below_right] = costs_beside(block, right, level, distance, limit);
+    let down = (centre.vector.row - 4 * target.above) as usize;
+    let [above_left, below_left] = costs_above_and_below(block, left, down, distance, limit);
+    let [above, below] = costs_above_and_below(block, own, down, distance, limit);
+    let [above_right, below_right] = costs_above_and_below(block, right, down, distance, limit);
     [
         limit,
         above_left,
         above,
         above_right,
-        cost_of_row(block, left, level, limit),
-        cost_of_row(block, right, level, limit),
+        cost_of_row(block, left, down, limit),
+        cost_of_row(block, right, down, limit),
         below_left,
         below,
         below_right,

@@ -13,10 +13,10 @@ use crate::vector::Found;
 use crate::window::{GREATEST_RANGE, WINDOW_WIDTH, cut_window};
 use vp_base::{Place, Plane};
 
-/// The greatest range for which the small window is used; less memory has to be cleared.
+/// The greatest range for which the small window is used, so that less memory has to be cleared.
 const SMALL_RANGE: u8 = 16;
 
-/// The greatest range of the smallest windows.
+/// The greatest range for which the smallest window is used.
 const LEAST_RANGE: u8 = 8;
 
 /// The least range for which a searcher makes the bounds of vectors: below it they cost more than they save.
@@ -25,7 +25,7 @@ pub const LEAST_BOUNDED_RANGE: u8 = 8;
 /// The number of pixels in the window of a search of the small range.
 const SMALL_WINDOW: usize = (16 + 2 * SMALL_RANGE as usize) * WINDOW_WIDTH;
 
-/// The pixels of a window within a range of 8.
+/// The number of pixels in the window of a search of the least range.
 const LEAST_WINDOW: usize = (16 + 2 * LEAST_RANGE as usize) * WINDOW_WIDTH;
 
 /// The number of pixels in the window of a search of the greatest range.

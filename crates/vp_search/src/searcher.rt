@@ -255,7 +255,7 @@ fn search_kept(
     };
     let centre = window.centre();
     let first = limited(window.consider(centre, begin), limit);
-    // A zero vector that costs nothing is found at once, and needs no sums.
+    // If the zero vector costs nothing the search ends after the middle row, and needs no sums.
     if centre.cost == 0 || range < LEAST_BOUNDED_RANGE || unbounded.left > 0 {
         let progress = window.search_outwards(None, first, unbounded);
         return (progress.best, known, unbounded.next());

@@ -50,9 +50,9 @@ impl Unbounded {
         }
     }
 
-    /// How many macroblocks are searched without sums after one whose last rows are these: 1 if they had no bounds;
-    /// if vectors are compared after four rows too, 1, then 3, then 7 each time. `distance` is the number of columns
-    /// since the last one with sums in this row; in another row it is only a guess.
+    /// How many macroblocks are searched without sums after one whose search ended so: none if its next row would
+    /// have bounds, else 1; if vectors are compared after four rows too, 1, then 3, then 7 each time. `distance` is the
+    /// number of columns since the last one with sums in this row; in another row it is only a guess.
     pub(crate) fn macroblocks(self, distance: usize) -> Unbounded {
         if self.left == 0 {
             return self;

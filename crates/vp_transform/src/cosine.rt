@@ -15,7 +15,8 @@ const COSINE: i64 = 20091;
 /// Blocks whose numbers are below this bound are transformed in i32 lanes.
 const NARROW: u64 = 1 << 13;
 
-/// The inverse DCT of a block of sixteen numbers in raster order (RFC 6386, chapter 14.4).
+/// The inverse DCT of a block of sixteen numbers in raster order (RFC 6386, chapter 14.4). Only tests call it: decoding
+/// calls `idct_short`, `idct_pair` and `idct_cut`, which give its results.
 pub fn idct(block: &[i64; 16]) -> [i64; 16]
     requires { IdctFits block.now }
     ensures value { result ≡ idct block.now }

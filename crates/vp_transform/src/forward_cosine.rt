@@ -1,4 +1,4 @@
-//! The encoder's forward DCT.
+//! The plain forward DCT, for tests: the encoder calls `fdct_short`, which is the same in lanes.
 
 ghost use Rattle.std.specs.Prelude.{◌≡◌, ℕ, ◌+◌, ◌*◌, ◌^◌, ◌<◌, ◌≤◌, unsigned_abs};
 ghost use Rattle.vp_transform.specs.Fits.{EachWithin};

@@ -1,4 +1,4 @@
-//! The encoder's forward Walsh-Hadamard transform.
+//! The plain forward Walsh-Hadamard transform, for tests: the encoder calls `fwht_short`, which is the same in lanes.
 
 ghost use Rattle.std.specs.Prelude.{◌≡◌, ℕ, ◌+◌, ◌*◌, ◌<◌, ◌^◌, pos, ◌+ℤ◌, map, slice_index_or, unsigned_abs};
 ghost use Rattle.vp_transform.specs.Fits.{Fits, IwhtFits, EachWithin};
