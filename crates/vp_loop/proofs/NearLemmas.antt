@@ -1,5 +1,5 @@
 -- A filter value near 0 changes no pixel.
-use Rattle.std.proofs.Common.{◌≡◌, ◌∙◌, ℕ, zero, suc, ◌+◌, ◌-◌, ◌*◌, ◌%◌, ◌^◌, ◌<◌, ◌≤◌, Bool, true, false, cond, List, [], ◌∷◌, length, get_or, replicate, refl, sym, ap, subst, arith, ℤ, pos, negsuc, ◌+ℤ◌, ◌-ℤ◌, ◌*ℤ◌}
+use Rattle.std.proofs.Common.{◌≡◌, ◌∙◌, ℕ, zero, suc, ◌+◌, ◌-◌, ◌*◌, ◌%◌, ◌^◌, ◌<◌, ◌≤◌, max, Bool, true, false, cond, List, [], ◌∷◌, length, get_or, replicate, refl, sym, ap, subst, arith, ℤ, pos, negsuc, ◌+ℤ◌, ◌-ℤ◌, ◌*ℤ◌}
 use Rattle.std.proofs.lemmas.Simd.{mask_l-lt, mask_l-mod, get_or-zip2, length-zip2}
 use Rattle.std.proofs.lemmas.Bool.{eqb-true}
 use Rattle.std.proofs.Math.Nat.{pow-succ'}
@@ -35,6 +35,9 @@ all_zero v long full j h =
     let set = all_set ms (omega (arith, e, n)) j (let m = many in omega arith) in
     let at : get_or ms j false ≡ eqb (get_or v j 0) (get_or zeros j 0) = get_or-zip2 eqb v zeros j 0 0 false (subst (λ n. j < n) (sym long) h) h in
     eqb-true _ _ (sym at ∙ set) ∙ splat_lane 0 j h
+
+pub near_is : (reach w high low a b m : ℕ) → reach ≤ 3 → high ≡ 128 + reach → low ≡ 128 - reach → a ≡ w - high → b ≡ low - w → m ≡ max a b → m ≡ 0 → (128 ≤ w + reach) × (w ≤ 128 + reach)
+near_is reach w high low a b m r e0 e1 e2 e3 e4 e5 = (omega arith, omega arith)
 
 -- ---- the values near 0, one by one
 by_three : (P : ℤ → Type 0) → P (negsuc 2) → P (negsuc 1) → P (negsuc 0) → P (pos 0) → P (pos 1) → P (pos 2) → P (pos 3) → (k : ℕ) → k < 7 → P (pos (125 + k) -ℤ pos 128)

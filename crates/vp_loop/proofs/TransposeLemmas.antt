@@ -1,6 +1,5 @@
 -- Sixteen rows of eight bytes, joined two by two.
-use Rattle.std.proofs.Common.{◌≡◌, ℕ, zero, suc, ◌+◌, ◌-◌, ◌*◌, ◌/◌, ◌%◌, ◌<◌, List, [], ◌∷◌, ◌++◌, length, get_or, ap, ◌∙◌, subst, inl, inr, arith}
-use Rattle.std.proofs.lemmas.Bool.{cases_lt}
+use Rattle.std.proofs.Common.{◌≡◌, ℕ, zero, suc, ◌+◌, ◌-◌, ◌*◌, ◌/◌, ◌%◌, ◌<◌, List, [], ◌∷◌, ◌++◌, length, get_or, ap, ◌∙◌, subst, arith}
 use Rattle.std.proofs.lemmas.List.{get_or_append_left, get_or-append_right}
 use Rattle.vp_loop.specs.declared.lines.Line.{Line}
 use Rattle.vp_loop.specs.Lanes.{line_in}
@@ -19,12 +18,6 @@ below_sixteen P a0 a1 a2 a3 b0 b1 b2 b3 c0 c1 c2 c3 d0 d1 d2 d3 k h =
     subst P place (below_four (λ row. (col : ℕ) → col < 4 → P (4 * row + col))
     (below_four _ a0 a1 a2 a3) (below_four _ b0 b1 b2 b3) (below_four _ c0 c1 c2 c3) (below_four _ d0 d1 d2 d3)
     (k / 4) (omega arith) (k % 4) (omega arith))
-
-pub below_both : (P : ℕ → Type 0) → ((j : ℕ) → j < 8 → P j) → ((j : ℕ) → j < 8 → P (8 + j)) → (j : ℕ) → j < 16 → P j
-below_both P first second j h = elim (cases_lt j 8) [
-  | inl early ↦ first j early
-  | inr late ↦ let e : 8 + (j - 8) ≡ j = omega arith in subst P e (second (j - 8) (omega arith))
-]
 
 pub low : (a b : List ℕ) (k : ℕ) → length a ≡ 8 → k < 8 → get_or (a ++ b) k 0 ≡ get_or a k 0
 low a b k l h = get_or_append_left a b 0 k (omega arith)

@@ -1,5 +1,5 @@
 -- Blocks that are written row by row.
-use Rattle.std.proofs.Common.{◌≡◌, ◌∙◌, ℕ, ◌+◌, ◌*◌, ◌<◌, ◌≤◌, List, [], length, get_or, ap, sym, arith}
+use Rattle.std.proofs.Common.{◌≡◌, ◌∙◌, ℕ, ◌+◌, ◌*◌, ◌<◌, ◌≤◌, List, [], ◌∷◌, length, get_or, refl, ap, sym, arith}
 use Rattle.vp_base.specs.Raster.{Raster, with_run}
 use Rattle.vp_base.specs.Block.{with_block, IsWhole}
 use Rattle.vp_base.specs.Over.{over}
@@ -8,7 +8,9 @@ use Rattle.vp_loop.specs.declared.lines.Line.{Line}
 use Rattle.vp_loop.specs.declared.lines.LineStep.{LineStep}
 use Rattle.vp_loop.specs.LineSteps.{stepped}
 use Rattle.vp_loop.specs.Edges.{vertical, horizontal, line_at, pixel_at, edge_lines, inner_edges}
-use Rattle.vp_loop.specs.Lanes.{pixels_of}
+use Rattle.vp_loop.specs.declared.lanes.Lines.{Lines}
+use Rattle.vp_loop.specs.Lanes.{line_of, pixels_of}
+use Rattle.vp_loop.proofs.TransposeLemmas.{below_eight}
 use Rattle.vp_loop.proofs.LawLemmas.{at_once}
 
 -- the first h rows of a block of w columns
@@ -42,6 +44,10 @@ pub rows_vertical : (step : LineStep) (n x y : ℕ) (p : Raster) (lines : List (
 rows_vertical step n x y p lines long whole columns rows same =
     let f : ℕ → ℕ → ℕ = λ r c. get_or (get_or lines r []) c 0 in
     ap (λ (m : ℕ). with_block p x y 8 m f) long ∙ edge_vertical step n x y p f whole columns rows (λ r c h g. ap (λ l. get_or l c 0) (same r h))
+
+-- the rows of sixteen lines, written one after another
+pub rows_pixel : (l : Lines) (d r : ℕ) → r < 8 → get_or (get_or (l.p3 ∷ l.p2 ∷ l.p1 ∷ l.p0 ∷ l.q0 ∷ l.q1 ∷ l.q2 ∷ l.q3 ∷ []) r []) d 0 ≡ pixel_at (line_of l d) r
+rows_pixel l d = below_eight _ refl refl refl refl refl refl refl refl
 
 -- what is read of sixteen lines, each from a plane and stepped
 pub turned_line : {X : Type 0} (look : Line → X) (step : LineStep) (p q : Raster) (x y : ℕ) (row : X) (l m : Line) → row ≡ look l → l ≡ stepped step m → m ≡ line_at vertical q x y → q ≡ p

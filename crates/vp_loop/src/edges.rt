@@ -1,17 +1,18 @@
 //! Filtering the edges of one macroblock. All lines of an edge are filtered at once, and those of both chroma planes
 //! together.
 
-ghost use Rattle.std.specs.Prelude.{◌≡◌, ◌+◌, ◌<◌, ◌≤◌, Some, IsTrue};
+ghost use Rattle.std.specs.Prelude.{◌≡◌, ℕ, ◌+◌, ◌<◌, ◌≤◌, Some, IsTrue};
+ghost use Rattle.vp_base.specs.Image.{Image};
 ghost use Rattle.vp_loop.specs.Lanes.{KeepsEnds};
 ghost use Rattle.vp_loop.specs.Edges.{vertical, horizontal, edge_lines, inner_edges, block_edges, block_filtered};
 ghost use Rattle.vp_loop.specs.Edges.{on_luma, on_chroma};
 
 use crate::limits::EdgeLimits;
 use crate::lines::LineStep;
-use crate::store::write_rows;
+use crate::store::{write_rows4, write_rows8, write_rows16};
 use crate::transpose::{
     first_halves, load_horizontal_chroma_edge, load_horizontal_edge, load_vertical_chroma_edge,
-    load_vertical_edge, rows_of, second_halves, untranspose, untranspose_middle,
+    load_vertical_edge, second_halves, untranspose, untranspose_middle,
 };
 use vp_base::Picture;
 
@@ -38,10 +39,10 @@ fn filter_vertical_luma_edge<const INNER: bool>(
     };
     if INNER {
         let lines = untranspose_middle(l.p1, l.p0, l.q0, l.q1);
-        write_rows::<4>(picture, 0, x + 2, y, &lines);
+        write_rows4(picture, 0, x + 2, y, &lines);
     } else {
         let lines = untranspose(l);
-        write_rows::<8>(picture, 0, x, y, &lines);
+        write_rows8(picture, 0, x, y, &lines);
     }
 }
 
@@ -68,8 +69,8 @@ fn filter_horizontal_luma_edge(
         None => return,
         Some(l) => l,
     };
-    let rows = rows_of(l);
-    write_rows::<16>(picture, 0, x, y + kept, &rows[kept..8 - kept]);
+    let rows = [l.p3, l.p2, l.p1, l.p0, l.q0, l.q1, l.q2, l.q3];
+    write_rows16(picture, 0, x, y + kept, &rows[kept..8 - kept]);
 }
 
 /// Filters a vertical edge of both chroma planes: eight lines of each. If `INNER`, only the middle four pixels of each
@@ -105,12 +106,12 @@ fn filter_vertical_chroma_edge<const INNER: bool>(
     };
     if INNER {
         let lines = untranspose_middle(l.p1, l.p0, l.q0, l.q1);
-        write_rows::<4>(picture, 1, x + 2, y, &lines[0..8]);
-        write_rows::<4>(picture, 2, x + 2, y, &lines[8..16]);
+        write_rows4(picture, 1, x + 2, y, &lines[0..8]);
+        write_rows4(picture, 2, x + 2, y, &lines[8..16]);
     } else {
         let lines = untranspose(l);
-        write_rows::<8>(picture, 1, x, y, &lines[0..8]);
-        write_rows::<8>(picture, 2, x, y, &lines[8..16]);
+        write_rows8(picture, 1, x, y, &lines[0..8]);
+        write_rows8(picture, 2, x, y, &lines[8..16]);
     }
 }
 
@@ -148,8 +149,8 @@ fn filter_horizontal_chroma_edge(
     };
     let u_rows = first_halves(l);
     let v_rows = second_halves(l);
-    write_rows::<8>(picture, 1, x, y + kept, &u_rows[kept..8 - kept]);
-    write_rows::<8>(picture, 2, x, y + kept, &v_rows[kept..8 - kept]);
+    write_rows8(picture, 1, x, y + kept, &u_rows[kept..8 - kept]);
+    write_rows8(picture, 2, x, y + kept, &v_rows[kept..8 - kept]);
 }
 
 /// Filters the vertical luma edges inside a macroblock.

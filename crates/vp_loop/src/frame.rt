@@ -1,7 +1,8 @@
 //! Filtering a picture in place.
 
-ghost use Rattle.std.specs.Prelude.{◌≡◌, ◌+◌, ◌*◌, ◌<◌, ◌≤◌, length};
-ghost use Rattle.vp_base.specs.Image.{macroblocks};
+ghost use Rattle.std.specs.Prelude.{◌≡◌, ℕ, ◌+◌, ◌*◌, ◌/◌, ◌<◌, ◌≤◌, length};
+ghost use Rattle.vp_base.specs.Image.{Image, macroblocks, plane_of, with_plane};
+ghost use Rattle.vp_loop.specs.Edges.{edge_limits, chroma_limits, block_filtered, on_luma, on_chroma};
 ghost use Rattle.vp_loop.specs.Filtered.{macroblock_filtered, row_filtered, filtered, level_in};
 
 use crate::edges::{filter_chroma, filter_luma};

@@ -1,7 +1,8 @@
 //! The line step on sixteen lines at once. Each line has its own filter mask and high edge variance.
 
-ghost use Rattle.std.specs.Prelude.{◌≡◌, ℕ, ◌<◌, ◌≤◌, ◌+◌, slice_index, max, cond, ◌&&◌, true};
+ghost use Rattle.std.specs.Prelude.{◌≡◌, ℕ, ◌<◌, ◌≤◌, ◌*◌, ◌/◌, ◌+◌, slice_index, max, cond, ◌&&◌, true};
 ghost use Rattle.std.specs.Int.{abs_diff};
+ghost use Rattle.vp_loop.specs.declared.lines.Line.{Line};
 ghost use Rattle.vp_loop.specs.LineSteps.{stepped, common_adjusted, subblock_edge_filtered, macroblock_edge_filtered};
 ghost use Rattle.vp_loop.specs.LineSteps.{is_small_step, is_smooth, is_high};
 ghost use Rattle.vp_loop.specs.Lanes.{line_of, lines_or};

@@ -1,7 +1,7 @@
 //! The line step: filters the eight pixels of one line across an edge.
 
-ghost use Rattle.std.specs.Prelude.{◌≡◌, ℤ, ◌+◌, ◌*◌, ◌/◌, ◌≤◌, ◌≤ℤ◌, ◌+ℤ◌, ◌-ℤ◌, ◌*ℤ◌, pos, negsuc, cond};
-ghost use Rattle.std.specs.Prelude.{◌&&◌, ◌||◌, Bool, true};
+ghost use Rattle.std.specs.Prelude.{◌≡◌, ℕ, ℤ, ◌+◌, ◌*◌, ◌/◌, ◌≤◌, ◌≤ℤ◌, ◌+ℤ◌, ◌-ℤ◌, ◌*ℤ◌, pos, negsuc, cond, nat_le};
+ghost use Rattle.std.specs.Prelude.{nat_lt, ◌&&◌, ◌||◌, Bool, true};
 ghost use Rattle.std.specs.Int.{abs_diff};
 ghost use lib.Signed.{shr_z as floor_div};
 ghost use Rattle.vp_loop.specs.LineSteps.{clamp8, signed, pixel_from, filter_value, eighth, common_adjusted};

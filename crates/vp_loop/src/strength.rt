@@ -1,9 +1,10 @@
 //! The filter level of a macroblock.
 
-ghost use Rattle.std.specs.Prelude.{◌≡◌, ◌+◌, ◌-◌, ◌*◌, ◌/◌, ◌≤◌, ◌≤ℤ◌, pos, negsuc, ◌==◌, ◌||◌};
+ghost use Rattle.std.specs.Prelude.{◌≡◌, ℕ, ℤ, ◌+◌, ◌-◌, ◌*◌, ◌/◌, ◌<◌, ◌≤◌, ◌≤ℤ◌, ◌+ℤ◌, pos, negsuc, ◌==◌, ◌||◌};
+ghost use Rattle.std.specs.Prelude.{length};
 ghost use Rattle.vp_loop.specs.Levels.{clamped_level, signed_at, segment_level, reference_delta, mode_delta};
 ghost use Rattle.vp_loop.specs.Levels.{summed_level, macroblock_level, interior_limit, variance_threshold};
-ghost use Rattle.vp_loop.specs.Levels.{has_inner_edges, filter_level};
+ghost use Rattle.vp_loop.specs.Levels.{has_inner_edges, no_level, filter_level};
 
 use vp_head::{Header, LevelDeltas, Reference};
 

@@ -1,7 +1,7 @@
 //! Loading the lines of an edge: those of a vertical edge are transposed to lanes and back, those of a horizontal edge
 //! need no transpose.
 
-ghost use Rattle.std.specs.Prelude.{◌≡◌, ℕ, ◌+◌, ◌*◌, ◌-◌, ◌≤◌, ◌<◌, [], ◌∷◌, length, slice_index};
+ghost use Rattle.std.specs.Prelude.{◌≡◌, ℕ, ◌+◌, ◌*◌, ◌-◌, ◌≤◌, ◌<◌, List, [], ◌∷◌, length, slice_index};
 ghost use Rattle.std.specs.Prelude.{slice_index_or};
 ghost use Rattle.std.specs.Simd.Lanes.{chunk};
 ghost use Rattle.vp_loop.specs.Edges.{vertical, horizontal, line_at, pixel_at};
@@ -53,7 +53,7 @@ fn transpose(rows: [u8x8; 16]) -> Lines
 
 /// Transposes sixteen lines to rows of eight pixels.
 #[inline(always)]
-pub(crate) fn untranspose(l: Lines) -> [[u8; 8]; 16]
+pub(crate) fn untranspose(l: Lines) -> [u8x8; 16]
     ensures len { length result ≡ 16 }
     ensures value { (j : ℕ) → j < 16 → slice_index_or result j []
         ≡ (slice_index l.p3 j ∷ slice_index l.p2 j ∷ slice_index l.p1 j ∷ slice_index l.p0 j ∷ slice_index l.q0 j
@@ -72,27 +72,27 @@ pub(crate) fn untranspose(l: Lines) -> [[u8; 8]; 16]
     let (v4, v5) = e2.interleave(f2);
     let (v6, v7) = e3.interleave(f3);
     [
-        v0.extract::<0, 8>().to_array(),
-        v0.extract::<8, 8>().to_array(),
-        v1.extract::<0, 8>().to_array(),
-        v1.extract::<8, 8>().to_array(),
-        v2.extract::<0, 8>().to_array(),
-        v2.extract::<8, 8>().to_array(),
-        v3.extract::<0, 8>().to_array(),
-        v3.extract::<8, 8>().to_array(),
-        v4.extract::<0, 8>().to_array(),
-        v4.extract::<8, 8>().to_array(),
-        v5.extract::<0, 8>().to_array(),
-        v5.extract::<8, 8>().to_array(),
-        v6.extract::<0, 8>().to_array(),
-        v6.extract::<8, 8>().to_array(),
-        v7.extract::<0, 8>().to_array(),
-        v7.extract::<8, 8>().to_array(),
+        v0.extract::<0, 8>(),
+        v0.extract::<8, 8>(),
+        v1.extract::<0, 8>(),
+        v1.extract::<8, 8>(),
+        v2.extract::<0, 8>(),
+        v2.extract::<8, 8>(),
+        v3.extract::<0, 8>(),
+        v3.extract::<8, 8>(),
+        v4.extract::<0, 8>(),
+        v4.extract::<8, 8>(),
+        v5.extract::<0, 8>(),
+        v5.extract::<8, 8>(),
+        v6.extract::<0, 8>(),
+        v6.extract::<8, 8>(),
+        v7.extract::<0, 8>(),
+        v7.extract::<8, 8>(),
     ]
 }
 
 /// Transposes the middle four pixels of sixteen lines to rows.
-pub(crate) fn untranspose_middle(p1: u8x16, p0: u8x16, q0: u8x16, q1: u8x16) -> [[u8; 4]; 16]
+pub(crate) fn untranspose_middle(p1: u8x16, p0: u8x16, q0: u8x16, q1: u8x16) -> [u8x4; 16]
     ensures len { length result ≡ 16 }
     ensures value { (j : ℕ) → j < 16 → slice_index_or result j []
         ≡ (slice_index p1 j ∷ slice_index p0 j ∷ slice_index q0 j ∷ slice_index q1 j ∷ []) }
@@ -102,41 +102,22 @@ pub(crate) fn untranspose_middle(p1: u8x16, p0: u8x16, q0: u8x16, q1: u8x16) -> 
     let (v0, v1) = a0.interleave(b0);
     let (v2, v3) = a1.interleave(b1);
     [
-        v0.extract::<0, 4>().to_array(),
-        v0.extract::<4, 4>().to_array(),
-        v0.extract::<8, 4>().to_array(),
-        v0.extract::<12, 4>().to_array(),
-        v1.extract::<0, 4>().to_array(),
-        v1.extract::<4, 4>().to_array(),
-        v1.extract::<8, 4>().to_array(),
-        v1.extract::<12, 4>().to_array(),
-        v2.extract::<0, 4>().to_array(),
-        v2.extract::<4, 4>().to_array(),
-        v2.extract::<8, 4>().to_array(),
-        v2.extract::<12, 4>().to_array(),
-        v3.extract::<0, 4>().to_array(),
-        v3.extract::<4, 4>().to_array(),
-        v3.extract::<8, 4>().to_array(),
-        v3.extract::<12, 4>().to_array(),
-    ]
-}
-
-/// The eight rows of sixteen lines.
-#[inline(always)]
-pub(crate) fn rows_of(l: Lines) -> [[u8; 16]; 8]
-    ensures len { length result ≡ 8 }
-    ensures value { (c : ℕ) → c < 16 → (r : ℕ) → r < 8 → slice_index (slice_index_or result r []) c
-        ≡ pixel_at (line_of l c) r }
-{
-    [
-        l.p3.to_array(),
-        l.p2.to_array(),
-        l.p1.to_array(),
-        l.p0.to_array(),
-        l.q0.to_array(),
-        l.q1.to_array(),
-        l.q2.to_array(),
-        l.q3.to_array(),
+        v0.extract::<0, 4>(),
+        v0.extract::<4, 4>(),
+        v0.extract::<8, 4>(),
+        v0.extract::<12, 4>(),
+        v1.extract::<0, 4>(),
+        v1.extract::<4, 4>(),
+        v1.extract::<8, 4>(),
+        v1.extract::<12, 4>(),
+        v2.extract::<0, 4>(),
+        v2.extract::<4, 4>(),
+        v2.extract::<8, 4>(),
+        v2.extract::<12, 4>(),
+        v3.extract::<0, 4>(),
+        v3.extract::<4, 4>(),
+        v3.extract::<8, 4>(),
+        v3.extract::<12, 4>(),
     ]
 }
 
@@ -155,38 +136,38 @@ fn second_half(v: u8x16) -> u8x8
 }
 
 /// The eight rows of the first eight lines.
-pub(crate) fn first_halves(l: Lines) -> [[u8; 8]; 8]
+pub(crate) fn first_halves(l: Lines) -> [u8x8; 8]
     ensures len { length result ≡ 8 }
     ensures value { (c : ℕ) → c < 8 → (r : ℕ) → r < 8 → slice_index (slice_index_or result r []) c
         ≡ pixel_at (line_of l c) r }
 {
     [
-        first_half(l.p3).to_array(),
-        first_half(l.p2).to_array(),
-        first_half(l.p1).to_array(),
-        first_half(l.p0).to_array(),
-        first_half(l.q0).to_array(),
-        first_half(l.q1).to_array(),
-        first_half(l.q2).to_array(),
-        first_half(l.q3).to_array(),
+        first_half(l.p3),
+        first_half(l.p2),
+        first_half(l.p1),
+        first_half(l.p0),
+        first_half(l.q0),
+        first_half(l.q1),
+        first_half(l.q2),
+        first_half(l.q3),
     ]
 }
 
 /// The eight rows of the last eight lines.
-pub(crate) fn second_halves(l: Lines) -> [[u8; 8]; 8]
+pub(crate) fn second_halves(l: Lines) -> [u8x8; 8]
     ensures len { length result ≡ 8 }
     ensures value { (c : ℕ) → c < 8 → (r : ℕ) → r < 8 → slice_index (slice_index_or result r []) c
         ≡ pixel_at (line_of l (8 + c)) r }
 {
     [
-        second_half(l.p3).to_array(),
-        second_half(l.p2).to_array(),
-        second_half(l.p1).to_array(),
-        second_half(l.p0).to_array(),
-        second_half(l.q0).to_array(),
-        second_half(l.q1).to_array(),
-        second_half(l.q2).to_array(),
-        second_half(l.q3).to_array(),
+        second_half(l.p3),
+        second_half(l.p2),
+        second_half(l.p1),
+        second_half(l.p0),
+        second_half(l.q0),
+        second_half(l.q1),
+        second_half(l.q2),
+        second_half(l.q3),
     ]
 }
 
@@ -271,10 +252,50 @@ fn load_rows_horizontal_chroma(
     }
 }
 
-/// Loads the sixteen lines of a vertical edge: eight from index `u_at` of `u` on, then eight from `v_at` of `v` on,
-/// each a stride further. A luma edge has all of them in one list. Indices are added up: no stride is multiplied.
+/// Loads the sixteen lines of a vertical edge, the first from index `at` on.
 #[inline(always)]
-fn rows_vertical(
+fn rows_vertical(pixels: &[u8], at: usize, stride: usize) -> Lines
+    requires room { at + 15 * stride + 8 ≤ length pixels.now }
+    ensures { (j : ℕ) → j < 16 → line_of result j ≡ line_in (chunk (at + j * stride) 8 pixels.now) }
+{
+    let a1 = at + stride;
+    let a2 = a1 + stride;
+    let a3 = a2 + stride;
+    let a4 = a3 + stride;
+    let a5 = a4 + stride;
+    let a6 = a5 + stride;
+    let a7 = a6 + stride;
+    let a8 = a7 + stride;
+    let a9 = a8 + stride;
+    let a10 = a9 + stride;
+    let a11 = a10 + stride;
+    let a12 = a11 + stride;
+    let a13 = a12 + stride;
+    let a14 = a13 + stride;
+    let a15 = a14 + stride;
+    transpose([
+        load8(pixels, at),
+        load8(pixels, a1),
+        load8(pixels, a2),
+        load8(pixels, a3),
+        load8(pixels, a4),
+        load8(pixels, a5),
+        load8(pixels, a6),
+        load8(pixels, a7),
+        load8(pixels, a8),
+        load8(pixels, a9),
+        load8(pixels, a10),
+        load8(pixels, a11),
+        load8(pixels, a12),
+        load8(pixels, a13),
+        load8(pixels, a14),
+        load8(pixels, a15),
+    ])
+}
+
+/// Loads the lines of a vertical edge: eight of one plane, followed by eight of the other.
+#[inline(always)]
+fn load_rows_vertical_chroma(
     u: &[u8],
     u_at: usize,
     u_stride: usize,
@@ -359,9 +380,7 @@ pub(crate) fn load_vertical_edge(plane: &Plane, x: usize, y: usize) -> Lines
 {
     let _known = plane.height();
     let stride = plane.width();
-    let at = y * stride + x;
-    let pixels = plane.pixels();
-    rows_vertical(pixels, at, stride, pixels, at + 8 * stride, stride)
+    rows_vertical(plane.pixels(), y * stride + x, stride)
 }
 
 /// Loads the lines of a vertical edge: eight of one plane, followed by eight of the other.
@@ -378,5 +397,5 @@ pub(crate) fn load_vertical_chroma_edge(u: &Plane, v: &Plane, x: usize, y: usize
     let _known = v.height();
     let us = u.width();
     let vs = v.width();
-    rows_vertical(u.pixels(), y * us + x, us, v.pixels(), y * vs + x, vs)
+    load_rows_vertical_chroma(u.pixels(), y * us + x, us, v.pixels(), y * vs + x, vs)
 }

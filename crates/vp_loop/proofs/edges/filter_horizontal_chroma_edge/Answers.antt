@@ -6,6 +6,7 @@ use Rattle.vp_base.specs.Block.{with_block, IsWhole}
 use Rattle.vp_loop.specs.LineSteps.{stepped}
 use Rattle.vp_loop.specs.Lanes.{line_of}
 use Rattle.vp_loop.specs.Edges.{horizontal, edge_lines, line_at, pixel_at}
+use Rattle.vp_loop.proofs.StepLemmas.{width-edge_lines, height-edge_lines}
 use Rattle.vp_loop.proofs.WriteLemmas.{horizontal_pixel_is}
 use Rattle.vp_loop.proofs.KeptLemmas.{rows_horizontal}
 use Rattle.vp_loop.proofs.StillLemmas.{still_horizontal, still_line}
@@ -29,10 +30,22 @@ returns-clause-value c =
     (c.second_halves-v_rows.ensures.value d g r h) (c.in-Some.ensures (8 + d) (let i : 8 + d < 16 = omega arith in i)) (c.load_horizontal_chroma_edge.ensures.second d g) c.plane-4.ensures in
     let part : List (List ℕ) = slice_range c.second_halves-v_rows.result c.args.kept (8 - c.args.kept) in
     let f : Raster → Raster = λ q. with_block q x (y + c.args.kept) 8 (length part) (λ r d. get_or (get_or part r []) d 0) in
-    c.write_rows-2.ensures
-    ∙ (ap (λ (q : Image). record q { v = f q.v }) c.write_rows.ensures
+    c.write_rows8-2.ensures
+    ∙ (ap (λ (q : Image). record q { v = f q.v }) c.write_rows8.ensures
     ∙ ap₂ (λ (a b : Raster). record p { u = a; v = b }) (rows_horizontal step 8 c.args.kept x y p.u c.first_halves-u_rows.result c.first_halves-u_rows.ensures.len whole_u c.requires.u_columns c.requires.u_rows c.requires.few c.requires.ends at_u)
     (rows_horizontal step 8 c.args.kept x y p.v c.second_halves-v_rows.result c.second_halves-v_rows.ensures.len whole_v c.requires.v_columns c.requires.v_rows c.requires.few c.requires.ends at_v))
+
+pub returns-clause-u_wide : goal.returns-clause-u_wide
+returns-clause-u_wide c = ap (λ (p : Image). p.u.width) (returns-clause-value c) ∙ width-edge_lines horizontal c.args.step 8 c.args.x c.args.y c.args.picture.now.u
+
+pub returns-clause-u_high : goal.returns-clause-u_high
+returns-clause-u_high c = ap (λ (p : Image). p.u.height) (returns-clause-value c) ∙ height-edge_lines horizontal c.args.step 8 c.args.x c.args.y c.args.picture.now.u
+
+pub returns-clause-v_wide : goal.returns-clause-v_wide
+returns-clause-v_wide c = ap (λ (p : Image). p.v.width) (returns-clause-value c) ∙ width-edge_lines horizontal c.args.step 8 c.args.x c.args.y c.args.picture.now.v
+
+pub returns-clause-v_high : goal.returns-clause-v_high
+returns-clause-v_high c = ap (λ (p : Image). p.v.height) (returns-clause-value c) ∙ height-edge_lines horizontal c.args.step 8 c.args.x c.args.y c.args.picture.now.v
 
 pub returns-in-None-clause-value : goal.returns-in-None-clause-value
 returns-in-None-clause-value c =

@@ -9,6 +9,9 @@ use Rattle.vp_lanes.proofs.Shape.{unsigned_lanes}
 use Rattle.vp_loop.proofs.NearLemmas.{HasNoEighth, no_eighth, inner_none}
 use Rattle.vp_loop.proofs.lanes.inner.Goals as goal
 
+pub half-h-requires : goal.half-h-requires
+half-h-requires c = c.eighth-f1.ensures.range
+
 pub returns : goal.returns
 returns c j h =
     let l = line_of c.args.l j in

@@ -9,6 +9,12 @@ use Rattle.vp_lanes.proofs.Shape.{unsigned_lanes}
 use Rattle.vp_loop.proofs.NearLemmas.{HasNoEighth, HasNoShare, no_eighth, no_share, nearer, outer_none}
 use Rattle.vp_loop.proofs.lanes.outer.Goals as goal
 
+pub either-u0-requires : goal.either-u0-requires
+either-u0-requires c = c.eighth-f2.ensures.range
+
+pub either-v0-requires : goal.either-v0-requires
+either-v0-requires c = c.eighth-f1.ensures.range
+
 pub returns : goal.returns
 returns c j h =
     let l = line_of c.args.l j in

@@ -1,6 +1,9 @@
 use Rattle.vp_loop.proofs.TransposeLemmas.{below_sixteen, joined_four_is}
-use Rattle.std.proofs.Common.{arith}
+use Rattle.std.proofs.Common.{refl, arith}
 use Rattle.vp_loop.proofs.transpose.untranspose_middle.Goals as goal
+
+pub returns-clause-len : goal.returns-clause-len
+returns-clause-len c = refl
 
 pub returns-clause-value : goal.returns-clause-value
 returns-clause-value c =

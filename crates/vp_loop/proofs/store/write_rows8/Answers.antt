@@ -4,24 +4,24 @@ use Rattle.vp_base.specs.Image.{plane_of, with_plane}
 use Rattle.vp_base.specs.Block.{IsWhole}
 use Rattle.vp_loop.proofs.RowReads.{block_room}
 use Rattle.vp_loop.proofs.RowWrites.{all_put}
-use Rattle.vp_loop.proofs.store.write_rows.Goals as goal
+use Rattle.vp_loop.proofs.store.write_rows8.Goals as goal
 
-pub put_rows-requires : goal.put_rows-requires
-put_rows-requires g c =
+pub put_rows8-requires-clause-room : goal.put_rows8-requires-clause-room
+put_rows8-requires-clause-room c r within =
     let q = plane_of c.args.picture.now c.args.k in
     let wide : c.width-stride.result ≡ q.width = c.width-stride.ensures.value ∙ ap (λ (p : Raster). p.width) c.plane-2.ensures in
     let rows = c.requires.rows in
     let columns = c.requires.columns in
     let size : length c.pixels_mut.result.now ≡ q.height * c.width-stride.result = c.pixels_mut.ensures.len ∙ ap (λ (k : ℕ). q.height * k) (sym wide) in
-    (omega arith, (λ r within. block_room c.args.x c.args.y c.width-stride.result q.height g.row.N r (length c.pixels_mut.result.now) size (omega arith) (omega arith), grind arith))
+    block_room c.args.x c.args.y c.width-stride.result q.height 8 r (length c.pixels_mut.result.now) size (omega arith) (omega arith)
 
 pub returns : goal.returns
-returns g c =
+returns c =
     let q = plane_of c.args.picture.now c.args.k in
     let f : ℕ → ℕ → ℕ = λ r d. slice_index (slice_index_or c.args.rows.now r []) d in
     let wide : q.width ≡ c.width-stride.result = sym (c.width-stride.ensures.value ∙ ap (λ (p : Raster). p.width) c.plane-2.ensures) in
     let whole : IsWhole q = subst IsWhole c.plane-2.ensures c.width-stride.ensures.whole in
     let here : c.args.y * c.width-stride.result + c.args.x ≡ c.args.y * q.width + c.args.x = ap (λ (k : ℕ). c.args.y * k + c.args.x) (sym wide) in
-    let done = c.put_rows.ensures.value q c.args.x c.args.y whole (sym c.pixels_mut.ensures.value) wide here c.requires.columns c.requires.rows in
-    ap (with_plane c.args.picture.now c.args.k) (all_put q c.args.x c.args.y g.row.N (length c.args.rows.now) f c.put_rows.new.pixels done
-    (c.put_rows.ensures.len ∙ ap length c.pixels_mut.ensures.value))
+    let done = c.put_rows8.ensures.value q c.args.x c.args.y whole (sym c.pixels_mut.ensures.value) wide here c.requires.columns c.requires.rows in
+    ap (with_plane c.args.picture.now c.args.k) (all_put q c.args.x c.args.y 8 (length c.args.rows.now) f c.put_rows8.new.pixels done
+    (c.put_rows8.ensures.len ∙ ap length c.pixels_mut.ensures.value))
