@@ -20,7 +20,9 @@ use std::simd::prelude::*;
 use vp_lanes::clamp_i16;
 use vp_quant::{Factors, ShortFactors, dequant, dequant_short};
 use vp_tokens::{Block, Tokens};
-use vp_transform::{idct_cut, idct_of_first, idct_pair, idct_short, iwht, iwht_of_first};
+use vp_transform::{
+    idct_cut, idct_of_first, idct_pair, idct_short, iwht, iwht_of_first, iwht_short,
+};
 
 /// Returns block `n`: 0 is Y2, 1 to 16 are luma, 17 to 20 U, and 21 to 24 V.
 pub(crate) fn block_of(tokens: &Tokens, n: usize) -> &Block
@@ -378,7 +380,10 @@ pub(crate) fn luma_firsts(tokens: &Tokens, factors: &Factors) -> [i64; 16]
     if block.tokens <= 1 {
         return [iwht_of_first(scaled_dc(&block.levels, factors.y2_dc)); 16];
     }
-    iwht(&dequant(&block.levels, factors.y2_dc, factors.y2_ac))
+    match dequant_short(block.levels, factors.y2_dc, factors.y2_ac) {
+        Some(coefficients) => iwht_short(&coefficients),
+        None => iwht(&dequant(&block.levels, factors.y2_dc, factors.y2_ac)),
+    }
 }
 
 /// Returns the luma residues of a macroblock whose Y2 block gives the DC coefficients `dc_from_y2`.

@@ -1,33 +1,14 @@
 //! The inverse DCT (RFC 6386, chapter 14.4).
 
-ghost use Rattle.std.specs.Prelude.{map, ◌∷◌, replicate, ◌≡◌, ℕ, ◌+◌, ◌*◌, ◌<◌, ◌≤◌, length, unsigned_abs, pos, ◌+ℤ◌};
-ghost use Rattle.vp_transform.specs.Fits.{Fits, TurnFits, TurnAndRoundFits, ColumnsFit, RowsFit, IdctFits, EachWithin};
+ghost use Rattle.std.specs.Prelude.{map, ◌∷◌, replicate, ◌≡◌, ◌+◌, ◌*◌, ◌<◌, ◌≤◌, unsigned_abs, pos, ◌+ℤ◌};
+ghost use Rattle.vp_transform.specs.Fits.{Fits, TurnFits, TurnAndRoundFits, ColumnsFit, RowsFit, IdctFits};
 ghost use Rattle.vp_transform.specs.Transform.{element_at, column_turned, row_turned, turned, rounded, vertical};
 ghost use Rattle.vp_transform.specs.Transform.{horizontal, idct};
-
-use crate::lanes::{is_narrow, narrow_idct};
 
 /// sqrt 2 * sin (pi / 8), times 2^16.
 const SINE: i64 = 35468;
 /// sqrt 2 * cos (pi / 8) - 1, times 2^16.
 const COSINE: i64 = 20091;
-
-/// Blocks whose numbers are below this bound are transformed in i32 lanes.
-const NARROW: u64 = 1 << 13;
-
-/// The inverse DCT of a block of sixteen numbers in raster order (RFC 6386, chapter 14.4). Only tests call it: decoding
-/// calls `idct_short`, `idct_pair` and `idct_cut`, which give its results.
-pub fn idct(block: &[i64; 16]) -> [i64; 16]
-    requires { IdctFits block.now }
-    ensures value { result ≡ idct block.now }
-    ensures within { (b : ℕ) → EachWithin b block.now → EachWithin (4 * b) result }
-{
-    if is_narrow(block, NARROW) {
-        narrow_idct(block)
-    } else {
-        wide_idct(block)
-    }
-}
 
 /// The inverse DCT in i64, for every block whose transform fits.
 pub(crate) fn wide_idct(block: &[i64; 16]) -> [i64; 16]

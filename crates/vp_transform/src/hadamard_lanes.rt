@@ -1,7 +1,7 @@
 //! The Walsh-Hadamard transforms in i32 lanes, one vector for each row. The numbers are so small that no intermediate
 //! result overflows.
 
-ghost use Rattle.std.specs.Prelude.{◌≡◌, ℕ, ◌^◌, ◌<◌, ◌≤◌, pos, ◌+ℤ◌, map};
+ghost use Rattle.std.specs.Prelude.{◌≡◌, ℕ, ◌*◌, ◌^◌, pos, ◌+ℤ◌, map};
 ghost use Rattle.vp_transform.specs.Fits.{EachWithin};
 ghost use Rattle.vp_transform.specs.Forward.{fwht};
 ghost use Rattle.vp_transform.specs.Narrow.{block_in};
@@ -43,6 +43,26 @@ pub(crate) fn narrow_iwht(block: &[i64; 16]) -> [i64; 16]
     ensures { result ≡ iwht block.now }
 {
     let (a, b, c, d) = mix(row(block, 0), row(block, 1), row(block, 2), row(block, 3));
+    let (a, b, c, d) = transpose(a, b, c, d);
+    let (a, b, c, d) = mix(a, b, c, d);
+    let (a, b, c, d) = rounded(a, b, c, d);
+    let (a, b, c, d) = transpose(a, b, c, d);
+    joined(a, b, c, d)
+}
+
+/// The inverse Walsh-Hadamard transform of a block of numbers from -8,191 to 8,191 (RFC 6386, chapter 14.3). It gives the
+/// result of `iwht`, without a test of the block.
+pub fn iwht_short(block: &[i16; 16]) -> [i64; 16]
+    requires { EachWithin 8191 block.now }
+    ensures value { result ≡ iwht block.now }
+    ensures within { (b : ℕ) → EachWithin b block.now → EachWithin (2 * b) result }
+{
+    let (a, b, c, d) = mix(
+        short_row(block, 0),
+        short_row(block, 1),
+        short_row(block, 2),
+        short_row(block, 3),
+    );
     let (a, b, c, d) = transpose(a, b, c, d);
     let (a, b, c, d) = mix(a, b, c, d);
     let (a, b, c, d) = rounded(a, b, c, d);

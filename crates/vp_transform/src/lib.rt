@@ -2,21 +2,19 @@
 #![tactic(auto)]
 
 mod cosine;
-mod forward_cosine;
-mod forward_hadamard;
 mod forward_short;
 mod hadamard;
 mod hadamard_lanes;
 mod lanes;
 mod pair;
+mod reference;
 mod short;
 
-pub use cosine::{idct, idct_of_first};
-pub use forward_cosine::fdct;
-pub use forward_hadamard::fwht;
+pub use cosine::idct_of_first;
 pub use forward_short::{differences, fdct_short};
 pub use hadamard::{iwht, iwht_of_first};
-pub use hadamard_lanes::fwht_short;
+pub use hadamard_lanes::{fwht_short, iwht_short};
 pub use lanes::idct_short;
 pub use pair::idct_pair;
+pub use reference::{fdct, fwht, idct};
 pub use short::{cut, idct_cut};

@@ -31,5 +31,8 @@ returns-then-block-le1-clause-value c =
 pub iwht-requires : goal.iwht-requires
 iwht-requires c = iwht_fits (2 ^ 31) c.dequant.result c.dequant.ensures.within (omega arith)
 
-pub returns-clause-within : goal.returns-clause-within
-returns-clause-within c i = let e = c.iwht.ensures.within (2 ^ 31) c.dequant.ensures.within i in omega arith
+pub returns-in-Some-clause-within : goal.returns-in-Some-clause-within
+returns-in-Some-clause-within c i = let e = c.iwht_short.ensures.within 2200 (c.dequant_short.ensures.small c.in-Some.coefficients c.in-Some.is) i in omega arith
+
+pub returns-in-None-clause-within : goal.returns-in-None-clause-within
+returns-in-None-clause-within c i = let e = c.iwht.ensures.within (2 ^ 31) c.dequant.ensures.within i in omega arith

@@ -3,7 +3,7 @@ use Rattle.vp_transform.specs.Fits.{Fits}
 use Rattle.vp_transform.proofs.Along.{get}
 use Rattle.vp_transform.proofs.Products.{mapped_is, more_fits}
 use Rattle.vp_transform.proofs.Words.{read, fits-along}
-use Rattle.vp_transform.proofs.forward_hadamard.all_halved.Goals as goal
+use Rattle.vp_transform.proofs.reference.all_halved.Goals as goal
 use lib.Signed.{shr_z as floor_div}
 
 pub halved-requires : goal.halved-requires

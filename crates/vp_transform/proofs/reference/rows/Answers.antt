@@ -1,7 +1,7 @@
 use Rattle.std.proofs.Common.{rules, ◌∙◌}
 use Rattle.vp_transform.specs.Forward.{row_pass}
 use Rattle.vp_transform.proofs.Along.{FourFit, rows_read, rows_along}
-use Rattle.vp_transform.proofs.forward_cosine.by_rows.Goals as goal
+use Rattle.vp_transform.proofs.reference.rows.Goals as goal
 
 pub returns : goal.returns
 unfolding row_pass

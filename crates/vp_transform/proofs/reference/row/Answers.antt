@@ -6,7 +6,7 @@ use Rattle.vp_transform.proofs.Bounds.{at_most}
 use Rattle.vp_transform.proofs.Known.{Is, is_at, is_read}
 use Rattle.vp_transform.proofs.Waves.{row_c, row_d, row_first, row_third, row_even_sum, row_even_difference, fits_odd_sum, fits_rounded_sum, read_odd_sum, fits_odd_difference, fits_rounded_difference, read_odd_difference}
 use Rattle.vp_transform.proofs.Words.{coded, four}
-use Rattle.vp_transform.proofs.forward_cosine.row.Goals as goal
+use Rattle.vp_transform.proofs.reference.row.Goals as goal
 
 -- the four numbers that are read
 module _ (x : List ℤ) (r : ℕ) (small : EachWithin (2 ^ 44) x) where

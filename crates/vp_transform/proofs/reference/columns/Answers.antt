@@ -1,7 +1,7 @@
 use Rattle.std.proofs.Common.{rules, ◌∙◌}
 use Rattle.vp_transform.specs.Forward.{column_pass}
 use Rattle.vp_transform.proofs.Along.{FourFit, columns_read, columns_along}
-use Rattle.vp_transform.proofs.forward_cosine.by_columns.Goals as goal
+use Rattle.vp_transform.proofs.reference.columns.Goals as goal
 
 pub returns : goal.returns
 unfolding column_pass

@@ -1,5 +1,5 @@
 use Rattle.std.proofs.Common.{◌≡◌, ℕ, ◌<◌, pos, ◌+ℤ◌, get_or, length}
-use Rattle.vp_transform.proofs.forward_hadamard.all_halved.Given as goal
+use Rattle.vp_transform.proofs.reference.all_halved.Given as goal
 use lib.Signed.{shr_z as floor_div}
 
 abbrev pub invariant-loop-i : goal.invariant-loop-i

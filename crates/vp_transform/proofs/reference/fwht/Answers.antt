@@ -5,7 +5,7 @@ use Rattle.vp_transform.specs.Fits.{EachWithin}
 use Rattle.vp_transform.specs.Forward.{fwht, times_hadamard_halved}
 use Rattle.vp_transform.specs.Transform.{times_hadamard}
 use Rattle.vp_transform.proofs.Signs.{rows_fit}
-use Rattle.vp_transform.proofs.forward_hadamard.fwht.Goals as goal
+use Rattle.vp_transform.proofs.reference.fwht.Goals as goal
 use lib.Signed.{shr_z as floor_div}
 
 pub by_rows-requires : goal.by_rows-requires

@@ -6,7 +6,7 @@ use Rattle.vp_transform.proofs.Bounds.{at_most}
 use Rattle.vp_transform.proofs.Known.{Is, is_at, is_read, is_sum, is_difference, fits_sum, fits_difference, constant, read_shifted}
 use Rattle.vp_transform.proofs.Waves.{fits_odd_sum, fits_rounded_sum, read_odd_sum, fits_odd_difference, fits_rounded_difference, read_odd_difference}
 use Rattle.vp_transform.proofs.Words.{coded, four}
-use Rattle.vp_transform.proofs.forward_cosine.column.Goals as goal
+use Rattle.vp_transform.proofs.reference.column.Goals as goal
 
 -- the four numbers that are read, their sums and differences
 module _ (x : List ℤ) (k : ℕ) (small : EachWithin (2 ^ 49) x) where

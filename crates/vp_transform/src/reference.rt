@@ -1,14 +1,37 @@
-//! The plain forward DCT, for tests: the encoder calls `fdct_short`, which is the same in lanes.
+//! The plain transforms, which only tests call: the encoder's forward transforms are `fdct_short` and `fwht_short`, and
+//! decoding has `idct_short`, `idct_pair` and `idct_cut`. They give the same results, in lanes.
 
-ghost use Rattle.std.specs.Prelude.{◌≡◌, ℕ, ◌+◌, ◌*◌, ◌^◌, ◌<◌, ◌≤◌, unsigned_abs};
-ghost use Rattle.vp_transform.specs.Fits.{EachWithin};
-ghost use Rattle.vp_transform.specs.Transform.{element_at};
-ghost use Rattle.vp_transform.specs.Forward.{row_waves, column_waves, row_pass, column_pass, fdct};
+ghost use Rattle.std.specs.Prelude.{◌≡◌, ℕ, ◌+◌, ◌*◌, ◌^◌, ◌<◌, pos, ◌+ℤ◌, map, slice_index_or, unsigned_abs};
+ghost use Rattle.vp_transform.specs.Fits.{Fits, IwhtFits, IdctFits, EachWithin};
+ghost use Rattle.vp_transform.specs.Transform.{element_at, idct};
+ghost use Rattle.vp_transform.specs.Forward.{row_waves, column_waves, row_pass, column_pass, fdct, fwht};
+ghost use lib.Signed.{shr_z as floor_div};
+
+use crate::cosine::wide_idct;
+use crate::hadamard::{by_columns, by_rows};
+use crate::lanes::{is_narrow, narrow_idct};
 
 /// sqrt 2 * sin (pi / 8), times 2^12.
 const SINE: i64 = 2217;
 /// sqrt 2 * cos (pi / 8), times 2^12.
 const COSINE: i64 = 5352;
+
+/// Blocks whose numbers are below this bound are transformed in i32 lanes.
+const NARROW: u64 = 1 << 13;
+
+/// The inverse DCT of a block of sixteen numbers in raster order (RFC 6386, chapter 14.4). Decoding calls
+/// `idct_short`, `idct_pair` and `idct_cut`, which give its results.
+pub fn idct(block: &[i64; 16]) -> [i64; 16]
+    requires { IdctFits block.now }
+    ensures value { result ≡ idct block.now }
+    ensures within { (b : ℕ) → EachWithin b block.now → EachWithin (4 * b) result }
+{
+    if is_narrow(block, NARROW) {
+        narrow_idct(block)
+    } else {
+        wide_idct(block)
+    }
+}
 
 /// The forward DCT of a block of sixteen numbers in raster order, each from -2^44 to 2^44. Sixteen equal numbers give
 /// eight times that number, and then fifteen zeros.
@@ -17,11 +40,11 @@ pub fn fdct(block: &[i64; 16]) -> [i64; 16]
     ensures value { result ≡ fdct block.now }
     ensures within { (b : ℕ) → EachWithin b block.now → EachWithin (8 * b) result }
 {
-    by_columns(&by_rows(block))
+    columns(&rows(block))
 }
 
 /// Transforms each row.
-fn by_rows(x: &[i64; 16]) -> [i64; 16]
+fn rows(x: &[i64; 16]) -> [i64; 16]
     requires { EachWithin (2 ^ 44) x.now }
     ensures { result ≡ row_pass x.now }
 {
@@ -36,7 +59,7 @@ fn by_rows(x: &[i64; 16]) -> [i64; 16]
 }
 
 /// Transforms each column.
-fn by_columns(x: &[i64; 16]) -> [i64; 16]
+fn columns(x: &[i64; 16]) -> [i64; 16]
     requires { EachWithin (2 ^ 49) x.now }
     ensures { result ≡ column_pass x.now }
 {
@@ -86,4 +109,32 @@ fn column(x: &[i64; 16], column: usize) -> [i64; 4]
         (a - b + 7) >> 4,
         (SINE * d - COSINE * c + 32768) >> 16,
     ]
+}
+
+/// The forward Walsh-Hadamard transform of a block of sixteen numbers in raster order.
+pub fn fwht(block: &[i64; 16]) -> [i64; 16]
+    requires { IwhtFits block.now }
+    ensures value { result ≡ fwht block.now }
+    ensures within { (b : ℕ) → EachWithin b block.now → EachWithin (8 * b) result }
+{
+    all_halved(&by_rows(&by_columns(block)))
+}
+
+/// Halves each number of a block, rounding up.
+fn all_halved(x: &[i64; 16]) -> [i64; 16]
+    requires { (k : ℕ) → k < 16 → unsigned_abs (slice_index_or x.now k (pos 0)) + 3 < 2 ^ 63 }
+    ensures { result ≡ map (λ z. floor_div (z +ℤ pos 1) 2) x.now }
+{
+    let mut block = [0; 16];
+    for i in 0..16 {
+        block[i] = halved(x[i]);
+    }
+    block
+}
+
+fn halved(z: i64) -> i64
+    requires { Fits (z +ℤ pos 1) }
+    ensures { result ≡ floor_div (z +ℤ pos 1) 2 }
+{
+    (z + 1) >> 1
 }
