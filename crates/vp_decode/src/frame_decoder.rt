@@ -9,12 +9,12 @@ ghost use Rattle.vp_tokens.specs.Blocks.{Blocks, no_blocks_read};
 ghost use Rattle.vp_tokens.specs.Contexts.{AreContextsAt};
 ghost use Rattle.vp_decode.specs.MacroblockInfo.{place};
 ghost use Rattle.vp_decode.specs.Frame.{frame_of, picture_of};
-ghost use Rattle.vp_decode.specs.FrameDecoder.{IsMacroblockStep, IsRow};
+ghost use Rattle.vp_decode.specs.FrameDecoder.{IsMacroblockAt, IsMacroblockStep, IsRow};
 ghost use Rattle.vp_decode.specs.RowBands.{IsShaped};
 ghost use Rattle.vp_decode.specs.Corrupt.{any_past, tokens_after};
 
 use crate::frame_buffers::FrameBuffers;
-use crate::frame_info::FrameInfo;
+use crate::frame_info::{FrameInfo, Macroblock};
 use crate::laws::unfiltered_picture_is_the_one_solution;
 use std::alloc::{AllocError, Global};
 use std::marker::Model;
@@ -92,9 +92,12 @@ impl<'a> FrameDecoder<'a> {
         })
     }
 
-    /// Decodes the macroblock at a place: reads its tokens, rebuilds it, and computes its filter level.
-    fn decode(&mut self, place: Place, d: &mut BoolDecoder)
-        requires { Has self.old.info.maps.modes place }
+    /// Decodes the macroblock at a place: reads its tokens, rebuilds it, and computes its filter level. Inlined, so that
+    /// the compiler follows inter macroblocks by themselves.
+    #[inline(always)]
+    fn decode(&mut self, macroblock: &Macroblock, place: Place, d: &mut BoolDecoder)
+        requires place { Has self.old.info.maps.modes place }
+        requires macroblock { IsMacroblockAt self.old.info place macroblock.now }
         ensures info { self.new.info ≡ self.old.info }
         ensures width { self.new.picture.width ≡ self.old.picture.width }
         ensures height { self.new.picture.height ≡ self.old.picture.height }
@@ -103,7 +106,6 @@ impl<'a> FrameDecoder<'a> {
             → IsMacroblockStep self.old.info place g d.old d.new self.old self.new }
     {
         let info = self.info;
-        let macroblock = info.macroblock(place);
         let modes = macroblock.modes;
         let predictor = &macroblock.predictor;
         let has_y2 = predictor.has_y2();
@@ -128,11 +130,11 @@ impl<'a> FrameDecoder<'a> {
                 place,
                 predictor,
                 self.tokens,
-                &info.factors(&macroblock),
+                &info.factors(macroblock),
             );
             self.tokens.any()
         };
-        self.levels.set(place, info.level(&macroblock, coded));
+        self.levels.set(place, info.level(macroblock, coded));
     }
 
     /// Decodes a row of macroblocks.
@@ -146,8 +148,12 @@ impl<'a> FrameDecoder<'a> {
             → AreContextsAt g (place row 0) self.old.contexts
             → IsRow self.old.info row self.old.info.maps.modes.columns g d.old d.new self.old self.new }
     {
-        for column in 0..self.info.columns() {
-            self.decode(Place { column, row }, d);
+        let info = self.info;
+        let macroblocks = info.row(row);
+        for column in 0..info.columns() {
+            let place = Place { column, row };
+            let macroblock = info.macroblock(&macroblocks, place);
+            self.decode(&macroblock, place, d);
         }
     }
 

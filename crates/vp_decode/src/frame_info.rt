@@ -1,6 +1,6 @@
 //! The frame header, the modes and the motion of a frame: all that its first partition holds.
 
-ghost use Rattle.std.specs.Prelude.{◌≡◌, ◌<◌, ◌≤◌, option_map};
+ghost use Rattle.std.specs.Prelude.{◌≡◌, ◌<◌, ◌≤◌, Some, length, option_map, slice_get};
 ghost use Rattle.vp_base.specs.declared.place.Place.{Place};
 ghost use Rattle.vp_base.specs.Grid.{Has};
 ghost use Rattle.vp_tokens.specs.declared.contexts.Tokens.{Tokens};
@@ -8,7 +8,7 @@ ghost use Rattle.vp_tokens.specs.Blocks.{any_token};
 ghost use Rattle.vp_recon.specs.Predictor.{predictor_of};
 ghost use Rattle.vp_decode.specs.Frame.{predictor_by, predictor_at, factors_of, factors_at};
 ghost use Rattle.vp_decode.specs.Frame.{inter_mode_class, mode_class_of, level_at};
-ghost use Rattle.vp_decode.specs.FrameDecoder.{IsMacroblockAt};
+ghost use Rattle.vp_decode.specs.FrameDecoder.{IsMacroblockAt, IsMacroblockRow};
 
 use crate::macroblock_info::MacroblockInfo;
 use std::marker::Model;
@@ -51,6 +51,13 @@ impl<'a> Model for FrameInfo<'a> {
     } };
 
     ghost invariant = { λ f. (f.factors ≡ segment_factors f.header.now) × AreFrameLevels f.header.now f.levels };
+}
+
+/// The modes and the motion of a row of macroblocks, from left to right.
+#[derive(Drop)]
+pub(crate) struct MacroblockRow<'a> {
+    pub modes: &'a [Modes],
+    pub motion: &'a [MacroblockMotion],
 }
 
 /// A macroblock of a frame: its modes, and what it is predicted from.
@@ -117,6 +124,15 @@ fn factors_of(header: &Header, segment: u8) -> Factors
     Factors::of(segment_index(header, segment), &header.quantiser)
 }
 
+/// Returns an item of a row.
+#[inline(always)]
+fn item<'a, T>(row: &'a [T], column: usize) -> &'a T
+    requires { column < length row.now }
+    ensures { slice_get row.now column ≡ Some result.now }
+{
+    &row[column]
+}
+
 impl<'a> FrameInfo<'a> {
     pub(crate) fn new(
         header: &'a Header,
@@ -171,15 +187,31 @@ impl<'a> FrameInfo<'a> {
         self.header
     }
 
-    /// Returns the macroblock at a place.
-    #[tactic(auto, unfolding(crate::specs::Frame::predictor_at))]
-    pub(crate) fn macroblock(&self, place: Place) -> Macroblock<'a>
-        requires { Has self.now.maps.modes place }
-        ensures { IsMacroblockAt self.now place result }
+    /// Returns a row of macroblocks.
+    pub(crate) fn row(&self, row: usize) -> MacroblockRow<'a>
+        requires { row < self.now.maps.modes.rows }
+        ensures { IsMacroblockRow self.now.maps row result }
     {
         let maps = self.maps;
-        let modes = maps.modes.get(place);
-        let motion = maps.motion.get(place);
+        let _known = maps.modes.rows();
+        let columns = maps.modes.columns();
+        let from = row * columns;
+        MacroblockRow {
+            modes: &maps.modes.as_slice()[from..from + columns],
+            motion: &maps.motion.as_slice()[from..from + columns],
+        }
+    }
+
+    /// Returns the macroblock at a place of a row.
+    #[inline(always)]
+    #[tactic(auto, unfolding(crate::specs::Frame::predictor_at))]
+    pub(crate) fn macroblock(&self, row: &MacroblockRow<'a>, place: Place) -> Macroblock<'a>
+        requires place { Has self.now.maps.modes place }
+        requires row { IsMacroblockRow self.now.maps place.row row.now }
+        ensures { IsMacroblockAt self.now place result }
+    {
+        let modes = item(row.modes, place.column);
+        let motion = item(row.motion, place.column);
         Macroblock {
             modes,
             predictor: predictor_by(self.references, self.version, modes, motion),

@@ -9,7 +9,7 @@ use std::marker::Model;
 use vp_base::Place;
 use vp_bool::BoolDecoder;
 use vp_head::Header;
-use vp_modes::{ModeMap, read_modes};
+use vp_modes::{ModeMap, read_modes_into};
 use vp_motion::{VectorMap, read_into};
 
 /// The modes and the motion of a frame's macroblocks, by place.
@@ -53,12 +53,11 @@ impl MacroblockInfo {
         ensures columns { self.new.modes.columns ≡ self.old.modes.columns }
         ensures rows { self.new.modes.rows ≡ self.old.modes.rows }
     {
-        let modes = read_modes(header, &self.modes, place, d);
-        self.modes.set(place, &modes);
-        if modes.reference.is_intra() {
+        let reference = read_modes_into(header, &mut self.modes, place, d);
+        if reference.is_intra() {
             return;
         }
-        read_into(header, &mut self.motion, place, modes.reference, d);
+        read_into(header, &mut self.motion, place, reference, d);
     }
 
     /// Reads a row of macroblocks, from left to right.

@@ -68,8 +68,8 @@ impl<'a> Model for ParsedPacket<'a> {
     ghost invariant = { λ o. HasConsistentSizes o.context × (0 < length o.partitions) × (length o.partitions ≤ 8) };
 }
 
-/// Returns the number of token partitions (RFC 6386, chapter 9.5).
-pub(crate) fn partition_count(log2: u8) -> usize
+/// Returns the number of token partitions of a frame, 1 to 8, by the two bits of its header (RFC 6386, chapter 9.5).
+pub fn partition_count(log2: u8) -> usize
     requires { log2 ≤ 3 }
     ensures value { result ≡ count_of log2 }
     ensures few { result ≤ 8 }

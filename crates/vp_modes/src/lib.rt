@@ -12,7 +12,7 @@ mod writing;
 pub use entry::Modes;
 pub use laws::what_is_read_can_be_written;
 pub use map::ModeMap;
-pub use reading::read_modes;
+pub use reading::{read_modes, read_modes_into};
 pub use segment::Segment;
 pub use vp_base::Place;
 pub use writing::write_modes;

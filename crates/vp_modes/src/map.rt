@@ -1,6 +1,6 @@
 //! The modes of all macroblocks of a frame.
 
-ghost use Rattle.std.specs.Prelude.{◌≡◌, ◌≢◌, ◌<◌, ◌≤◌, Some, IfOk, []};
+ghost use Rattle.std.specs.Prelude.{◌≡◌, ◌≢◌, ◌*◌, ◌<◌, ◌≤◌, Some, IfOk, [], length};
 ghost use Rattle.vp_base.specs.declared.place.Place.{Place};
 ghost use Rattle.vp_base.specs.Grid.{Has, all, entry, with_entry};
 ghost use Rattle.vp_base.specs.Image.{macroblocks};
@@ -154,6 +154,14 @@ impl ModeMap {
         ensures { entry self.now place ≡ Some result.now }
     {
         self.grid.get(place)
+    }
+
+    /// Borrows the modes of all macroblocks, in raster order.
+    pub fn as_slice(&self) -> &[Modes]
+        ensures value { result.now ≡ self.now.entries }
+        ensures whole { length result.now ≡ self.now.rows * self.now.columns }
+    {
+        self.grid.as_slice()
     }
 
     /// Replaces the modes of the macroblock at a place.

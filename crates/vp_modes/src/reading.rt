@@ -1,7 +1,7 @@
 //! Reading the modes of a macroblock.
 
 ghost use Rattle.std.specs.Prelude.{◌≡◌, ◌<◌, replicate};
-ghost use Rattle.vp_base.specs.Grid.{Has};
+ghost use Rattle.vp_base.specs.Grid.{Has, with_entry};
 ghost use Rattle.vp_bool.specs.Reader.{when};
 ghost use Rattle.vp_tree.specs.Tree.{walk_from};
 ghost use Rattle.vp_tables.specs.Modes.{is_by_subblocks};
@@ -239,25 +239,58 @@ fn read_prediction(
     }
 }
 
-/// Reads the header of the macroblock at `place`, without motion vectors. The map contains the modes of this frame's
-/// earlier macroblocks. At `place` it contains those of the previous frame, whose segment may be kept.
+/// Reads the segment, the skip flag and the reference frame of the macroblock at `place`. Its modes are DC.
+#[inline(always)]
 #[tactic(auto, unfolding(crate::specs::Modes::modes_at, vp_bool::specs::Reader::bind))]
-pub fn read_modes(header: &Header, map: &ModeMap, place: Place, d: &mut BoolDecoder) -> Modes
+fn read_unread(header: &Header, map: &ModeMap, place: Place, d: &mut BoolDecoder) -> Modes
     requires { Has map.now place }
-    ensures value { result ≡ (modes_at header.now map.now place d.old).0 }
-    ensures rest { d.new ≡ (modes_at header.now map.now place d.old).1 }
+    ensures { prediction header.now map.now place result d.new ≡ modes_at header.now map.now place d.old }
 {
     let before = map.get(place);
     let segment = read_segment(header, before.segment, d);
     let skip = read_skip(header.skip, d);
     let reference = read_reference(header, d);
-    let unread = Modes {
+    Modes {
         segment,
         skip,
         reference,
         luma: LumaMode::Dc,
         subs: [SubMode::Dc; 16],
         chroma: ChromaMode::Dc,
-    };
+    }
+}
+
+/// Reads the header of the macroblock at `place`, without motion vectors. The map contains the modes of this frame's
+/// earlier macroblocks. At `place` it contains those of the previous frame, whose segment may be kept.
+pub fn read_modes(header: &Header, map: &ModeMap, place: Place, d: &mut BoolDecoder) -> Modes
+    requires { Has map.now place }
+    ensures value { result ≡ (modes_at header.now map.now place d.old).0 }
+    ensures rest { d.new ≡ (modes_at header.now map.now place d.old).1 }
+{
+    let unread = read_unread(header, map, place, d);
     read_prediction(header, map, place, unread, d)
+}
+
+/// Reads the header of the macroblock at `place` and stores it in the map: `read_modes` and `ModeMap::set`. Returns its
+/// reference frame. An inter macroblock's modes are written once: they aren't joined with those of an intra macroblock.
+#[tactic(auto, unfolding(crate::specs::Modes::prediction))]
+pub fn read_modes_into(
+    header: &Header,
+    map: &mut ModeMap,
+    place: Place,
+    d: &mut BoolDecoder,
+) -> Reference
+    requires { Has map.old place }
+    ensures value { map.new ≡ with_entry map.old place (modes_at header.now map.old place d.old).0 }
+    ensures reference { result ≡ (modes_at header.now map.old place d.old).0.reference }
+    ensures rest { d.new ≡ (modes_at header.now map.old place d.old).1 }
+{
+    let unread = read_unread(header, map, place, d);
+    if !unread.reference.is_intra() {
+        map.set(place, &unread);
+        return unread.reference;
+    }
+    let modes = read_intra(header, map, place, unread, d);
+    map.set(place, &modes);
+    modes.reference
 }

@@ -10,7 +10,7 @@ use Rattle.vp_tokens.specs.Contexts.{AreContextsAt}
 use Rattle.vp_recon.specs.Predictor.{predictor_of}
 use Rattle.vp_loop.specs.declared.strength.Level.{Level}
 use Rattle.vp_decode.specs.Frame.{FrameInfo, factors_at, level_at}
-use Rattle.vp_decode.specs.FrameDecoder.{FrameDecoder, IsMacroblockStep}
+use Rattle.vp_decode.specs.FrameDecoder.{FrameDecoder, IsMacroblockAt, IsMacroblockStep}
 use Rattle.vp_decode.proofs.ReadingLemmas.{seen_here, step_made}
 use Rattle.vp_decode.proofs.frame_decoder.FrameDecoder.decode.Goals as goal
 use Rattle.vp_decode.proofs.frame_decoder.FrameDecoder.decode.Goals.{Joined-modes, then-modes+then-not-has_sub_modes, else-modes}
@@ -56,22 +56,23 @@ step : (c : Joined-modes) (g : Grid Blocks) (levels : Grid Level) → Has g c.ar
     → IsMacroblockStep c.self.inside.info.now c.args.place g c.args.d.now c.if-modes.d (before c) (after c levels)
 step c g levels has stands here elsewhere =
     let f : FrameInfo = c.self.inside.info.now in
-    let at = c.macroblock-macroblock in
-    let skips = ap (λ (m : Modes). m.skip) (c.modes.view_is ∙ at.ensures.modes) in
+    let at : IsMacroblockAt f c.args.place c.args.macroblock.now =
+    subst (λ (a : FrameDecoder). IsMacroblockAt a.info c.args.place c.args.macroblock.now) (sym c.self.view_is) c.requires.macroblock in
+    let skips = ap (λ (m : Modes). m.skip) (c.modes.view_is ∙ at.modes) in
     elim c.if-modes.branch [
       | then-modes+then-not-has_sub_modes w ↦
           let none = w.pass_macroblock.ensures.value g c.args.d.now f.header.probabilities.coefficients stands in
           rw (w.self-inside-is, w.d-is)
-          (step_made f c.args.place g c.args.d.now c.args.d.now (before c) _ (predictor_of at.result.predictor) _ _ _ without_tokens (factors_at f c.args.place)
-          at.ensures.predictor refl c.has_y2-has_y2.ensures (sym w.if-modes.true ∙ skips) refl (λ i. (sym none i).0) (λ i. (sym none i).1)
+          (step_made f c.args.place g c.args.d.now c.args.d.now (before c) _ (predictor_of c.args.macroblock.now.predictor) _ _ _ without_tokens (factors_at f c.args.place)
+          at.predictor refl c.has_y2-has_y2.ensures (sym w.if-modes.true ∙ skips) refl (λ i. (sym none i).0) (λ i. (sym none i).1)
           (w.pass_macroblock.ensures.stands g has stands) (w.predict_macroblock.ensures without_tokens (factors_at f c.args.place) refl)
           (here without_tokens w.coded-is) elsewhere)
       | else-modes w ↦
           let read = w.read_macroblock in
           rw (w.self-inside-is, w.d-is)
-          (step_made f c.args.place g c.args.d.now read.new.d (before c) _ (predictor_of at.result.predictor) _ _ _ read.new.tokens w.factors.result
-          at.ensures.predictor (ap (λ (h : Header). h.probabilities.coefficients) w.header-header.ensures) c.has_y2-has_y2.ensures skips
-          (w.factors.ensures c.args.place at.ensures) (read.ensures.value g stands) (read.ensures.rest g stands) (read.ensures.stands g has stands) w.rebuild_macroblock.ensures
+          (step_made f c.args.place g c.args.d.now read.new.d (before c) _ (predictor_of c.args.macroblock.now.predictor) _ _ _ read.new.tokens w.factors.result
+          at.predictor (ap (λ (h : Header). h.probabilities.coefficients) w.header-header.ensures) c.has_y2-has_y2.ensures skips
+          (w.factors.ensures c.args.place at) (read.ensures.value g stands) (read.ensures.rest g stands) (read.ensures.stands g has stands) w.rebuild_macroblock.ensures
           (here read.new.tokens (w.coded-is ∙ w.any-coded.ensures)) elsewhere)
     ]
 
@@ -100,5 +101,6 @@ returns-clause-step c = λ g has stands.
     let same = kept j in
     subst (λ (a : FrameDecoder). IsMacroblockStep a.info c.args.place g c.args.d.now c.if-modes.d a (after j c.set.new.self)) c.self.view_is
     (step j g c.set.new.self has (seen_here g c.args.place _ _ c.self.view_is stands)
-    (λ tokens coded. c.set.ensures.here ∙ ap (λ (l : Level). Some l) (c.level.ensures c.args.place tokens c.macroblock-macroblock.ensures coded))
+    (λ tokens coded. c.set.ensures.here ∙ ap (λ (l : Level). Some l) (c.level.ensures c.args.place tokens
+    (subst (λ (a : FrameDecoder). IsMacroblockAt a.info c.args.place c.args.macroblock.now) (sym c.self.view_is) c.requires.macroblock) coded))
     (λ q other. c.set.ensures.elsewhere q other ∙ ap (λ (l : Grid Level). entry l q) same.levels))
