@@ -1,10 +1,14 @@
--- The levels of a macroblock's blocks.
-use Rattle.std.proofs.Common.{◌≡◌, ℕ, zero, suc, ◌+◌, ◌-◌, ◌<◌, ◌==◌, nat_lt, Bool, true, false, cond, ℤ, pos, List, get_or, replicate, refl, sym, subst, arith, true≢false}
+-- The levels of a macroblock's blocks, and lists of levels that are no further from 0 than a bound.
+use Rattle.std.proofs.Common.{◌≡◌, ℕ, zero, suc, ◌+◌, ◌-◌, ◌<◌, ◌==◌, nat_lt, Bool, true, false, cond, ℤ, pos, List, get_or, replicate, refl, sym, subst, arith, true≢false, ◌≤◌, [], length, set, inl, inr}
 use Rattle.std.proofs.lemmas.Bool.Decides.{nat_tests}
 use Rattle.vp_tokens.specs.declared.block.BlockKind.TheVariants as kind_is
 use Rattle.vp_tokens.specs.Levels.{first_of}
 use Rattle.vp_tokens.specs.Blocks.{kind_of}
 use Rattle.vp_tokens.specs.Spelled.{AreLevels, levels_of}
+use Rattle.std.specs.Prelude.{unsigned_abs}
+use Rattle.std.proofs.lemmas.Bool.{cases_eq}
+use Rattle.std.proofs.lemmas.List.{get_or-set_same, get_or-set_other}
+use Rattle.vp_quant.proofs.Places.{zeros_within}
 
 pub zeros_at : (n i : ℕ) → get_or (replicate n (pos 0)) i (pos 0) ≡ pos 0
 zeros_at zero i = refl
@@ -38,3 +42,20 @@ levels_without_y2 all none = record {
   before = λ k i below h. absurd (true≢false (sym (only_luma false k i h).3));
   no_y2 = λ _ i. rw none (zeros_at 16 i);
 }
+
+-- lists of zeros
+pub none_within : (b n k i : ℕ) → unsigned_abs (get_or (get_or (replicate n (replicate 16 (pos 0))) k []) i (pos 0)) ≤ b
+none_within b zero k i = omega arith
+none_within b (suc n) zero i = zeros_within b 16 i
+none_within b (suc n) (suc k) i = none_within b n k i
+
+-- what holds of each item, with one changed
+pub each_set : {A : Type 0} (P : A → Type 0) (other : A) (xs : List A) (k : ℕ) (x : A) → k < length xs
+    → ((j : ℕ) → P (get_or xs j other)) → P x → (j : ℕ) → P (get_or (set xs k x) j other)
+each_set P other xs k x within before here j = elim (cases_eq j k) [
+  | inl e ↦ rw (e, get_or-set_same xs k x other within) here
+  | inr apart ↦ rw (get_or-set_other xs k j x other (omega arith)) (before j)
+]
+
+abbrev pub IsSmall : List ℤ → Type 0
+IsSmall levels = (i : ℕ) → unsigned_abs (get_or levels i (pos 0)) ≤ 2047

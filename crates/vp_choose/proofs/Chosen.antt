@@ -9,9 +9,9 @@ use Rattle.vp_motion.specs.Vector.{MacroblockMotion}
 use Rattle.vp_recon.specs.Predictor.{Predictor, Intra, has_y2}
 use Rattle.vp_choose.specs.declared.coding.Coding.{Coding}
 use Rattle.vp_choose.specs.declared.frame.Choice.{Choice}
-use Rattle.vp_choose.specs.declared.luma.LumaChoice.{LumaChoice}
 use Rattle.vp_choose.specs.declared.motion.Moved.{Moved}
 use Rattle.vp_choose.specs.Frame.{FrameSearch, Search, source_by}
+use Rattle.vp_choose.specs.Intra.{LumaChoice}
 use Rattle.vp_choose.specs.Inter.{IsInter, moved_source}
 use Rattle.vp_choose.specs.Choice.{IsChoice, IsIntraChoice, IsTaken}
 use Rattle.vp_choose.specs.Searched.{IsSearched}

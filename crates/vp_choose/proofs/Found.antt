@@ -1,5 +1,5 @@
 -- The best vector in a reference frame for a block that was cut from a plane. Each reference frame has one.
-use Rattle.std.proofs.Common.{◌≡◌, ◌∙◌, ℕ, ◌<◌, true, false, List, refl}
+use Rattle.std.proofs.Common.{◌≡◌, ◌∙◌, ℕ, ◌<◌, ◌≤◌, true, false, List, refl, arith}
 use Rattle.vp_base.specs.declared.place.Place.{Place}
 use Rattle.vp_base.specs.Raster.{Raster}
 use Rattle.vp_intra.specs.Edges.{block}
@@ -8,7 +8,7 @@ use Rattle.vp_search.specs.declared.vector.WholeVector.{WholeVector}
 use Rattle.vp_search.specs.declared.vector.QuarterVector.{QuarterVector}
 use Rattle.vp_search.specs.declared.vector.Refined.{Refined}
 use Rattle.vp_search.specs.Differences.{block16}
-use Rattle.vp_search.specs.Vectors.{quarters}
+use Rattle.vp_search.specs.Vectors.{quarters, IsNear}
 use Rattle.vp_search.specs.Blocks.{whole_cost, quarter_cost}
 use Rattle.vp_search.specs.Least.{IsLeast}
 use Rattle.vp_search.specs.Refined.{IsRefined}
@@ -17,14 +17,17 @@ use Rattle.vp_search.proofs.RefinedLemmas.{refined_same}
 use Rattle.vp_search.proofs.Existence.{BestVector, best_vector, best_refined}
 use Rattle.vp_choose.specs.Costs.{block_pixels}
 use Rattle.vp_choose.specs.Frame.{Search}
-use Rattle.vp_choose.specs.Inter.{IsFound, vector_cost}
+use Rattle.vp_choose.specs.Inter.{IsFound, vector_cost, found_in}
+use Rattle.vp_choose.specs.Searched.{IsOver, IsFoundIn, IsBestMotion, found_of}
 use Rattle.vp_choose.proofs.OneLuma.{either}
+use Rattle.vp_head.specs.declared.fields.Reference.TheVariants as reference_is
+use Rattle.vp_choose.specs.declared.motion.Moved.{Moved}
 
 module _ (xs : List ℕ) (source : Raster) (reference : Raster) (place : Place) (are : xs ≡ block 16 (block_pixels 16 source place)) where
   pixel_is : (r c : ℕ) → r < 16 → c < 16 → block16 xs r c ≡ block_pixels 16 source place r c
   pixel_is r c rin cin = rw are (read_block 16 (block_pixels 16 source place) r c rin cin)
 
-  pub cost_is : (v : QuarterVector) → quarter_cost (block16 xs) reference place v ≡ vector_cost source reference place v
+  cost_is : (v : QuarterVector) → quarter_cost (block16 xs) reference place v ≡ vector_cost source reference place v
   cost_is v = quarter_cost-same (block16 xs) (block_pixels 16 source place) reference place v pixel_is
 
   pub found_is : (s : Search) (whole : WholeVector) (found : Refined) → IsLeast s.range (whole_cost (block16 xs) reference place) whole
@@ -50,7 +53,7 @@ module _ (s : Search) (source reference : Raster) (place : Place) where
   best_whole = best_vector s.range (whole_cost (block_pixels 16 source place) reference place)
 
   -- the best vector, if it is not refined
-  pub unrefined_is : s.subpel ≡ false → (whole : BestVector s.range (whole_cost (block_pixels 16 source place) reference place))
+  unrefined_is : s.subpel ≡ false → (whole : BestVector s.range (whole_cost (block_pixels 16 source place) reference place))
       → IsFound s source reference place (record { vector = quarters whole.vector; cost = vector_cost source reference place (quarters whole.vector) })
   unrefined_is off whole = record {
     whole = whole.vector;
@@ -75,3 +78,30 @@ module _ (s : Search) (source reference : Raster) (place : Place) where
         };
       })
       (λ off. record { found = _; is = unrefined_is off best_whole })
+
+-- the least vector costs at least a limit, and is not refined
+pub over_is : (xs : List ℕ) (source reference : Raster) (place : Place) → xs ≡ block 16 (block_pixels 16 source place) → (s : Search) (limit : ℕ) → s.subpel ≡ false
+    → ((v : WholeVector) → IsNear s.range v → limit ≤ quarter_cost (block16 xs) reference place (quarters v)) → IsOver s source reference place limit
+over_is xs source reference place are s limit off above =
+    let whole = best_whole s source reference place in
+    record {
+      found = _;
+      is = unrefined_is s source reference place off whole;
+      over = rw (← cost_is xs source reference place are (quarters whole.vector)) (above whole.vector whole.is.near);
+    }
+
+-- golden costs no less than nothing, and of equal costs last is chosen
+pub free_motion : (s : Search) (source : Raster) (place : Place) (last : Moved) → IsFoundIn s source reference_is.Last place last → last.cost ≡ 0 → IsBestMotion s source place last
+free_motion s source place last in_last free =
+    let golden : HasFound s source s.references.golden.luma place = has_found s source s.references.golden.luma place in
+    let it : last ≡ found_in reference_is.Last (found_of last) = λ i. record { reference = in_last.reference i; vector = last.vector; cost = last.cost } in
+    record {
+      is = record {
+        last = found_of last;
+        in_last = in_last.is;
+        last_alone = λ _. it;
+        golden_too = λ _. record { golden = golden.found; in_golden = golden.is; less = λ less. absurd (omega arith); not_less = λ _. it };
+      };
+      short = in_last.short;
+      inter = rw in_last.reference refl;
+    }

@@ -1,6 +1,4 @@
-pub mod SumLemmas
 pub mod Listed
-pub mod Small
 pub mod BlockLevels
 pub mod SubblockChoice
 pub mod LumaModes
@@ -10,5 +8,4 @@ pub mod OneLuma
 pub mod Found
 pub mod Chosen
 pub mod OneMotion
-pub mod Unsearched
 pub mod OneChoice

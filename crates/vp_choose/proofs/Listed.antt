@@ -1,4 +1,4 @@
--- Lists made one after another.
+-- Lists made one after another, and sums of differences of listed blocks.
 use Rattle.std.proofs.Common.{◌≡◌, ◌∙◌, ℕ, ◌+◌, ◌*◌, ◌/◌, ◌%◌, ◌<◌, add-mul, ℤ, pos, ◌-ℤ◌, List, length, get_or, map, sym, ap, arith}
 use Rattle.std.specs.List.{range_with_len}
 use Rattle.std.proofs.lemmas.Nat.{div_below, mod_below}
@@ -7,6 +7,8 @@ use Rattle.vp_intra.specs.Edges.{block}
 use Rattle.vp_intra.proofs.BlockLemmas.{read_block, is_block}
 use Rattle.vp_choose.specs.Levels.{part}
 use Rattle.std.proofs.lemmas.List.{ext_get_or}
+use Rattle.vp_search.specs.Differences.{sum_of_differences, block_from_rows}
+use Rattle.vp_search.proofs.SumLemmas.{sum_of_differences-same}
 
 -- a list whose items are those of f
 pub is_mapped : {A : Type 0} (other : A) (n : ℕ) (f : ℕ → A) (xs : List A) → length xs ≡ n → ((i : ℕ) → i < n → get_or xs i other ≡ f i) → xs ≡ map f (range_with_len 0 n)
@@ -52,3 +54,11 @@ less_listed xs ys f g zs ex ey len same =
     let y : get_or ys i 0 ≡ g (i / 4) (i % 4) =
     ap (λ (j : ℕ). get_or ys j 0) at ∙ ap (λ (ws : List ℕ). get_or ws (i / 4 * 4 + i % 4) 0) ey ∙ read_block 4 g (i / 4) (i % 4) (omega arith) (omega arith) in
     same i below ∙ ap (λ (a : ℕ). pos a -ℤ pos (get_or ys i 0)) x ∙ ap (λ (a : ℕ). pos (f (i / 4) (i % 4)) -ℤ pos a) y)
+
+-- of listed blocks
+pub differences-listed : (n : ℕ) (xs ys : List ℕ) (f g : ℕ → ℕ → ℕ) → xs ≡ block n f → ys ≡ block n g
+    → sum_of_differences n n (block_from_rows n xs) (block_from_rows n ys) ≡ sum_of_differences n n f g
+differences-listed n xs ys f g ex ey =
+    sum_of_differences-same n n (block_from_rows n xs) f (block_from_rows n ys) g
+    (λ r c rin cin. ap (λ (zs : List ℕ). get_or zs (r * n + c) 0) ex ∙ read_block n f r c rin cin)
+    (λ r c rin cin. ap (λ (zs : List ℕ). get_or zs (r * n + c) 0) ey ∙ read_block n g r c rin cin)

@@ -1,10 +1,12 @@
--- The choice of the luma mode from the costs of all five, and the luma of an intra macroblock.
-use Rattle.std.proofs.Common.{◌≡◌, ◌∙◌, ℕ, zero, suc, ◌+◌, ◌*◌, ◌<◌, ◌≤◌, true, false, List, [], ◌∷◌, get_or, refl, sym, arith}
+-- The choice of the luma mode, and the luma of an intra macroblock.
+use Rattle.std.proofs.Common.{◌≡◌, ◌∙◌, ℕ, zero, suc, ◌+◌, ◌*◌, ◌<◌, ◌≤◌, true, false, Some, None, List, [], get_or, refl, sym, arith, inl, inr}
+use Rattle.std.proofs.lemmas.Bool.{cases_lt}
 use Rattle.vp_base.specs.declared.place.Place.{Place}
 use Rattle.vp_base.specs.Raster.{Raster}
 use Rattle.vp_base.specs.Block.{with_block}
 use Rattle.vp_base.specs.Near.{block_place}
 use Rattle.vp_base.proofs.OverLemmas.{over-same}
+use Rattle.vp_tables.specs.declared.modes.LumaMode.TheVariants as luma_is
 use Rattle.vp_tables.specs.declared.modes.SubMode.TheVariants as sub_is
 use Rattle.vp_tables.specs.Modes.{is_by_subblocks}
 use Rattle.vp_modes.specs.Entry.{Modes}
@@ -22,68 +24,83 @@ use Rattle.vp_recon.proofs.LumaLemmas.{whole_prediction, subs_alone}
 use Rattle.vp_search.specs.FirstLeast.{IsFirstLeast}
 use Rattle.vp_search.proofs.RefinedLemmas.{first_same}
 use Rattle.vp_choose.specs.declared.subblocks.Subblocks.{Subblocks}
+use Rattle.vp_choose.specs.declared.luma.WholeLuma.{WholeLuma}
 use Rattle.vp_choose.specs.Costs.{luma_mode_cost}
 use Rattle.vp_choose.specs.Subblocks.{AreSubblocksChosen, sub_rebuilt}
 use Rattle.vp_choose.specs.Intra.{IsLuma, HasSubblocks, luma_at, luma_cost}
-use Rattle.vp_choose.specs.Below.{AreSubblocksOver, IsLumaOver}
-use Rattle.vp_choose.specs.Coding.{IsRebuiltLuma}
-use Rattle.vp_choose.proofs.SubblockChoice.{HasFirst, has_first, free_subblocks}
+use Rattle.vp_choose.specs.Below.{AreSubblocksOver, IsLumaOver, IsWholeLuma}
+use Rattle.vp_choose.specs.Coding.{IsIntraLuma, IsRebuiltLuma}
+use Rattle.vp_choose.proofs.SubblockChoice.{HasFirst, has_first, first_before, first_behind, free_subblocks}
 
 -- ---- the choice
 
--- the costs of the four whole modes
-abbrev pub AreWholeCosts : (ℕ → ℕ → ℕ) → Raster → Place → List ℕ → Type 0
-AreWholeCosts f p place whole = (i : ℕ) → i < 4 → get_or whole i 0 ≡ luma_mode_cost f p place (luma_at i)
-
--- and of B_PRED
-abbrev pub five : List ℕ → ℕ → List ℕ
-five whole b = get_or whole 0 0 ∷ get_or whole 1 0 ∷ get_or whole 2 0 ∷ get_or whole 3 0 ∷ (b + 128) ∷ []
-
-below_five : (P : ℕ → Type 0) → P 0 → P 1 → P 2 → P 3 → P 4 → (k : ℕ) → k < 5 → P k
-below_five P a b c d e zero l = a
-below_five P a b c d e (suc zero) l = b
-below_five P a b c d e (suc (suc zero)) l = c
-below_five P a b c d e (suc (suc (suc zero))) l = d
-below_five P a b c d e (suc (suc (suc (suc zero)))) l = e
-below_five P a b c d e (suc (suc (suc (suc (suc k))))) l = absurd (omega arith)
+four_costs : (f : ℕ → ℕ → ℕ) (p : Raster) (place : Place) (b k : ℕ) → k < 4 → luma_cost f p place b (luma_at k) ≡ luma_mode_cost f p place (luma_at k)
+four_costs f p place b zero below = refl
+four_costs f p place b (suc zero) below = refl
+four_costs f p place b (suc (suc zero)) below = refl
+four_costs f p place b (suc (suc (suc zero))) below = refl
+four_costs f p place b (suc (suc (suc (suc k)))) below = absurd (omega arith)
 
 module _ (f : ℕ → ℕ → ℕ) (factors : Factors) (place : Place) (p : Raster) where
-  luma_over : (limit most : ℕ) → ((i : ℕ) → i < 4 → limit ≤ luma_mode_cost f p place (luma_at i)) → limit ≤ most + 128
-      → AreSubblocksOver f factors place p most → IsLumaOver f factors place p limit
-  luma_over limit most whole enough s =
-      let b : ℕ = s.subblocks.cost in
-      let over = s.over in
-      let best : HasFirst 5 (λ i. luma_cost f p place b (luma_at i)) = has_first 4 (λ i. luma_cost f p place b (luma_at i)) in
+  first_of_four : (b n : ℕ) → IsFirstLeast 4 (λ k. luma_mode_cost f p place (luma_at k)) n → IsFirstLeast 4 (λ k. luma_cost f p place b (luma_at k)) n
+  first_of_four b n = first_same 4 (λ k. luma_mode_cost f p place (luma_at k)) (λ k. luma_cost f p place b (luma_at k)) n (λ k below. sym (four_costs f p place b k below))
+
+  -- B_PRED costs no less
+  whole_is : (w : WholeLuma) (s : Subblocks) → IsWholeLuma f place p w → AreSubblocksChosen f factors place p s → w.cost ≤ s.cost + 128
+      → IsLuma f factors place p (record { mode = w.mode; subblocks = s; cost = w.cost })
+  whole_is w s h chosen most =
+      let same = four_costs f p place s.cost h.number h.first.within in
       record {
-        luma = record { mode = luma_at best.number; subblocks = s.subblocks; cost = luma_cost f p place b (luma_at best.number) };
-        is = record { subblocks = s.chosen; number = best.number; first = best.is; mode = refl; cost = refl };
-        over = below_five (λ i. limit ≤ luma_cost f p place b (luma_at i)) (whole 0 (omega arith)) (whole 1 (omega arith)) (whole 2 (omega arith)) (whole 3 (omega arith))
-            (let l : limit ≤ b + 128 = omega arith in l) best.number best.is.within;
+        subblocks = chosen;
+        number = h.number;
+        first = first_before 4 (λ k. luma_cost f p place s.cost (luma_at k)) h.number (first_of_four s.cost h.number h.first) (let c = h.cost in omega arith);
+        mode = h.mode;
+        cost = rw h.mode (h.cost ∙ sym same);
       }
+
+  -- B_PRED costs less
+  subblocks_are : (w : WholeLuma) (s : Subblocks) → IsWholeLuma f place p w → AreSubblocksChosen f factors place p s → s.cost + 128 < w.cost
+      → IsLuma f factors place p (record { mode = luma_is.B; subblocks = s; cost = s.cost + 128 })
+  subblocks_are w s h chosen less =
+      let same = four_costs f p place s.cost h.number h.first.within in
+      record {
+        subblocks = chosen;
+        number = 4;
+        first = first_behind 4 (λ k. luma_cost f p place s.cost (luma_at k)) h.number (first_of_four s.cost h.number h.first) (let c = h.cost in omega arith);
+        mode = refl;
+        cost = refl;
+      }
+
+  -- the luma by the mode other than B_PRED
+  pub whole_intra : (w : WholeLuma) (most : ℕ) → IsWholeLuma f place p w → is_by_subblocks w.mode ≡ false → w.cost ≤ most + 128 → AreSubblocksOver f factors place p most
+      → IsIntraLuma f factors place p (record { mode = w.mode; prediction = w.prediction; subblocks = None; cost = w.cost })
+  whole_intra w most h whole enough s =
+      let over = s.over in
+      record { choice = _; best = whole_is w s.subblocks h s.chosen (omega arith); is = record { mode = refl; subblocks = rw whole refl; cost = refl } }
+
+  -- .. by B_PRED
+  pub subblocks_intra : (w : WholeLuma) (s : Subblocks) (pixels : List ℕ) → IsWholeLuma f place p w → AreSubblocksChosen f factors place p s → s.cost + 128 < w.cost
+      → IsIntraLuma f factors place p (record { mode = luma_is.B; prediction = pixels; subblocks = Some s; cost = s.cost + 128 })
+  subblocks_intra w s pixels h chosen less = record { choice = _; best = subblocks_are w s h chosen less; is = record { mode = refl; subblocks = refl; cost = refl } }
+
+  -- both cost too much
+  pub luma_over : (w : WholeLuma) (limit most : ℕ) → IsWholeLuma f place p w → limit ≤ w.cost → limit ≤ most + 128 → AreSubblocksOver f factors place p most
+      → IsLumaOver f factors place p limit
+  luma_over w limit most h enough behind s =
+      let over = s.over in
+      elim (cases_lt (s.subblocks.cost + 128) w.cost) [
+        | inl less ↦ record { luma = _; is = subblocks_are w s.subblocks h s.chosen less; over = omega arith }
+        | inr more ↦ record { luma = _; is = whole_is w s.subblocks h s.chosen more; over = enough }
+      ]
 
   -- no luma mode costs less than nothing
   pub free_luma : (limit : ℕ) → limit ≡ 0 → IsLumaOver f factors place p limit
-  free_luma limit free = luma_over limit 0 (λ i below. omega arith) (omega arith) (free_subblocks f factors place p 0 refl)
+  free_luma limit free =
+      let best : HasFirst 4 (λ k. luma_mode_cost f p place (luma_at k)) = has_first 3 (λ k. luma_mode_cost f p place (luma_at k)) in
+      let w : WholeLuma = record { mode = luma_at best.number; prediction = []; cost = luma_mode_cost f p place (luma_at best.number) } in
+      luma_over w limit 0 (record { number = best.number; first = best.is; mode = refl; cost = refl }) (omega arith) (omega arith) (free_subblocks f factors place p 0 refl)
 
-  module _ (whole : List ℕ) (are : AreWholeCosts f p place whole) where
-    each_cost : (b k : ℕ) → k < 5 → get_or (five whole b) k 0 ≡ luma_cost f p place b (luma_at k)
-    each_cost b = below_five (λ k. get_or (five whole b) k 0 ≡ luma_cost f p place b (luma_at k))
-        (are 0 (omega arith)) (are 1 (omega arith)) (are 2 (omega arith)) (are 3 (omega arith)) refl
-
-    pub luma_is : (s : Subblocks) (n : ℕ) → AreSubblocksChosen f factors place p s → IsFirstLeast 5 (λ k. get_or (five whole s.cost) k 0) n
-        → IsLuma f factors place p (record { mode = luma_at n; subblocks = s; cost = get_or (five whole s.cost) n 0 })
-    luma_is s n chosen first = record {
-      subblocks = chosen;
-      number = n;
-      first = first_same 5 (λ k. get_or (five whole s.cost) k 0) (λ k. luma_cost f p place s.cost (luma_at k)) n (each_cost s.cost) first;
-      mode = refl;
-      cost = each_cost s.cost n first.within;
-    }
-
-    -- the least of the four costs too much, and so do the subblocks
-    pub none_below : (limit most n : ℕ) → IsFirstLeast 4 (λ k. get_or whole k 0) n → limit ≤ get_or whole n 0 → limit ≤ most + 128
-        → AreSubblocksOver f factors place p most → IsLumaOver f factors place p limit
-    none_below limit most n first over = luma_over limit most (λ i below. let e = are i below in let l = first.least i below in omega arith)
+pub ruleset luma_choices = (free_luma, luma_over, whole_intra, subblocks_intra)
 
 -- ---- its prediction
 

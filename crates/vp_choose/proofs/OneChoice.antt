@@ -17,13 +17,12 @@ use Rattle.vp_quant.specs.declared.factors.Factors.{Factors}
 use Rattle.vp_refs.specs.References.{reference_picture}
 use Rattle.vp_recon.specs.Predictor.{Predictor, Intra, Inter}
 use Rattle.vp_recon.specs.Prediction.{luma_prediction, chroma_prediction}
-use Rattle.vp_choose.specs.declared.luma.LumaChoice.{LumaChoice}
 use Rattle.vp_choose.specs.declared.motion.Moved.{Moved}
 use Rattle.vp_choose.specs.declared.frame.Choice.{Choice}
 use Rattle.vp_choose.specs.Costs.{block_pixels}
 use Rattle.vp_choose.specs.Levels.{HasLumaAndY2, HasChroma}
 use Rattle.vp_choose.specs.Frame.{FrameSearch, Search, no_biases}
-use Rattle.vp_choose.specs.Intra.{IsIntra}
+use Rattle.vp_choose.specs.Intra.{LumaChoice, IsIntra}
 use Rattle.vp_choose.specs.Inter.{IsInter, moved_source, vector_of}
 use Rattle.vp_choose.specs.Choice.{IsChoice, IsTaken, IsIntraChoice}
 use Rattle.vp_choose.specs.One.{IsWellFormedChoice, AreSameChoice, ChoiceIsOne}

@@ -12,11 +12,10 @@ use Rattle.vp_search.specs.FirstLeast.{IsFirstLeast}
 use Rattle.vp_search.proofs.RefinedLemmas.{first_is_one}
 use Rattle.vp_search.proofs.SumLemmas.{sum_below-same}
 use Rattle.vp_choose.specs.declared.subblocks.Subblocks.{Subblocks}
-use Rattle.vp_choose.specs.declared.luma.LumaChoice.{LumaChoice}
 use Rattle.vp_choose.specs.Costs.{sub_cost, chroma_cost}
 use Rattle.vp_choose.specs.Levels.{part}
 use Rattle.vp_choose.specs.Subblocks.{IsBestMode, AreSubblocksChosen, mode_at, mode_of, levels_in, after_subblocks}
-use Rattle.vp_choose.specs.Intra.{IsLuma, IsChroma, luma_cost, luma_at, chroma_at}
+use Rattle.vp_choose.specs.Intra.{LumaChoice, IsLuma, IsChroma, luma_cost, luma_at, chroma_at}
 use Rattle.vp_choose.proofs.SubblockChoice.{AreAlike, after_alike, cost_at, cost_alike}
 
 pub either : {A : Type 0} (b : Bool) → (b ≡ true → A) → (b ≡ false → A) → A

@@ -98,6 +98,20 @@ module _ (factors : Factors) (place : Place) (p : Raster) (modes : List SubMode)
 
 -- ---- a first least number
 
+-- of one number more, which is not less
+pub first_before : (n : ℕ) (f : ℕ → ℕ) (k : ℕ) → IsFirstLeast n f k → f k ≤ f n → IsFirstLeast (suc n) f k
+first_before n f k is most =
+    let w = is.within in
+    record { within = omega arith; least = λ j below. below_more (λ i. f k ≤ f i) n is.least most j (omega arith); first = is.first }
+
+-- .. which is less
+pub first_behind : (n : ℕ) (f : ℕ → ℕ) (k : ℕ) → IsFirstLeast n f k → f n < f k → IsFirstLeast (suc n) f n
+first_behind n f k is less = record {
+  within = omega arith;
+  least = λ j below. below_more (λ i. f n ≤ f i) n (λ i b. let l = is.least i b in omega arith) (omega arith) j (omega arith);
+  first = λ j below. let l = is.least j below in omega arith;
+}
+
 pub record HasFirst (n : ℕ) (f : ℕ → ℕ) : Type 0 where
   pub number : ℕ
   pub is : IsFirstLeast n f number
@@ -106,24 +120,9 @@ pub has_first : (n : ℕ) (f : ℕ → ℕ) → HasFirst (suc n) f
 has_first zero f = record { number = 0; is = record { within = omega arith; least = λ k below. grind arith; first = λ k below. absurd (omega arith) } }
 has_first (suc n) f =
     let old : HasFirst (suc n) f = has_first n f in
-    let w = old.is.within in
     elim (cases_lt (f (suc n)) (f old.number)) [
-      | inl less ↦ record {
-        number = suc n;
-        is = record {
-          within = omega arith;
-          least = λ k below. below_more (λ i. f (suc n) ≤ f i) (suc n) (λ i b. let l = old.is.least i b in omega arith) (omega arith) k (omega arith);
-          first = λ k below. let l = old.is.least k below in omega arith;
-        };
-      }
-      | inr most ↦ record {
-        number = old.number;
-        is = record {
-          within = omega arith;
-          least = λ k below. below_more (λ i. f old.number ≤ f i) (suc n) old.is.least most k (omega arith);
-          first = old.is.first;
-        };
-      }
+      | inl less ↦ record { number = suc n; is = first_behind (suc n) f old.number old.is less }
+      | inr most ↦ record { number = old.number; is = first_before (suc n) f old.number old.is most }
     ]
 
 -- ---- the subblocks that are left

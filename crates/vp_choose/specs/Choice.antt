@@ -8,12 +8,11 @@ use Rattle.vp_motion.specs.Vector.{MacroblockMotion}
 use Rattle.vp_tokens.specs.Blocks.{any_token, no_blocks}
 use Rattle.vp_tokens.specs.Spelled.{AreSpelled, AreTight}
 use Rattle.vp_recon.specs.Predictor.{has_y2}
-use Rattle.vp_choose.specs.declared.luma.LumaChoice.{LumaChoice}
 use Rattle.vp_choose.specs.declared.motion.Moved.{Moved}
 use Rattle.vp_choose.specs.declared.frame.Choice.{Choice}
 use Rattle.vp_choose.specs.Costs.{block_pixels}
 use Rattle.vp_choose.specs.Frame.{FrameSearch, Search, source_by}
-use Rattle.vp_choose.specs.Intra.{IsLuma, IsIntra}
+use Rattle.vp_choose.specs.Intra.{LumaChoice, IsLuma, IsIntra}
 use Rattle.vp_choose.specs.Inter.{IsMoved, IsInter}
 
 -- the intra choice with this luma

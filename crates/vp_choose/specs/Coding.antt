@@ -1,12 +1,14 @@
 -- Private to the crate: how a macroblock is coded and predicted, and the choice that its levels complete.
 use Rattle.std.specs.Prelude.{◌≡◌, ℕ, ◌+◌, ◌*◌, ◌<◌, ◌≤◌, ℤ, pos, Bool, true, false, not, List, [], replicate}
 use Rattle.std.specs.Prelude.{is_some, IfSome, slice_index, slice_index_or, unsigned_abs}
+use Rattle.std.specs.Bool.{then_some}
 use Rattle.vp_base.specs.declared.place.Place.{Place}
 use Rattle.vp_base.specs.Grid.{Grid}
 use Rattle.vp_base.specs.Raster.{Raster}
 use Rattle.vp_base.specs.Block.{with_block}
 use Rattle.vp_base.specs.Image.{Image}
 use Rattle.vp_tables.specs.declared.modes.VectorMode.TheVariants as vector_is
+use Rattle.vp_tables.specs.Modes.{is_by_subblocks}
 use Rattle.vp_head.specs.Reference.{is_intra}
 use Rattle.vp_motion.specs.Vector.{MacroblockMotion, IsWithin, last_of, zero_vector}
 use Rattle.vp_motion.specs.Near.{candidates}
@@ -16,19 +18,20 @@ use Rattle.vp_tokens.specs.Blocks.{block_of as tokens_of, any_token, no_blocks}
 use Rattle.vp_tokens.specs.Spelled.{AreSpelled, AreTight, levels_of}
 use Rattle.vp_quant.specs.declared.factors.Factors.{Factors}
 use Rattle.vp_intra.specs.Edges.{block as listed}
+use Rattle.vp_intra.specs.Whole.{luma_pixel}
 use Rattle.vp_recon.specs.declared.given.MacroblockPixels.{MacroblockPixels}
 use Rattle.vp_recon.specs.Predictor.{Predictor, macroblock_of, has_sub_modes, has_y2}
 use Rattle.vp_recon.specs.Prediction.{luma_prediction, chroma_prediction}
 use Rattle.vp_recon.specs.Rebuilt.{luma_rebuilt}
 use Rattle.vp_choose.specs.declared.subblocks.Subblocks.{Subblocks}
-use Rattle.vp_choose.specs.declared.luma.LumaChoice.{LumaChoice}
+use Rattle.vp_choose.specs.declared.luma.IntraLuma.{IntraLuma}
 use Rattle.vp_choose.specs.declared.coding.Coding.{Coding}
 use Rattle.vp_choose.specs.declared.frame.Choice.{Choice}
 use Rattle.vp_choose.specs.Costs.{block_pixels}
 use Rattle.vp_choose.specs.Levels.{HasLumaAndY2, HasChroma}
 use Rattle.vp_choose.specs.Subblocks.{after_subblocks}
 use Rattle.vp_choose.specs.Frame.{FrameSearch, source_by, no_biases}
-use Rattle.vp_choose.specs.Intra.{IsLuma, HasSubblocks}
+use Rattle.vp_choose.specs.Intra.{LumaChoice, IsLuma, HasSubblocks}
 use Rattle.vp_choose.specs.Choice.{IsTaken}
 
 -- the source pixels of the macroblock at a place
@@ -62,6 +65,24 @@ pub record IsRebuiltLuma (factors : Factors) (place : Place) (p : Raster) (s : S
   pub is : with_block p (16 * place.column) (16 * place.row) 16 16 (λ r c. slice_index pixels (r * 16 + c))
       ≡ after_subblocks factors place p s 16
   pub small : AreSmall s.levels
+
+-- the luma's prediction by its mode
+pub record IsPredictedLuma (factors : Factors) (place : Place) (p : Raster) (l : IntraLuma) : Type 0 where
+  pub at_once : is_by_subblocks l.mode ≡ false
+      → l.prediction ≡ listed 16 (luma_pixel l.mode p (16 * place.column) (16 * place.row))
+  pub by_subblocks : IfSome l.subblocks (λ s. IsRebuiltLuma factors place p s l.prediction)
+
+-- the luma of a choice, with the subblocks of B_PRED if that is chosen
+pub record IsLumaOf (choice : LumaChoice) (l : IntraLuma) : Type 0 where
+  pub mode : l.mode ≡ choice.mode
+  pub subblocks : l.subblocks ≡ then_some (is_by_subblocks choice.mode) choice.subblocks
+  pub cost : l.cost ≡ choice.cost
+
+-- the luma of the choice for the luma f of the macroblock at a place of p
+pub record IsIntraLuma (f : ℕ → ℕ → ℕ) (factors : Factors) (place : Place) (p : Raster) (l : IntraLuma) : Type 0 where
+  pub choice : LumaChoice
+  pub best : IsLuma f factors place p choice
+  pub is : IsLumaOf choice l
 
 -- The prediction of the macroblock at a place of p. With B_PRED its luma is rebuilt already, by whatever tokens have
 -- the levels of its subblocks.

@@ -1,6 +1,6 @@
 -- The costs of intra predictions: sums of absolute differences between source and prediction. RFC 6386 leaves them
 -- open.
-use Rattle.std.specs.Prelude.{ℕ, ◌+◌, ◌*◌, ◌<◌, List, slice_index}
+use Rattle.std.specs.Prelude.{ℕ, ◌+◌, ◌*◌, ◌<◌}
 use Rattle.vp_base.specs.declared.place.Place.{Place}
 use Rattle.vp_base.specs.Raster.{Raster, pixel}
 use Rattle.vp_base.specs.Image.{Image, macroblocks}
@@ -19,10 +19,6 @@ block_pixels n p place r c = pixel p (n * place.column + c) (n * place.row + r)
 pub record HasMacroblock (p : Image) (place : Place) : Type 0 where
   pub column : place.column < macroblocks p.width
   pub row : place.row < macroblocks p.height
-
--- a block whose rows of n pixels are listed in raster order
-abbrev pub block_from_rows : ℕ → List ℕ → ℕ → ℕ → ℕ
-block_from_rows n xs r c = slice_index xs (r * n + c)
 
 -- the cost of a mode for the luma subblock f; its place is among all subblocks of p
 unfoldable pub sub_cost : (ℕ → ℕ → ℕ) → Raster → Place → SubMode → ℕ

@@ -20,7 +20,6 @@ use Rattle.vp_recon.specs.Predictor.{Intra}
 use Rattle.vp_recon.specs.Prediction.{luma_prediction, chroma_prediction}
 use Rattle.vp_search.specs.FirstLeast.{IsFirstLeast}
 use Rattle.vp_choose.specs.declared.subblocks.Subblocks.{Subblocks}
-use Rattle.vp_choose.specs.declared.luma.LumaChoice.{LumaChoice}
 use Rattle.vp_choose.specs.Costs.{block_pixels, luma_mode_cost, chroma_cost}
 use Rattle.vp_choose.specs.Levels.{HasLumaAndY2, HasChroma}
 use Rattle.vp_choose.specs.Subblocks.{AreSubblocksChosen, levels_in}
@@ -37,7 +36,13 @@ luma_at i = slice_index_or luma_order i luma_is.Dc
 abbrev pub luma_cost : (ℕ → ℕ → ℕ) → Raster → Place → ℕ → LumaMode → ℕ
 luma_cost f p place subblocks mode = if is_by_subblocks mode then subblocks + 128 else luma_mode_cost f p place mode
 
--- the first luma mode of the least cost, its cost, and the subblock modes of B_PRED
+-- the choice of an intra macroblock's luma mode, its cost, and the subblocks of B_PRED, whichever mode is chosen
+pub record LumaChoice : Type 0 where
+  pub mode : LumaMode
+  pub subblocks : Subblocks
+  pub cost : ℕ
+
+-- the first luma mode of the least cost
 pub record IsLuma (f : ℕ → ℕ → ℕ) (factors : Factors) (place : Place) (p : Raster) (l : LumaChoice) : Type 0 where
   pub subblocks : AreSubblocksChosen f factors place p l.subblocks
   pub number : ℕ

@@ -1,30 +1,30 @@
 -- Private to the crate: the motion that is found for a macroblock.
-use Rattle.std.specs.Prelude.{◌≡◌, ◌≤◌, ◌⊎◌, ℕ, true, false, Option, Some, None, MatchOption}
+use Rattle.std.specs.Prelude.{◌≡◌, ◌≤◌, ℕ, false, Option, Some, None, MatchOption}
 use Rattle.vp_base.specs.declared.place.Place.{Place}
 use Rattle.vp_base.specs.Raster.{Raster}
+use Rattle.vp_head.specs.declared.fields.Reference.{Reference}
 use Rattle.vp_head.specs.Reference.{is_intra}
+use Rattle.vp_refs.specs.References.{reference_picture}
 use Rattle.vp_search.specs.declared.vector.Refined.{Refined}
 use Rattle.vp_choose.specs.declared.motion.Moved.{Moved}
 use Rattle.vp_choose.specs.Frame.{Search}
 use Rattle.vp_choose.specs.Inter.{IsFound, IsMoved, IsInSearchRange}
 
--- the best vector in golden costs at least a limit
-pub record IsGoldenOver (s : Search) (source : Raster) (place : Place) (limit : ℕ) : Type 0 where
-  pub golden : Refined
-  pub is : IsFound s source s.references.golden.luma place golden
-  pub over : limit ≤ golden.cost
+-- a vector and its cost, without its reference frame
+abbrev pub found_of : Moved → Refined
+found_of m = record { vector = m.vector; cost = m.cost }
 
--- golden is left out: it is the last frame's picture, or costs no less than last
-abbrev pub IsLeftOut : Search → Raster → Place → ℕ → Type 0
-IsLeftOut s source place limit = (s.references.golden ≡ s.references.last) ⊎ IsGoldenOver s source place limit
+-- the best vector in a reference frame costs at least a limit
+pub record IsOver (s : Search) (source reference : Raster) (place : Place) (limit : ℕ) : Type 0 where
+  pub found : Refined
+  pub is : IsFound s source reference place found
+  pub over : limit ≤ found.cost
 
--- the best vectors in the last frame, and in golden if that is searched and not left out
-pub record AreFound (s : Search) (source : Raster) (place : Place) (last : Refined) (golden : Option Refined)
-    : Type 0 where
-  pub in_last : IsFound s source s.references.last.luma place last
-  pub last_alone : s.golden ≡ false → golden ≡ None
-  pub golden_too : s.golden ≡ true → MatchOption golden (IsLeftOut s source place last.cost)
-      (IsFound s source s.references.golden.luma place)
+-- the best vector in a reference frame, which is short
+pub record IsFoundIn (s : Search) (source : Raster) (r : Reference) (place : Place) (m : Moved) : Type 0 where
+  pub reference : m.reference ≡ r
+  pub is : IsFound s source (reference_picture s.references r).luma place (found_of m)
+  pub short : IsInSearchRange m.vector
 
 -- the best motion, which is short
 pub record IsBestMotion (s : Search) (source : Raster) (place : Place) (m : Moved) : Type 0 where

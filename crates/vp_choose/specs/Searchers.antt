@@ -1,5 +1,5 @@
 -- Private to the crate: the motion searchers of a frame.
-use Rattle.std.specs.Prelude.{◌≡◌, Option, IfSome}
+use Rattle.std.specs.Prelude.{◌≡◌, true, Option, IfSome, MatchOption}
 use Rattle.vp_head.specs.declared.fields.Reference.{Reference}
 use Rattle.vp_head.specs.declared.fields.Reference.TheVariants as reference_is
 use Rattle.vp_refs.specs.References.{reference_picture}
@@ -11,11 +11,12 @@ use Rattle.vp_choose.specs.Frame.{Search}
 abbrev pub searcher_of : Search → Reference → Searcher
 searcher_of s reference = record { reference = (reference_picture s.references reference).luma; range = s.range }
 
--- the searchers of the reference frames that are searched, those that there are
+-- the searchers of an inter frame; golden has none if it is not searched, or is the last frame's picture
 pub record AreSearchers (s : Search) (searchers : Searchers) : Type 0 where
-  pub last : IfSome searchers.last (λ searcher. searcher ≡ searcher_of s reference_is.Last)
-  pub golden : IfSome searchers.golden (λ searcher. searcher ≡ searcher_of s reference_is.Golden)
+  pub last : searchers.last ≡ searcher_of s reference_is.Last
+  pub golden : MatchOption searchers.golden (s.golden ≡ true → s.references.golden ≡ s.references.last)
+      (λ searcher. (s.golden ≡ true) × (searcher ≡ searcher_of s reference_is.Golden))
 
--- .. of an inter frame
-abbrev pub AreSearchersOf : Option Search → Searchers → Type 0
-AreSearchersOf search searchers = IfSome search (λ s. AreSearchers s searchers)
+-- the searchers of a frame; a key frame needs none
+abbrev pub AreSearchersOf : Option Search → Option Searchers → Type 0
+AreSearchersOf search searchers = IfSome search (λ s. MatchOption searchers ⊥ (AreSearchers s))

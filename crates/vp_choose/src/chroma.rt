@@ -1,61 +1,73 @@
 //! Chooses an intra macroblock's chroma mode.
 
-ghost use Rattle.std.specs.Prelude.{◌≡◌, ℕ, ◌+◌, ◌*◌, ◌≤◌};
+ghost use Rattle.std.specs.Prelude.{◌≡◌, ◌+◌, ◌*◌};
 ghost use Rattle.vp_base.specs.Image.{Image};
 ghost use Rattle.vp_intra.specs.Edges.{block as listed};
-ghost use Rattle.vp_choose.specs.Costs.{HasMacroblock, plane_cost, chroma_cost};
+ghost use Rattle.vp_intra.specs.Whole.{chroma_pixel};
+ghost use Rattle.vp_choose.specs.Costs.{HasMacroblock, chroma_cost};
 ghost use Rattle.vp_choose.specs.Coding.{AreCut};
 ghost use Rattle.vp_choose.specs.Intra.{IsChroma};
 
-use crate::kernel::sad8;
-use vp_base::{Picture, Place, Plane};
+use vp_base::{Picture, Place};
 use vp_intra::predict_chroma;
 use vp_recon::MacroblockPixels;
-use vp_search::first_least;
+use vp_search::{first_least, sad8};
 use vp_tables::ChromaMode;
 
-/// The modes in tie-breaking order.
-const ORDER: [ChromaMode; 4] = [ChromaMode::Dc, ChromaMode::V, ChromaMode::H, ChromaMode::Tm];
-
-/// Returns the cost of a mode in one chroma plane: the sum of absolute differences.
-#[tactic(auto, unfolding(crate::specs::Costs::plane_cost))]
-fn plane_cost(block: &[u8; 64], plane: &Plane, place: Place, mode: ChromaMode) -> u32
-    requires columns { 8 * place.column + 8 ≤ plane.now.width }
-    requires rows { 8 * place.row + 8 ≤ plane.now.height }
-    ensures value { (f : ℕ → ℕ → ℕ) → block.now ≡ listed 8 f → result ≡ plane_cost f plane.now place mode }
-    ensures bound { result ≤ 16320 }
-{
-    let _known = [plane.width(), plane.height()];
-    let prediction = predict_chroma(plane, 8 * place.column, 8 * place.row, mode);
-    sad8(block, &prediction)
+/// The chroma of an intra macroblock.
+#[derive(Clone, Copy)]
+pub(crate) struct IntraChroma {
+    pub(crate) mode: ChromaMode,
+    /// The prediction of U, in raster order.
+    pub(crate) u: [u8; 64],
+    /// That of V.
+    pub(crate) v: [u8; 64],
+    /// The sum of absolute differences over both.
+    cost: u32,
 }
 
-/// Returns the cost of a mode over U and V.
-fn cost_of(blocks: &MacroblockPixels, picture: &Picture, place: Place, mode: ChromaMode) -> u32
+/// Predicts chroma by a mode.
+fn predicted(
+    blocks: &MacroblockPixels,
+    picture: &Picture,
+    place: Place,
+    mode: ChromaMode,
+) -> IntraChroma
     requires { HasMacroblock picture.now place }
-    ensures value { (source : Image) → AreCut source place blocks.now
-        → result ≡ chroma_cost source picture.now place mode }
-    ensures bound { result ≤ 32640 }
+    ensures mode { result.mode ≡ mode }
+    ensures u { result.u ≡ listed 8 (chroma_pixel mode picture.now.u (8 * place.column) (8 * place.row)) }
+    ensures v { result.v ≡ listed 8 (chroma_pixel mode picture.now.v (8 * place.column) (8 * place.row)) }
+    ensures cost { (source : Image) → AreCut source place blocks.now
+        → result.cost ≡ chroma_cost source picture.now place mode }
 {
     let _known = picture.dim();
-    plane_cost(&blocks.u, picture.plane(1), place, mode)
-        + plane_cost(&blocks.v, picture.plane(2), place, mode)
+    let [x, y] = [8 * place.column, 8 * place.row];
+    let u = predict_chroma(picture.plane(1), x, y, mode);
+    let v = predict_chroma(picture.plane(2), x, y, mode);
+    let cost = sad8(&blocks.u, &u) + sad8(&blocks.v, &v);
+    IntraChroma { mode, u, v, cost }
 }
 
-/// Returns the chroma mode of the least cost.
+/// Returns the chroma by the mode of the least cost.
 pub(crate) fn choose_chroma(
     blocks: &MacroblockPixels,
     picture: &Picture,
     place: Place,
-) -> ChromaMode
+) -> IntraChroma
     requires { HasMacroblock picture.now place }
-    ensures { (source : Image) → AreCut source place blocks.now → IsChroma source place picture.now result }
+    ensures best { (source : Image) → AreCut source place blocks.now → IsChroma source place picture.now result.mode }
+    ensures u { result.u ≡ listed 8 (chroma_pixel result.mode picture.now.u (8 * place.column) (8 * place.row)) }
+    ensures v { result.v ≡ listed 8 (chroma_pixel result.mode picture.now.v (8 * place.column) (8 * place.row)) }
 {
-    let costs = [
-        cost_of(blocks, picture, place, ChromaMode::Dc),
-        cost_of(blocks, picture, place, ChromaMode::V),
-        cost_of(blocks, picture, place, ChromaMode::H),
-        cost_of(blocks, picture, place, ChromaMode::Tm),
-    ];
-    ORDER[first_least(&costs)]
+    let dc = predicted(blocks, picture, place, ChromaMode::Dc);
+    let vertical = predicted(blocks, picture, place, ChromaMode::V);
+    let horizontal = predicted(blocks, picture, place, ChromaMode::H);
+    let true_motion = predicted(blocks, picture, place, ChromaMode::Tm);
+    let costs = [dc.cost, vertical.cost, horizontal.cost, true_motion.cost];
+    match first_least(&costs) {
+        0 => dc,
+        1 => vertical,
+        2 => horizontal,
+        _ => true_motion,
+    }
 }

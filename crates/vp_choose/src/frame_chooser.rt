@@ -45,8 +45,9 @@ fn cut_blocks(source: &Picture, place: Place) -> MacroblockPixels
 /// Chooses the macroblocks of one frame, one after another, and keeps what the motion search can use again.
 #[derive(Drop)]
 pub struct FrameChooser<'a> {
-    frame: FrameSearch<'a>,
-    searchers: Searchers<'a>,
+    pub(crate) frame: FrameSearch<'a>,
+    /// None in a key frame.
+    pub(crate) searchers: Option<Searchers<'a>>,
 }
 
 impl<'a> Model for FrameChooser<'a> {
@@ -72,18 +73,7 @@ impl<'a> FrameChooser<'a> {
     {
         FrameChooser {
             frame: *frame,
-            searchers: searchers_of(alloc, frame),
-        }
-    }
-
-    /// Prepares the same choice without searchers: each search is independent. Only `choose_macroblock` calls it.
-    pub(crate) fn without_searchers(frame: &FrameSearch<'a>) -> FrameChooser<'a>
-        requires range { IfSome (lent_frame frame.now).search (λ s. s.range ≤ 64) }
-        ensures { result ≡ lent_frame frame.now }
-    {
-        FrameChooser {
-            frame: *frame,
-            searchers: Searchers::none(),
+            searchers: searchers_of(Some(alloc), frame),
         }
     }
 

@@ -5,7 +5,6 @@ mod chroma;
 mod coding;
 mod frame;
 mod frame_chooser;
-mod kernel;
 mod laws;
 mod levels;
 mod luma;
@@ -18,7 +17,6 @@ mod single;
 mod subblocks;
 #[cfg(test)]
 mod tests;
-mod tokens;
 
 pub use frame::{Choice, FrameSearch, Search};
 pub use frame_chooser::FrameChooser;

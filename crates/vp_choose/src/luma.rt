@@ -1,12 +1,13 @@
 //! Chooses an intra macroblock's luma mode.
 
-ghost use Rattle.std.specs.Prelude.{◌≡◌, ℕ, ◌+◌, ◌*◌, ◌<◌, ◌≤◌, slice_index, IfSome, IsSome, MatchOption};
+ghost use Rattle.std.specs.Prelude.{◌≡◌, ℕ, ◌+◌, ◌*◌, ◌<◌, ◌≤◌, false, IfSome, IsSome, MatchOption};
+ghost use Rattle.vp_tables.specs.Modes.{is_by_subblocks};
 ghost use Rattle.vp_intra.specs.Edges.{block as listed};
+ghost use Rattle.vp_intra.specs.Whole.{luma_pixel};
 ghost use Rattle.vp_choose.specs.Costs.{HasMacroblock, luma_mode_cost};
 ghost use Rattle.vp_choose.specs.Levels.{ArePositive};
-ghost use Rattle.vp_choose.specs.Coding.{IsRebuiltLuma};
-ghost use Rattle.vp_choose.specs.Intra.{IsLuma, luma_at};
-ghost use Rattle.vp_choose.specs.Below.{IsLumaOver};
+ghost use Rattle.vp_choose.specs.Coding.{IsIntraLuma, IsPredictedLuma};
+ghost use Rattle.vp_choose.specs.Below.{IsLumaOver, IsWholeLuma};
 
 use crate::subblocks::{Subblocks, choose_subblocks};
 use vp_base::{Picture, Place, Plane};
@@ -15,90 +16,87 @@ use vp_quant::Factors;
 use vp_search::{first_least, sad16};
 use vp_tables::LumaMode;
 
-/// The modes in tie-breaking order.
-const ORDER: [LumaMode; 5] = [
-    LumaMode::Dc,
-    LumaMode::V,
-    LumaMode::H,
-    LumaMode::Tm,
-    LumaMode::B,
-];
-
-/// The luma mode of an intra macroblock, its cost, and its subblock modes.
+/// The luma of an intra macroblock.
 #[derive(Clone, Copy)]
-pub(crate) struct LumaChoice {
+pub(crate) struct IntraLuma {
     pub(crate) mode: LumaMode,
-    pub(crate) subblocks: Subblocks,
+    /// In raster order. With B_PRED it is rebuilt already.
+    pub(crate) prediction: [u8; 256],
+    /// Those of B_PRED; None with another mode.
+    pub(crate) subblocks: Option<Subblocks>,
+    /// The sum of absolute differences; with B_PRED that of its subblocks and 128.
     pub(crate) cost: u32,
 }
 
-/// The choice for the luma of an intra macroblock, and the luma rebuilt by its subblock modes, in raster order.
+/// The luma of an intra macroblock by a mode other than B_PRED.
 #[derive(Clone, Copy)]
-pub(crate) struct RebuiltLuma {
-    pub(crate) luma: LumaChoice,
-    pub(crate) rebuilt: [u8; 256],
+pub(crate) struct WholeLuma {
+    mode: LumaMode,
+    prediction: [u8; 256],
+    cost: u32,
 }
 
-/// Returns the cost of a mode other than B_PRED: the sum of absolute differences.
-fn cost_of(block: &[u8; 256], plane: &Plane, place: Place, mode: LumaMode) -> u32
+/// Predicts luma by a mode other than B_PRED.
+fn predicted(block: &[u8; 256], plane: &Plane, place: Place, mode: LumaMode) -> WholeLuma
     requires columns { 16 * place.column + 16 ≤ plane.now.width }
     requires rows { 16 * place.row + 16 ≤ plane.now.height }
     requires whole { ¬ (mode ≡ LumaMode.B) }
-    ensures value { (f : ℕ → ℕ → ℕ) → block.now ≡ listed 16 f → result ≡ luma_mode_cost f plane.now place mode }
-    ensures bound { result ≤ 65280 }
+    ensures mode { result.mode ≡ mode }
+    ensures prediction { result.prediction
+        ≡ listed 16 (luma_pixel mode plane.now (16 * place.column) (16 * place.row)) }
+    ensures cost { (f : ℕ → ℕ → ℕ) → block.now ≡ listed 16 f → result.cost ≡ luma_mode_cost f plane.now place mode }
+    ensures bound { result.cost ≤ 65280 }
 {
     let _known = [plane.width(), plane.height()];
     let prediction = predict_luma(plane, 16 * place.column, 16 * place.row, mode);
-    sad16(block, &prediction)
-}
-
-/// Returns the costs of the modes other than B_PRED, in tie-breaking order.
-fn whole_costs(block: &[u8; 256], picture: &Picture, place: Place) -> [u32; 4]
-    requires { HasMacroblock picture.now place }
-    ensures value { (f : ℕ → ℕ → ℕ) → block.now ≡ listed 16 f → (i : ℕ) → i < 4
-        → slice_index result i ≡ luma_mode_cost f picture.now.luma place (luma_at i) }
-    ensures bound { slice_index result 0 ≤ 65280 }
-{
-    let _known = picture.dim();
-    let plane = picture.plane(0);
-    [
-        cost_of(block, plane, place, LumaMode::Dc),
-        cost_of(block, plane, place, LumaMode::V),
-        cost_of(block, plane, place, LumaMode::H),
-        cost_of(block, plane, place, LumaMode::Tm),
-    ]
-}
-
-/// Returns the limit of the subblocks' cost: if they reach it, no luma mode costs less than `limit`. If `whole`, the
-/// least cost of the other modes, is less than `limit` already, it is out of reach.
-fn subblocks_limit(whole: u32, limit: u32) -> u32
-    ensures over { limit ≤ whole → limit ≤ result + 128 }
-    ensures all { whole < limit → 65280 < result }
-{
-    if whole < limit {
-        return u32::MAX;
+    let cost = sad16(block, &prediction);
+    WholeLuma {
+        mode,
+        prediction,
+        cost,
     }
-    limit.saturating_sub(128)
 }
 
-/// Returns the luma mode of the least cost for a source `block`; None if that is not less than `limit`. The picture is
-/// used as scratch memory and restored.
-#[tactic(auto, using(crate::proofs::LumaModes::free_luma))]
+/// Returns the luma by the mode other than B_PRED of the least cost.
+fn choose_whole(block: &[u8; 256], plane: &Plane, place: Place) -> WholeLuma
+    requires columns { 16 * place.column + 16 ≤ plane.now.width }
+    requires rows { 16 * place.row + 16 ≤ plane.now.height }
+    ensures best { (f : ℕ → ℕ → ℕ) → block.now ≡ listed 16 f → IsWholeLuma f place plane.now result }
+    ensures prediction { result.prediction
+        ≡ listed 16 (luma_pixel result.mode plane.now (16 * place.column) (16 * place.row)) }
+    ensures whole { is_by_subblocks result.mode ≡ false }
+    ensures bound { result.cost ≤ 65280 }
+{
+    let dc = predicted(block, plane, place, LumaMode::Dc);
+    let vertical = predicted(block, plane, place, LumaMode::V);
+    let horizontal = predicted(block, plane, place, LumaMode::H);
+    let true_motion = predicted(block, plane, place, LumaMode::Tm);
+    let costs = [dc.cost, vertical.cost, horizontal.cost, true_motion.cost];
+    match first_least(&costs) {
+        0 => dc,
+        1 => vertical,
+        2 => horizontal,
+        _ => true_motion,
+    }
+}
+
+/// Returns the luma by the mode of the least cost for a source `block`; None if that is not less than `limit`. The
+/// picture is used as scratch memory and restored.
+#[tactic(auto, using(crate::proofs::LumaModes::luma_choices))]
 pub(crate) fn choose_luma_below(
     block: &[u8; 256],
     factors: &Factors,
     picture: &mut Picture,
     place: Place,
     limit: u32,
-) -> Option<RebuiltLuma>
+) -> Option<IntraLuma>
     requires picture { HasMacroblock picture.old place }
     requires factors { ArePositive factors.now }
     ensures luma { (f : ℕ → ℕ → ℕ) → block.now ≡ listed 16 f → MatchOption result
         (IsLumaOver f factors.now place picture.old.luma limit)
-        (λ l. IsLuma f factors.now place picture.old.luma l.luma) }
-    ensures rebuilt { IfSome result (λ l.
-        IsRebuiltLuma factors.now place picture.old.luma l.luma.subblocks l.rebuilt) }
-    ensures below { IfSome result (λ l. l.luma.cost < limit) }
+        (IsIntraLuma f factors.now place picture.old.luma) }
+    ensures predicted { IfSome result (IsPredictedLuma factors.now place picture.old.luma) }
+    ensures below { IfSome result (λ l. l.cost < limit) }
     ensures kept { picture.new ≡ picture.old }
     ensures all { 65280 < limit → IsSome result }
 {
@@ -107,23 +105,30 @@ pub(crate) fn choose_luma_below(
         return None;
     }
     let _known = picture.dim();
-    let whole = whole_costs(block, picture, place);
-    let most = subblocks_limit(whole[first_least(&whole)], limit);
-    let rebuilt = choose_subblocks(block, factors, picture, place, most)?;
-    let subblocks = rebuilt.subblocks;
-    let pixels = rebuilt.luma;
-    let costs = [whole[0], whole[1], whole[2], whole[3], subblocks.cost + 128];
-    let best = first_least(&costs);
-    if costs[best] >= limit {
+    let whole = choose_whole(block, picture.plane(0), place);
+    // B_PRED costs 128 more than its subblocks. It is last in order, so it is chosen only if it costs less.
+    let most = whole.cost.min(limit).saturating_sub(128);
+    if let Some(rebuilt) = choose_subblocks(block, factors, picture, place, most) {
+        let prediction = rebuilt.luma;
+        return Some(IntraLuma {
+            mode: LumaMode::B,
+            prediction,
+            cost: rebuilt.subblocks.cost + 128,
+            subblocks: Some(rebuilt.subblocks),
+        });
+    }
+    if whole.cost >= limit {
         return None;
     }
-    let luma = LumaChoice {
-        mode: ORDER[best],
-        subblocks,
-        cost: costs[best],
-    };
-    Some(RebuiltLuma {
-        luma,
-        rebuilt: pixels,
+    let WholeLuma {
+        mode,
+        prediction,
+        cost,
+    } = whole;
+    Some(IntraLuma {
+        mode,
+        prediction,
+        subblocks: None,
+        cost,
     })
 }

@@ -1,118 +1,79 @@
 //! Chooses for one macroblock: intra or inter.
 
-ghost use Rattle.std.specs.Prelude.{◌≡◌, ◌*◌, ◌≤◌, true, false, None, IfSome, replicate};
+ghost use Rattle.std.specs.Prelude.{◌≡◌, ◌*◌, ◌≤◌, true, false, None, replicate};
 ghost use Rattle.vp_base.specs.Grid.{Grid, Has};
 ghost use Rattle.vp_base.specs.Image.{Image};
 ghost use Rattle.vp_base.specs.Raster.{Raster};
-ghost use Rattle.vp_tables.specs.Modes.{is_by_subblocks};
 ghost use Rattle.vp_head.specs.Reference.{is_intra};
 ghost use Rattle.vp_motion.specs.Vector.{MacroblockMotion};
 ghost use Rattle.vp_motion.specs.Map.{AreWithin};
 ghost use Rattle.vp_quant.specs.declared.factors.Factors.{Factors};
 ghost use Rattle.vp_intra.specs.Edges.{block as listed};
-ghost use Rattle.vp_intra.specs.Whole.{luma_pixel, chroma_pixel};
 ghost use Rattle.vp_recon.specs.Predictor.{Intra, Inter};
 ghost use Rattle.vp_recon.specs.Prediction.{luma_prediction, chroma_prediction};
 ghost use Rattle.vp_choose.specs.Costs.{HasMacroblock};
 ghost use Rattle.vp_choose.specs.Levels.{ArePositive};
-ghost use Rattle.vp_choose.specs.Coding.{AreCut, IsCoding, IsCodedBy, IsRebuiltLuma, IsShortMotion};
-ghost use Rattle.vp_choose.specs.Intra.{IsIntra};
+ghost use Rattle.vp_choose.specs.Coding.{AreCut, IsCoding, IsCodedBy, IsLumaOf, IsPredictedLuma, IsShortMotion};
+ghost use Rattle.vp_choose.specs.Intra.{LumaChoice, IsIntra};
 ghost use Rattle.vp_choose.specs.Frame.{lent_frame, search_of};
 ghost use Rattle.vp_choose.specs.Inter.{IsInter, IsInSearchRange, moved_source};
 ghost use Rattle.vp_choose.specs.Searched.{IsSearched};
 
-use crate::chroma::choose_chroma;
+use crate::chroma::{IntraChroma, choose_chroma};
 use crate::coding::Coding;
 use crate::frame::{FrameSearch, Search};
-use crate::luma::{LumaChoice, RebuiltLuma, choose_luma_below};
+use crate::luma::{IntraLuma, choose_luma_below};
 use crate::motion::{Moved, motion_of};
 use vp_base::{Picture, Place};
 use vp_head::Reference;
 use vp_inter::{chroma_vector, luma_vector, predict_block8, predict_block16};
-use vp_intra::{predict_chroma, predict_luma};
 use vp_modes::Modes;
 use vp_motion::{Motion, Vector, VectorMap};
 use vp_recon::MacroblockPixels;
 use vp_search::QuarterVector;
 use vp_tables::{ChromaMode, LumaMode, SubMode, VectorMode};
 
-/// Predicts an intra macroblock; with B_PRED its luma is rebuilt already.
-fn intra_prediction(
-    picture: &Picture,
-    place: Place,
-    luma: &RebuiltLuma,
-    mode: ChromaMode,
-) -> MacroblockPixels
-    requires { HasMacroblock picture.now place }
-    ensures at_once { is_by_subblocks luma.now.luma.mode ≡ false → result.luma
-        ≡ listed 16 (luma_pixel luma.now.luma.mode picture.now.luma (16 * place.column) (16 * place.row)) }
-    ensures by_subblocks { is_by_subblocks luma.now.luma.mode ≡ true → result.luma ≡ luma.now.rebuilt }
-    ensures u { result.u ≡ listed 8 (chroma_pixel mode picture.now.u (8 * place.column) (8 * place.row)) }
-    ensures v { result.v ≡ listed 8 (chroma_pixel mode picture.now.v (8 * place.column) (8 * place.row)) }
-{
-    let _known = picture.dim();
-    let plane = picture.plane(0);
-    let luma_mode = luma.luma.mode;
-    let pixels = if luma_mode.is_by_subblocks() {
-        luma.rebuilt
-    } else {
-        predict_luma(plane, 16 * place.column, 16 * place.row, luma_mode)
-    };
-    let [x, y] = [8 * place.column, 8 * place.row];
-    MacroblockPixels {
-        luma: pixels,
-        u: predict_chroma(picture.plane(1), x, y, mode),
-        v: predict_chroma(picture.plane(2), x, y, mode),
-    }
-}
-
-/// Returns the intra coding of a macroblock whose luma mode is chosen.
+/// Returns the intra coding of a macroblock whose luma is chosen.
 fn intra_coding(
     blocks: &MacroblockPixels,
     picture: &Picture,
     place: Place,
-    luma: &RebuiltLuma,
+    luma: &IntraLuma,
 ) -> Coding
     requires { HasMacroblock picture.now place }
-    ensures coded { (source : Image) (factors : Factors) → AreCut source place blocks.now
-        → IsRebuiltLuma factors place picture.now.luma luma.now.luma.subblocks luma.now.rebuilt
+    ensures coded { (source : Image) (factors : Factors) (choice : LumaChoice) → AreCut source place blocks.now
+        → IsPredictedLuma factors place picture.now.luma luma.now → IsLumaOf choice luma.now
         → IsCodedBy source factors place picture.now (λ c. Intra c.modes)
-        (λ c. IsIntra source factors place picture.now luma.now.luma c.modes c.tokens) result }
+        (λ c. IsIntra source factors place picture.now choice c.modes c.tokens) result }
     ensures reference { is_intra result.modes.reference ≡ true }
     ensures motion { (g : Grid MacroblockMotion) → IsShortMotion g place result }
-    ensures subblocks { IfSome result.subblocks (λ s. s ≡ luma.now.luma.subblocks) }
+    ensures subblocks { result.subblocks ≡ luma.now.subblocks }
 {
     let chroma = choose_chroma(blocks, picture, place);
-    let prediction = intra_prediction(picture, place, luma, chroma);
-    let LumaChoice {
-        mode,
-        subblocks,
-        ..
-    } = luma.luma;
-    let by_subblocks = mode.is_by_subblocks();
-    let subs = if by_subblocks {
-        subblocks.modes
-    } else {
-        [SubMode::Dc; 16]
+    let subs = match &luma.subblocks {
+        Some(subblocks) => subblocks.modes,
+        None => [SubMode::Dc; 16],
     };
-    let subblocks = by_subblocks.then_some(subblocks);
     let modes = Modes {
         segment: 0,
         skip: false,
         reference: Reference::Intra,
-        luma: mode,
+        luma: luma.mode,
         subs,
-        chroma,
+        chroma: chroma.mode,
     };
     let motion = Motion {
         mode: VectorMode::Zero,
         vectors: [Vector { row: 0, column: 0 }; 16],
     };
+    let pixels = luma.prediction;
+    let IntraChroma { u, v, .. } = chroma;
+    let prediction = MacroblockPixels { luma: pixels, u, v };
     Coding {
         modes,
         motion,
         prediction,
-        subblocks,
+        subblocks: luma.subblocks,
     }
 }
 

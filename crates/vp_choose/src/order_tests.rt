@@ -7,7 +7,7 @@ use crate::chroma::choose_chroma;
 use crate::frame::Search;
 use crate::luma::choose_luma_below;
 use crate::motion::{choose_reference, mode_of};
-use crate::searchers::Searchers;
+use crate::searchers::inter_searchers;
 use crate::tests::FACTORS;
 use std::alloc::{AllocError, Global};
 use std::rc::Rc;
@@ -61,7 +61,7 @@ fn luma_mode(block: &[u8; 256], picture: &mut Picture, place: Place) -> Option<L
         return None;
     }
     let chosen = choose_luma_below(block, &FACTORS, picture, place, u32::MAX)?;
-    Some(chosen.luma.mode)
+    Some(chosen.mode)
 }
 
 /// Returns the chroma mode of a macroblock whose U and V are equal; None outside the picture.
@@ -75,7 +75,7 @@ fn chroma_mode(block: &[u8; 64], picture: &Picture, place: Place) -> Option<Chro
         u: *block,
         v: *block,
     };
-    Some(choose_chroma(&blocks, picture, place))
+    Some(choose_chroma(&blocks, picture, place).mode)
 }
 
 /// `number`, and `number + 1` in nine subblocks: those of the lower half, and the first of the row above it.
@@ -291,7 +291,7 @@ fn reference_of(references: &Refs) -> Reference {
     for i in 0..256 {
         block[i] = 66 + 4 * (i % 16) as u8;
     }
-    choose_reference(&mut Searchers::none(), &search, &block, SECOND).reference
+    choose_reference(&mut inter_searchers(None, &search), &search, &block, SECOND).reference
 }
 
 /// The ramp that begins with 2, with one pixel changed.

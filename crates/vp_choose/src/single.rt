@@ -1,4 +1,4 @@
-//! One macroblock chosen by itself, as tests do: the encoder has a `FrameChooser` for all macroblocks of a frame.
+//! One macroblock chosen by itself. Only tests do so: the encoder has a `FrameChooser` for all macroblocks of a frame.
 
 ghost use Rattle.std.specs.Prelude.{◌≡◌, ◌<◌, ◌≤◌, true, false, IfSome, replicate};
 ghost use Rattle.vp_base.specs.Grid.{Has};
@@ -18,6 +18,7 @@ ghost use Rattle.vp_tables.specs.declared.modes.VectorMode.TheVariants as vector
 
 use crate::frame::{Choice, FrameSearch};
 use crate::frame_chooser::FrameChooser;
+use crate::searchers::searchers_of;
 use vp_base::{Picture, Place};
 use vp_motion::VectorMap;
 
@@ -48,6 +49,9 @@ pub fn choose_macroblock(
     ensures unmoved { is_intra result.modes.reference ≡ true → (result.motion.mode ≡ vector_is.Zero)
         × (result.motion.vectors ≡ replicate 16 zero_vector) }
 {
-    let mut chooser = FrameChooser::without_searchers(frame);
+    let mut chooser = FrameChooser {
+        frame: *frame,
+        searchers: searchers_of(None, frame),
+    };
     chooser.choose(picture, vectors, place)
 }

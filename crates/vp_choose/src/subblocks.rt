@@ -1,25 +1,24 @@
 //! Chooses the modes of the luma subblocks for B_PRED.
 
 ghost use Rattle.std.specs.Prelude.{◌≡◌, ℕ, ◌+◌, ◌*◌, ◌<◌, ◌≤◌, pos, [], slice_index, slice_index_or, unsigned_abs};
-ghost use Rattle.std.specs.Prelude.{IfSome, IsSome, MatchOption};
+ghost use Rattle.std.specs.Prelude.{IfSome, MatchOption};
 ghost use Rattle.vp_base.specs.Image.{with_plane};
 ghost use Rattle.vp_intra.specs.Edges.{block as listed};
 ghost use Rattle.vp_recon.specs.Rebuilt.{with_sub};
 ghost use Rattle.vp_recon.specs.Residue.{residue};
-ghost use Rattle.vp_search.specs.Differences.{sum_of_differences};
+ghost use Rattle.vp_search.specs.Differences.{sum_of_differences, block_from_rows};
 ghost use Rattle.vp_choose.specs.Costs.{sub_cost};
 ghost use Rattle.vp_choose.specs.Levels.{ArePositive, coefficients, quantised_levels};
 ghost use Rattle.vp_choose.specs.Coding.{AreSmall, IsRebuiltLuma};
 ghost use Rattle.vp_choose.specs.Subblocks.{IsBestMode, AreSubblocksChosen, after_subblocks, sub_levels};
 ghost use Rattle.vp_choose.specs.Below.{AreSubblocksOver, IsPartlyRebuilt};
 
-use crate::kernel::sad4;
 use crate::levels::{coefficients, part_of, quantised_levels};
 use vp_base::{Picture, Place};
 use vp_intra::predict_sub_modes;
 use vp_quant::Factors;
 use vp_recon::rebuild_subblock_from;
-use vp_search::{first_least, macroblock};
+use vp_search::{first_least, macroblock, sad4};
 use vp_tables::SubMode;
 use vp_tokens::Block;
 
@@ -62,9 +61,8 @@ struct Subblock {
 
 /// Returns the cost of each mode: the sum of absolute differences.
 fn costs_of(block: &[u8; 16], predictions: &[[u8; 16]; 10]) -> [u32; 10]
-    ensures value { (f : ℕ → ℕ → ℕ) (g : ℕ → ℕ → ℕ → ℕ) → block.now ≡ listed 4 f
-        → ((i : ℕ) → i < 10 → slice_index_or predictions.now i [] ≡ listed 4 (g i))
-        → (i : ℕ) → i < 10 → slice_index result i ≡ sum_of_differences 4 4 f (g i) }
+    ensures value { (i : ℕ) → i < 10 → slice_index result i ≡ sum_of_differences 4 4
+        (block_from_rows 4 block.now) (block_from_rows 4 (slice_index_or predictions.now i [])) }
     ensures bound { (i : ℕ) → slice_index result i ≤ 4080 }
 {
     let mut costs = [0; 10];
@@ -129,8 +127,6 @@ fn choose_all(
     ensures all_rebuilt { IfSome result (λ s. picture.new ≡ with_plane picture.old 0
         (after_subblocks factors.now place picture.old.luma s 16)) }
     ensures within { IfSome result (λ s. AreSmall s.levels) }
-    ensures bound { IfSome result (λ s. s.cost ≤ 65280) }
-    ensures all { 65280 < limit → IsSome result }
 {
     let _known = [picture.plane(0).width(), picture.plane(0).height()];
     let mut modes = [SubMode::Dc; 16];
@@ -158,8 +154,8 @@ fn choose_all(
     })
 }
 
-/// Returns the choice for all subblocks of a macroblock, and the luma rebuilt by it; None if their cost reaches `limit`
-/// while one is left. The picture is used as scratch memory and restored.
+/// Returns the choice for all subblocks of a macroblock, and the luma rebuilt by it; None if it costs `limit` or more.
+/// The picture is used as scratch memory and restored.
 #[tactic(auto, using(crate::proofs::SubblockChoice::free_subblocks))]
 pub(crate) fn choose_subblocks(
     source: &[u8; 256],
@@ -176,8 +172,7 @@ pub(crate) fn choose_subblocks(
         (λ s. AreSubblocksChosen f factors.now place picture.old.luma s.subblocks) }
     ensures rebuilt { IfSome result (λ s. IsRebuiltLuma factors.now place picture.old.luma s.subblocks s.luma) }
     ensures kept { picture.new ≡ picture.old }
-    ensures bound { IfSome result (λ s. s.subblocks.cost ≤ 65280) }
-    ensures all { 65280 < limit → IsSome result }
+    ensures below { IfSome result (λ s. s.subblocks.cost < limit) }
 {
     // No choice costs less than 0.
     if limit == 0 {
@@ -189,7 +184,7 @@ pub(crate) fn choose_subblocks(
     let luma = macroblock(picture.plane(0), place);
     picture.write_block::<16>(0, 16 * place.column, 16 * place.row, &kept);
     match chosen {
-        Some(subblocks) => Some(RebuiltSubblocks { subblocks, luma }),
-        None => None,
+        Some(subblocks) if subblocks.cost < limit => Some(RebuiltSubblocks { subblocks, luma }),
+        _ => None,
     }
 }

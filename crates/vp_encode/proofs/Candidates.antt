@@ -1,5 +1,5 @@
--- Candidates look at the macroblocks above and to the left alone.
-use Rattle.std.proofs.Common.{◌≡◌, ℕ, zero, suc, ◌+◌, ◌*◌, ◌++◌, replicate, refl, arith, inl, inr}
+-- The motion of the macroblocks before a place; candidates look at that of those above and to the left alone.
+use Rattle.std.proofs.Common.{◌≡◌, ◌≢◌, ◌∙◌, ℕ, zero, suc, ◌+◌, ◌*◌, ◌<◌, ◌++◌, replicate, refl, sym, ap, subst, arith, inl, inr}
 use Rattle.std.specs.Prelude.{Option, Some, None, option_map, unwrap_or, nat_lt, slice_get, neg_ℤ, pos, ◌-◌}
 use Rattle.std.proofs.lemmas.Bool.{cases_Bool}
 use Rattle.std.proofs.lemmas.Option.{slice_get-map}
@@ -7,7 +7,7 @@ use Rattle.std.specs.Int.{from_bool}
 use Rattle.std.specs.Option.{option_and_then}
 use Rattle.vp_base.specs.declared.place.Place.{Place}
 use Rattle.vp_base.specs.Place.{above, left, corner}
-use Rattle.vp_base.specs.Grid.{Grid, at, look, entry, mapped, repeated, all as everywhere}
+use Rattle.vp_base.specs.Grid.{Grid, Has, at, look, entry, mapped, repeated, all as everywhere}
 use Rattle.vp_base.proofs.NearLemmas.{above-some, left-some}
 use Rattle.vp_head.specs.declared.fields.Reference.{Reference}
 use Rattle.vp_head.specs.declared.fields.SignBiases.{SignBiases}
@@ -15,8 +15,11 @@ use Rattle.vp_modes.specs.Entry.{plain}
 use Rattle.vp_motion.specs.Vector.{MacroblockMotion}
 use Rattle.vp_motion.specs.Map.{intra}
 use Rattle.vp_motion.specs.Near.{neighbours, weighted_neighbour, split_count, splits, clamped_vector, clamped, candidates, from_entries, still_weight, moving, runs}
+use Rattle.vp_decode.specs.MacroblockInfo.{place}
 use Rattle.vp_choose.specs.declared.frame.Choice.{Choice}
-use Rattle.vp_encode.specs.CodedFrame.{nothing, saved_motion}
+use Rattle.vp_encode.specs.CodedFrame.{nothing, choice_at, saved_motion, saved_motions}
+use Rattle.vp_encode.specs.FrameChoices.{IsBeforeInRaster, IsMotionBefore}
+use Rattle.vp_encode.proofs.RasterOrder.{none_before, before_next, apart, row_over}
 
 look-same : (g h : Grid MacroblockMotion) (o : Option Place) → ((q : Place) → o ≡ Some q → at intra g q ≡ at intra h q) → look intra g o ≡ look intra h o
 look-same g h None same = refl
@@ -26,30 +29,24 @@ and_then-some : (f : Place → Option Place) (o : Option Place) (q : Place) → 
 and_then-some f None q e = absurd cc
 and_then-some f (Some r) q e = (r, refl, e)
 
--- two grids of one size that are alike above and to the left of a place
-pub record AreAlikeAround (g h : Grid MacroblockMotion) (p : Place) : Type 0 where
-  pub columns : g.columns ≡ h.columns
-  pub rows : g.rows ≡ h.rows
-  pub above_it : (q : Place) → q.column ≡ p.column → p.row ≡ q.row + 1 → at intra g q ≡ at intra h q
-  pub left_of_it : (q : Place) → p.column ≡ q.column + 1 → q.row ≡ p.row → at intra g q ≡ at intra h q
-  pub corner_of_it : (q : Place) → p.column ≡ q.column + 1 → p.row ≡ q.row + 1 → at intra g q ≡ at intra h q
-
-pub candidates-same : (g h : Grid MacroblockMotion) (p : Place) (r : Reference) (b : SignBiases) → AreAlikeAround g h p → candidates g p r b ≡ candidates h p r b
+-- two grids of one size that are alike before a place
+pub candidates-same : (g h : Grid MacroblockMotion) (p : Place) (r : Reference) (b : SignBiases) → g.columns ≡ h.columns → g.rows ≡ h.rows → p.column < g.columns
+    → ((q : Place) → q.column < g.columns → IsBeforeInRaster q p → at intra g q ≡ at intra h q) → candidates g p r b ≡ candidates h p r b
 unfolding candidates neighbours split_count clamped_vector
-candidates-same g h p r b alike =
-    let up = look-same g h (above p) (λ q e. let f = above-some p q e in alike.above_it q f.0 f.1) in
-    let back = look-same g h (left p) (λ q e. let f = left-some p q e in alike.left_of_it q f.0 f.1) in
+candidates-same g h p r b columns rows inside same =
+    let up = look-same g h (above p) (λ q e. let f = above-some p q e in same q (omega arith) (record { row = omega arith; column = λ level. absurd (omega arith) })) in
+    let back = look-same g h (left p) (λ q e. let f = left-some p q e in same q (omega arith) (record { row = omega arith; column = λ level. omega arith })) in
     let across = look-same g h (corner p) (λ q e.
     let f = and_then-some left (above p) q e in
     let u = above-some p f.0 f.1 in
     let v = left-some f.0 q f.2 in
-    alike.corner_of_it q (omega arith) (omega arith)) in
+    same q (omega arith) (record { row = omega arith; column = λ level. absurd (omega arith) })) in
     λ i.
     let ws = weighted_neighbour r b 2 (up i) ++ (weighted_neighbour r b 2 (back i) ++ weighted_neighbour r b 1 (across i)) in
     from_entries
     (λ v. record {
-      row = clamped (neg_ℤ (pos (64 * (p.row + 1)))) (pos (64 * (alike.rows i - p.row))) v.row;
-      column = clamped (neg_ℤ (pos (64 * (p.column + 1)))) (pos (64 * (alike.columns i - p.column))) v.column;
+      row = clamped (neg_ℤ (pos (64 * (p.row + 1)))) (pos (64 * (rows i - p.row))) v.row;
+      column = clamped (neg_ℤ (pos (64 * (p.column + 1)))) (pos (64 * (columns i - p.column))) v.column;
     })
     (still_weight ws) (2 * from_bool (splits (up i)) + 2 * from_bool (splits (back i)) + from_bool (splits (across i))) (runs (moving ws))
 
@@ -84,3 +81,38 @@ all_still columns rows p = elim (cases_Bool (nat_lt p.column columns)) [
   | inl inside ↦ rw inside (repeated_or (rows * columns) (p.row * columns + p.column))
   | inr outside ↦ rw outside refl
 ]
+
+-- ---- the motion of the macroblocks before a place
+
+pub motion_none : (columns rows : ℕ) (g : Grid Choice) (k : Grid MacroblockMotion) → g.columns ≡ columns → g.rows ≡ rows → k ≡ everywhere columns rows intra
+    → IsMotionBefore g (place 0 0) k
+motion_none columns rows g k wide high still = record {
+  columns = ap (λ (m : Grid MacroblockMotion). m.columns) still ∙ sym wide;
+  rows = ap (λ (m : Grid MacroblockMotion). m.rows) still ∙ sym high;
+  moved = λ q has earlier. absurd (none_before q earlier);
+}
+
+pub motion_next : (g : Grid Choice) (row n : ℕ) (k l : Grid MacroblockMotion) → IsMotionBefore g (place row n) k → l.columns ≡ k.columns → l.rows ≡ k.rows
+    → at intra l (place row n) ≡ saved_motion (choice_at g (place row n)) → ((q : Place) → q ≢ place row n → at intra l q ≡ at intra k q) → IsMotionBefore g (place row (n + 1)) l
+motion_next g row n k l before columns rows here elsewhere = record {
+  columns = columns ∙ before.columns;
+  rows = rows ∙ before.rows;
+  moved = λ q has earlier. elim (before_next q row n earlier) [
+    | inl old ↦ elsewhere q (apart q (place row n) old) ∙ before.moved q has old
+    | inr last ↦ subst (λ (r : Place). at intra l r ≡ saved_motion (choice_at g r)) (sym last) here
+  ];
+}
+
+pub motion_row : (g : Grid Choice) (row n : ℕ) (k : Grid MacroblockMotion) → n ≡ g.columns → IsMotionBefore g (place row n) k → IsMotionBefore g (place (row + 1) 0) k
+motion_row g row n k all before = record {
+  columns = before.columns;
+  rows = before.rows;
+  moved = λ q has earlier. before.moved q has (row_over q row n (omega (arith, has.column)) earlier);
+}
+
+-- these are all that candidates look at
+pub motion_candidates : (g : Grid Choice) (p : Place) (k : Grid MacroblockMotion) (r : Reference) (b : SignBiases) → Has g p → IsMotionBefore g p k
+    → candidates k p r b ≡ candidates (saved_motions g) p r b
+motion_candidates g p k r b has before =
+    candidates-same k (saved_motions g) p r b before.columns before.rows (omega (arith, has.column, before.columns))
+    (λ q within earlier. before.moved q (record { column = omega (arith, within, before.columns); row = omega (arith, earlier.row, has.row) }) earlier ∙ sym (motion_by-at g q))

@@ -1,13 +1,14 @@
 -- What is chosen for a frame can be written; how its macroblocks are chosen, one after another.
-use Rattle.std.proofs.Common.{◌≡◌, ◌∙◌, ◌+◌, ◌<◌, ◌^◌, ℕ, ℤ, Bool, true, false, List, replicate, refl, sym, ap, subst, arith, inl, inr, ◌≢◌, ◌≤◌, ◌⊎◌}
+use Rattle.std.proofs.Common.{◌≡◌, ◌∙◌, ◌+◌, ◌<◌, ◌^◌, ℕ, ℤ, Bool, true, false, List, replicate, refl, sym, ap, subst, arith, inl, inr, ◌≢◌, ◌≤◌}
 use Rattle.std.specs.Prelude.{Option, Some, None, IfSome, option_map, not, is_some, is_none, if◌then◌else◌, unwrap_or}
 use Rattle.std.proofs.lemmas.Grind.{common_steps}
-use Rattle.std.proofs.lemmas.Bool.{cases_Bool, cases_lt, cases_eq}
+use Rattle.std.proofs.lemmas.Bool.{cases_Bool, cases_lt}
 use Rattle.vp_base.specs.declared.limits.Dim.{Dim}
 use Rattle.vp_base.specs.declared.place.Place.{Place}
 use Rattle.vp_base.specs.Grid.{Grid, Has, at, entry, with_entry, all as everywhere}
 use Rattle.vp_base.specs.Image.{Image, macroblocks, blank_image}
 use Rattle.vp_tables.specs.declared.modes.SubMode.TheVariants as sub_is
+use Rattle.vp_tables.specs.declared.modes.VectorMode.TheVariants as vector_is
 use Rattle.vp_tables.specs.Modes.{is_by_subblocks}
 use Rattle.vp_head.specs.declared.fields.Header.{Header}
 use Rattle.vp_head.specs.declared.fields.Saved.{Saved}
@@ -19,33 +20,31 @@ use Rattle.vp_head.specs.Spelled as head
 use Rattle.vp_modes.specs.Entry.{Modes, plain, plain_of}
 use Rattle.vp_modes.specs.Map.{of_segments}
 use Rattle.vp_modes.specs.Modes.{unread}
-use Rattle.vp_motion.specs.Vector.{MacroblockMotion, Vector, Candidates, IsWithin, last_of}
-use Rattle.vp_tokens.specs.Blocks.{any_token, no_blocks}
-use Rattle.vp_tokens.specs.Spelled.{AreSpelled, AreTight}
+use Rattle.vp_motion.specs.Vector.{MacroblockMotion, Vector, Candidates, IsWithin, last_of, zero_vector}
+use Rattle.vp_tokens.specs.Blocks.{any_token}
+use Rattle.vp_tokens.specs.Spelled.{AreSpelled}
 use Rattle.vp_quant.specs.declared.factors.Factors.{Factors}
-use Rattle.vp_recon.specs.Predictor.{has_y2 as source_has_y2, Predictor, Intra, Macroblock, has_y2}
+use Rattle.vp_recon.specs.Predictor.{has_y2 as source_has_y2, Intra, Macroblock}
 use Rattle.vp_choose.specs.declared.frame.Choice.{Choice}
-use Rattle.vp_choose.specs.Frame.{FrameSearch, Search, source_by, no_biases, choice_motion as chosen_entry}
-use Rattle.vp_choose.specs.Inter.{IsInter, IsMoved, IsFirstGiving, vector_of}
+use Rattle.vp_choose.specs.Frame.{FrameSearch, Search, source_by, no_biases, choice_motion}
+use Rattle.vp_choose.specs.Inter.{IsInter, IsFirstGiving, vector_of}
 use Rattle.vp_choose.specs.Choice.{IsIntraChoice, IsTaken, IsChoice}
 use Rattle.vp_decode.specs.Step.{DecoderState}
 use Rattle.vp_encode.specs.declared.settings.Settings.{Settings}
 use Rattle.vp_encode.specs.declared.coded_frame.CodedFrame.{CodedFrame}
-use Rattle.vp_encode.specs.CodedFrame.{choice_has_y2, AreModesSpelled, AreTokensSpelled, CanBeEncoded, nothing, saved_motion}
+use Rattle.vp_encode.specs.CodedFrame.{choice_at, choice_has_y2, AreModesSpelled, AreTokensSpelled, CanBeEncoded, nothing, saved_motion, saved_motions}
 use Rattle.vp_encode.specs.Encoder.{AreAllowed, header_over, log2_of, context_over, search_in, continued, frame_over}
-use Rattle.vp_encode.specs.FrameChoices.{choice_at, picture_before, saved_motions, AreChosen, AreUnsegmented, macroblock_by, picture_by, IsChosenAt, IsBeforeInRaster, AreChosenBefore}
-use Rattle.vp_encode.proofs.Candidates.{at-mapped, AreAlikeAround, candidates-same, motion_by-at, all_still}
+use Rattle.vp_encode.specs.FrameChoices.{picture_before, AreChosen, AreUnsegmented, macroblock_by, picture_by, IsChosenAt, IsBeforeInRaster, IsChosenUpTo, IsContinuedAt, AreChosenBefore}
+use Rattle.vp_encode.proofs.RasterOrder.{apart, same_or_not, none_before, before_next, earlier_next, row_over, earlier_row, in_rows}
+use Rattle.vp_encode.proofs.Candidates.{at-mapped, all_still, motion_none, motion_next, motion_row, motion_candidates}
 use Rattle.std.proofs.lemmas.Int.{ints}
-use Rattle.vp_base.specs.Raster.{Raster}
 use Rattle.vp_base.specs.Over.{over}
 use Rattle.vp_base.proofs.OverLemmas.{over-none, over-more, over-same}
 use Rattle.vp_motion.specs.Map.{AreWithin, intra, own}
 use Rattle.vp_motion.specs.Near.{candidates}
 use Rattle.vp_motion.specs.Spelled.{CanBeWritten}
-use Rattle.vp_tokens.specs.declared.contexts.Tokens.{Tokens}
 use Rattle.vp_recon.specs.Rebuilt.{rebuilt, row_rebuilt, all_rebuilt}
 use Rattle.vp_decode.specs.MacroblockInfo.{place}
-use Rattle.vp_choose.specs.Intra.{IsIntra}
 use Rattle.vp_encode.specs.declared.frame_choices.FrameChoices.{FrameChoices}
 use Rattle.vp_encode.specs.Choice.{rebuilt_before}
 
@@ -68,11 +67,11 @@ header_spelled saved key golden s allowed begun = record {
   color_space = λ inter. refl;
   clamping_type = λ inter. refl;
   segmentation = record { off = λ none. (refl, refl); on = λ changed. absurd (changed refl); no_map = λ none. refl };
-  filter = record { level = let h = allowed.level in omega arith; sharpness = let h = allowed.sharpness in omega arith };
+  filter = record { level = omega arith; sharpness = omega arith };
   deltas = record { off = λ none. refl; reference = four_kept 6 saved.deltas.reference; mode = four_kept 6 saved.deltas.mode };
   log2_partitions = log2_small s.partitions;
   quantiser = record {
-    y_ac = let h = allowed.quantiser in omega arith;
+    y_ac = omega arith;
     y_dc = λ changed. absurd (changed refl);
     y2_dc = λ changed. absurd (changed refl);
     y2_ac = λ changed. absurd (changed refl);
@@ -163,8 +162,6 @@ zero_before : (dim : Dim) (kept : Option DecoderState) (p : Place) → IfSome ke
     → 0 ≡ (if is_none kept then 0 else (at plain (context_over dim kept).modes p).segment)
 zero_before dim None p zeros column row = refl
 zero_before dim (Some k) p zeros column row =
-    let wide = zeros.columns in
-    let high = zeros.rows in
     sym (segment_before k.segments p ∙ zeros.zero p (record { column = omega arith; row = omega arith }))
 
 -- ---- the frame, told
@@ -237,40 +234,6 @@ told_as of o dim golden key saved s source frame g h allowed wide high zeros fra
 
 -- ---- how the macroblocks are chosen, one after another
 
--- ---- places in raster order
-
-pub not_itself : (p : Place) → IsBeforeInRaster p p → ⊥
-not_itself p b = let c = b.column refl in omega arith
-
-pub before_trans : (r q p : Place) → IsBeforeInRaster r q → IsBeforeInRaster q p → IsBeforeInRaster r p
-before_trans r q p b c = record {
-  row = omega arith;
-  column = λ same.
-      let one = b.column (omega arith) in
-      let two = c.column (omega arith) in
-      omega arith;
-}
-
--- what comes before the next place comes before this one, or is it
-before_next : (q : Place) (row n : ℕ) → IsBeforeInRaster q (place row (n + 1)) → IsBeforeInRaster q (place row n) ⊎ (q ≡ place row n)
-before_next q row n b = elim (cases_lt q.row row) [
-  | inl above ↦ inl (record { row = b.row; column = λ same. absurd (omega arith) })
-  | inr level ↦
-      let up : q.row ≤ row = b.row in
-      let same : q.row ≡ row = omega arith in
-      let left = b.column same in
-      elim (cases_lt q.column n) [
-        | inl earlier ↦ inl (record { row = up; column = λ e. earlier })
-        | inr late ↦ let last : q.column ≡ n = omega arith in inr (λ i. record { column = last i; row = same i })
-      ]
-]
-
-earlier_next : (q : Place) (row n : ℕ) → IsBeforeInRaster q (place row n) → IsBeforeInRaster q (place row (n + 1))
-earlier_next q row n b = record { row = b.row; column = λ e. let c = b.column e in omega arith }
-
-last_next : (row n : ℕ) → IsBeforeInRaster (place row n) (place row (n + 1))
-last_next row n = record { row = omega arith; column = λ e. omega arith }
-
 -- ---- the picture before a place
 
 -- what is rebuilt in the first rows of a picture
@@ -307,98 +270,44 @@ rebuilt_before-row width height f row =
 rebuilt_before-all : (width height : ℕ) (f : Place → Macroblock) → rebuilt_before width height f (place (macroblocks height) 0) ≡ all_rebuilt f (blank_image width height 0)
 rebuilt_before-all width height f = over-none _ _
 
--- ---- the motion before a place
-
-pub around : (g h : Grid MacroblockMotion) (p : Place) → g.columns ≡ h.columns → g.rows ≡ h.rows → p.column < g.columns
-    → ((q : Place) → q.column < g.columns → IsBeforeInRaster q p → at intra g q ≡ at intra h q) → AreAlikeAround g h p
-around g h p wide high inside same = record {
-  columns = wide;
-  rows = high;
-  above_it = λ q at up. same q (omega arith) (record { row = omega arith; column = λ e. absurd (omega arith) });
-  left_of_it = λ q back level. same q (omega arith) (record { row = omega arith; column = λ e. omega arith });
-  corner_of_it = λ q back up. same q (omega arith) (record { row = omega arith; column = λ e. absurd (omega arith) });
-}
-
--- ---- a choice, told in other words
-
--- The motion of an intra macroblock has no meaning.
-pub record AreLike (c d : Choice) : Type 0 where
-  pub modes : c.modes ≡ d.modes
-  pub tokens : c.tokens ≡ d.tokens
-  pub motion : is_intra c.modes.reference ≡ false → c.motion ≡ d.motion
-
-pub like_same : (c d : Choice) → c ≡ d → AreLike c d
-like_same c d e = record { modes = λ i. (e i).modes; tokens = λ i. (e i).tokens; motion = λ away i. (e i).motion }
-
-same_choice : (c d : Choice) → AreLike c d → is_intra c.modes.reference ≡ false → c ≡ d
-same_choice c d like away = λ i. record { modes = like.modes i; motion = like.motion away i; tokens = like.tokens i }
-
-pub source_like : (s : Option Search) (c d : Choice) → AreLike c d → source_by s c ≡ source_by s d
-source_like None c d like = ap Intra like.modes
-source_like (Some s) c d like = elim (cases_Bool (is_intra c.modes.reference)) [
-  | inl own ↦
-      let too : is_intra d.modes.reference ≡ true = ap (λ (m : Modes). is_intra m.reference) (sym like.modes) ∙ own in
-      rw (own, too) (ap Intra like.modes)
-  | inr away ↦ ap (source_by (Some s)) (same_choice c d like away)
-]
-
--- A macroblock that is moved is inter.
-far : (s : Search) (source : Raster) (p : Place) (m : _) → IsMoved s source p m → is_intra m.reference ≡ false
-far s source p m moved = elim (cases_Bool s.golden) [
-  | inl golden ↦
-      let less = moved.golden_too golden in
-      elim (cases_lt less.golden.cost moved.last.cost) [
-        | inl cheaper ↦ λ i. is_intra (less.less cheaper i).reference
-        | inr dearer ↦ λ i. is_intra (less.not_less dearer i).reference
-      ]
-  | inr alone ↦ λ i. is_intra (moved.last_alone alone i).reference
-]
+-- ---- a choice, given a map with the same candidates
 
 -- two maps give the macroblock at p the same candidates
 abbrev pub AreSameCandidates : Grid MacroblockMotion → Grid MacroblockMotion → Place → Type 0
 AreSameCandidates g k p = (r : Reference) → candidates g p r no_biases ≡ candidates k p r no_biases
 
-intra_like : (frame : FrameSearch) (z : Image) (p : Place) (luma : _) (c d : Choice) → AreLike c d → IsIntraChoice frame z p luma c → IsIntraChoice frame z p luma d
-intra_like frame z p luma c d like is =
-    subst (λ (m : Modes). IsIntra frame.source frame.factors p z luma m d.tokens) like.modes
-    (subst (λ (t : Tokens). IsIntra frame.source frame.factors p z luma c.modes t) like.tokens is)
-
-inter_like : (source : Image) (factors : Factors) (s : Search) (g k : Grid MacroblockMotion) (p : Place) (z : Image) (m : _) (c d : Choice)
-    → IsInter source factors s g p z m c → AreSameCandidates g k p → AreLike c d → is_intra m.reference ≡ false → IsInter source factors s k p z m d
-inter_like source factors s g k p z m c d is same like away =
-    let inter : is_intra c.modes.reference ≡ false = ap (λ (x : Modes). is_intra x.reference) is.modes ∙ away in
-    subst (λ (x : Choice). IsInter source factors s k p z m x) (same_choice c d like inter) (record {
-      modes = is.modes;
-      vectors = is.vectors;
-      mode = subst (λ (x : Candidates). IsFirstGiving x (vector_of m) c.motion.mode) (same m.reference) is.mode;
-      luma = is.luma;
-      u = is.u;
-      v = is.v;
-    })
-
-taken_like : (o : Option Search) (frame : FrameSearch) (z : Image) (g k : Grid MacroblockMotion) (p : Place) (luma : _) (c d : Choice)
-    → AreSameCandidates g k p → AreLike c d → IsTaken o frame z g p luma c → IsTaken o frame z k p luma d
-taken_like None frame z g k p luma c d same like taken = intra_like frame z p luma c d like taken
-taken_like (Some s) frame z g k p luma c d same like taken = record {
-  moved = taken.moved;
-  is = taken.is;
-  inter = λ cheap. inter_like frame.source frame.factors s g k p z taken.moved c d (taken.inter cheap) same like (far s frame.source.luma p taken.moved taken.is);
-  intra = λ dear. intra_like frame z p luma c d like (taken.intra dear);
+inter_with : (source : Image) (factors : Factors) (s : Search) (g k : Grid MacroblockMotion) (p : Place) (z : Image) (m : _) (c : Choice) → AreSameCandidates g k p
+    → IsInter source factors s g p z m c → IsInter source factors s k p z m c
+inter_with source factors s g k p z m c same is = record {
+  modes = is.modes;
+  vectors = is.vectors;
+  mode = subst (λ (x : Candidates). IsFirstGiving x (vector_of m) c.motion.mode) (same m.reference) is.mode;
+  luma = is.luma;
+  u = is.u;
+  v = is.v;
 }
 
-pub choice_like : (frame : FrameSearch) (y z : Image) (g k : Grid MacroblockMotion) (p : Place) (c d : Choice)
-    → y ≡ z → AreSameCandidates g k p → AreLike c d → IsChoice frame y g p c → IsChoice frame z k p d
-choice_like frame y z g k p c d pictures same like is =
-    subst (λ (x : Image). IsChoice frame x k p d) pictures (record {
+taken_with : (o : Option Search) (frame : FrameSearch) (z : Image) (g k : Grid MacroblockMotion) (p : Place) (luma : _) (c : Choice) → AreSameCandidates g k p
+    → IsTaken o frame z g p luma c → IsTaken o frame z k p luma c
+taken_with None frame z g k p luma c same taken = taken
+taken_with (Some s) frame z g k p luma c same taken = record {
+  moved = taken.moved;
+  is = taken.is;
+  inter = λ cheap. inter_with frame.source frame.factors s g k p z taken.moved c same (taken.inter cheap);
+  intra = taken.intra;
+}
+
+pub choice_with : (frame : FrameSearch) (y z : Image) (g k : Grid MacroblockMotion) (p : Place) (c : Choice) → y ≡ z → AreSameCandidates g k p → IsChoice frame y g p c → IsChoice frame z k p c
+choice_with frame y z g k p c pictures same is =
+    subst (λ (x : Image). IsChoice frame x k p c) pictures (record {
       luma = is.luma;
       best = is.best;
-      taken = taken_like frame.search frame y g k p is.luma c d same like is.taken;
-      segment = ap (λ (m : Modes). m.segment) (sym like.modes) ∙ is.segment;
-      skip = ap (λ (m : Modes). m.skip) (sym like.modes) ∙ is.skip ∙ ap (λ (t : Tokens). not (any_token t)) like.tokens;
-      none = subst (λ (t : Tokens). any_token t ≡ false → t.blocks ≡ no_blocks) like.tokens is.none;
-      tight = subst (λ (t : Tokens). AreTight t.blocks) like.tokens is.tight;
-      spelled = subst (λ (x : Predictor). AreSpelled (has_y2 x) d.tokens.blocks) (source_like frame.search c d like)
-          (subst (λ (t : Tokens). AreSpelled (has_y2 (source_by frame.search c)) t.blocks) like.tokens is.spelled);
+      taken = taken_with frame.search frame y g k p is.luma c same is.taken;
+      segment = is.segment;
+      skip = is.skip;
+      none = is.none;
+      tight = is.tight;
+      spelled = is.spelled;
     })
 
 -- ---- motion that is short
@@ -408,21 +317,7 @@ unfolding own intra
 still_within = record { low_row = omega (arith, ints); high_row = omega (arith, ints); low_column = omega (arith, ints); high_column = omega (arith, ints) }
 
 wider : (v : Vector) → IsWithin 259 v → IsWithin 511 v
-wider v h =
-    let a = h.low_row in
-    let b = h.high_row in
-    let c = h.low_column in
-    let d = h.high_column in
-    record { low_row = omega (arith, ints); high_row = omega (arith, ints); low_column = omega (arith, ints); high_column = omega (arith, ints) }
-
-same_or_not : (q p : Place) → (q ≡ p) ⊎ (q ≢ p)
-same_or_not q p = elim (cases_eq q.column p.column) [
-  | inl column ↦ elim (cases_eq q.row p.row) [
-    | inl row ↦ inl (λ i. record { column = column i; row = row i })
-    | inr apart ↦ inr (λ e. apart (ap (λ (r : Place). r.row) e))
-  ]
-  | inr apart ↦ inr (λ e. apart (ap (λ (r : Place). r.column) e))
-]
+wider v h = record { low_row = omega (arith, ints); high_row = omega (arith, ints); low_column = omega (arith, ints); high_column = omega (arith, ints) }
 
 short_set : (g k : Grid MacroblockMotion) (p : Place) (e : MacroblockMotion) → AreWithin 511 g → entry k p ≡ Some e → ((q : Place) → q ≢ p → entry k q ≡ entry g q) → IsWithin 259 (last_of e.vectors) → AreWithin 511 k
 unfolding own
@@ -435,171 +330,140 @@ short_set g k p e short here elsewhere one q = elim (same_or_not q p) [
 
 -- ---- one more macroblock
 
--- a choice among others that are alike up to its place
-chosen_kept : (frame : FrameSearch) (g h : Grid Choice) (q : Place) → g.columns ≡ macroblocks frame.source.width → h.columns ≡ g.columns → h.rows ≡ g.rows → q.column < g.columns
-    → choice_at g q ≡ choice_at h q → ((r : Place) → IsBeforeInRaster r q → choice_at g r ≡ choice_at h r) → IsChosenAt frame g q → IsChosenAt frame h q
-chosen_kept frame g h q size wide high inside here before at_q =
-    let same : AreSameCandidates (saved_motions g) (saved_motions h) q = λ r.
-    candidates-same (saved_motions g) (saved_motions h) q r no_biases (around (saved_motions g) (saved_motions h) q (sym wide) (sym high) inside
-    (λ p within earlier. motion_by-at g p ∙ ap saved_motion (before p earlier) ∙ sym (motion_by-at h p))) in
-    record {
-      is = choice_like frame (picture_before frame g q) (picture_before frame h q) (saved_motions g) (saved_motions h) q (choice_at g q) (choice_at h q)
-          (rebuilt_before-same frame.source.width frame.source.height (λ r. macroblock_by frame (choice_at g r)) (λ r. macroblock_by frame (choice_at h r)) q (omega arith)
-          (λ r within earlier. ap (macroblock_by frame) (before r earlier)))
-          same (like_same (choice_at g q) (choice_at h q) here) at_q.is;
-      written = subst (λ (c : Choice). is_intra c.modes.reference ≡ false → CanBeWritten (candidates (saved_motions h) q c.modes.reference no_biases) c.motion) here
-          (λ away. subst (λ (k : Candidates). CanBeWritten k (choice_at g q).motion) (same (choice_at g q).modes.reference) (at_q.written away));
-    }
+-- an intra macroblock has no motion
+intra_is : (r : Reference) → is_intra r ≡ true → reference_is.Intra ≡ r
+intra_is reference_is.Intra e = refl
+intra_is r e = absurd cc
+
+saved_is : (c : Choice) → (is_intra c.modes.reference ≡ true → (c.motion.mode ≡ vector_is.Zero) × (c.motion.vectors ≡ replicate 16 zero_vector)) → saved_motion c ≡ choice_motion c
+unfolding intra
+saved_is c still = elim (cases_Bool (is_intra c.modes.reference)) [
+  | inl own ↦ rw own (λ i. record { reference = intra_is c.modes.reference own i; mode = sym (still own).0 i; vectors = sym (still own).1 i })
+  | inr away ↦ rw away refl
+]
 
 -- what the code makes of the macroblock behind those that are chosen
-module _ (frame : FrameSearch) (row n : ℕ) (a : FrameChoices) (picture : Image) (chosen : Grid Choice) (c : Choice)
+module _ (frame : FrameSearch) (row n : ℕ) (a : FrameChoices) (picture : Image) (chosen : Grid Choice) (c : Choice) (k : Grid MacroblockMotion) (e : MacroblockMotion)
     (inside : Has a.chosen (place row n)) (before : AreChosenBefore frame (place row n) a) (is : IsChoice frame a.picture a.motion (place row n) c)
     (written : is_intra c.modes.reference ≡ false → CanBeWritten (candidates a.motion (place row n) c.modes.reference no_biases) c.motion)
-    (made : picture ≡ rebuilt (macroblock_by frame c) (place row n) a.picture)
+    (still : is_intra c.modes.reference ≡ true → (c.motion.mode ≡ vector_is.Zero) × (c.motion.vectors ≡ replicate 16 zero_vector))
+    (one : IsWithin 259 (last_of c.motion.vectors)) (made : picture ≡ rebuilt (macroblock_by frame c) (place row n) a.picture)
     (changed : chosen ≡ with_entry a.chosen (place row n) c) (stands : entry chosen (place row n) ≡ Some c)
-    (elsewhere : (q : Place) → q ≢ place row n → entry chosen q ≡ entry a.chosen q) where
+    (elsewhere : (q : Place) → q ≢ place row n → entry chosen q ≡ entry a.chosen q)
+    (e_is : e ≡ choice_motion c) (moved : k ≡ with_entry a.motion (place row n) e) (there : entry k (place row n) ≡ Some e)
+    (others : (q : Place) → q ≢ place row n → entry k q ≡ entry a.motion q) where
   abbrev p : Place
   p = place row n
 
-  same_columns : chosen.columns ≡ a.chosen.columns
-  same_columns = ap (λ (g : Grid Choice). g.columns) changed
+  motion_is : saved_motion c ≡ choice_motion c
+  motion_is = saved_is c still
 
-  same_rows : chosen.rows ≡ a.chosen.rows
-  same_rows = ap (λ (g : Grid Choice). g.rows) changed
+  columns : chosen.columns ≡ a.chosen.columns
+  columns = ap (λ (g : Grid Choice). g.columns) changed
 
-  kept : (q : Place) → q ≢ p → choice_at a.chosen q ≡ choice_at chosen q
-  kept q far = ap (λ o. unwrap_or o nothing) (sym (elsewhere q far))
+  rows : chosen.rows ≡ a.chosen.rows
+  rows = ap (λ (g : Grid Choice). g.rows) changed
 
-  apart : (q : Place) → IsBeforeInRaster q p → q ≢ p
-  apart q earlier e = not_itself p (subst (λ (r : Place). IsBeforeInRaster r p) e earlier)
+  -- with these choices from the next place on
+  module _ (g : Grid Choice) (more : IsContinuedAt chosen (place row (n + 1)) g) where
+    here : c ≡ choice_at g p
+    here = sym (more.same p (record { row = omega arith; column = λ level. omega arith }) ∙ ap (λ o. unwrap_or o nothing) stands)
 
-  here : choice_at chosen p ≡ c
-  here = ap (λ o. unwrap_or o nothing) stands
+    old : IsChosenUpTo frame p g a.picture a.motion
+    old = before.up_to g (record {
+      columns = more.columns ∙ columns;
+      rows = more.rows ∙ rows;
+      same = λ q earlier. more.same q (earlier_next q row n earlier) ∙ ap (λ o. unwrap_or o nothing) (elsewhere q (apart q p earlier));
+    })
 
-  pictures : picture_before frame a.chosen p ≡ picture_before frame chosen p
-  pictures =
-      rebuilt_before-same frame.source.width frame.source.height (λ r. macroblock_by frame (choice_at a.chosen r)) (λ r. macroblock_by frame (choice_at chosen r)) p (omega arith)
-      (λ r within earlier. ap (macroblock_by frame) (kept r (apart r earlier)))
+    has : Has g p
+    has = record { column = omega (arith, inside.column, more.columns, columns); row = omega (arith, inside.row, more.rows, rows) }
 
-  has_before : (q : Place) → q.column < a.chosen.columns → IsBeforeInRaster q p → Has a.chosen q
-  has_before q within earlier = record { column = within; row = omega arith }
+    same_candidates : AreSameCandidates a.motion (saved_motions g) p
+    same_candidates r = motion_candidates g p a.motion r no_biases has old.motion
 
-  same_candidates : AreSameCandidates a.motion (saved_motions chosen) p
-  same_candidates r =
-      candidates-same a.motion (saved_motions chosen) p r no_biases (around a.motion (saved_motions chosen) p
-      (before.motion_columns ∙ sym before.columns ∙ sym same_columns) (before.motion_rows ∙ sym before.rows ∙ sym same_rows) (omega arith)
-      (λ q within earlier.
-      before.moved q (has_before q (omega arith) earlier) earlier ∙ ap saved_motion (kept q (apart q earlier)) ∙ sym (motion_by-at chosen q)))
+    chosen_as : IsChosenAt frame g p
+    chosen_as =
+        let F : Choice → Type 0 = λ x. IsChoice frame (picture_before frame g p) (saved_motions g) p x
+        × (is_intra x.modes.reference ≡ false → CanBeWritten (candidates (saved_motions g) p x.modes.reference no_biases) x.motion) × (saved_motion x ≡ choice_motion x) in
+        let all = subst F here (
+          choice_with frame a.picture (picture_before frame g p) a.motion (saved_motions g) p c old.picture same_candidates is,
+          λ away. subst (λ (z : Candidates). CanBeWritten z c.motion) (same_candidates c.modes.reference) (written away),
+          motion_is,
+        ) in
+        record { is = all.0; written = all.1; motion = all.2 }
 
-  chosen_here : IsChosenAt frame chosen p
-  chosen_here = record {
-    is = choice_like frame a.picture (picture_before frame chosen p) a.motion (saved_motions chosen) p c (choice_at chosen p)
-        (before.picture ∙ pictures) same_candidates (like_same c (choice_at chosen p) (sym here)) is;
-    written = subst (λ (x : Choice). is_intra x.modes.reference ≡ false → CanBeWritten (candidates (saved_motions chosen) p x.modes.reference no_biases) x.motion) (sym here)
-        (λ away. subst (λ (k : Candidates). CanBeWritten k c.motion) (same_candidates c.modes.reference) (written away));
-  }
+    next : IsChosenUpTo frame (place row (n + 1)) g picture k
+    next = record {
+      picture = made
+          ∙ ap (λ (z : Image). rebuilt (macroblock_by frame c) p z) old.picture
+          ∙ ap (λ (x : Choice). rebuilt (macroblock_by frame x) p (picture_before frame g p)) here
+          ∙ sym (rebuilt_before-next frame.source.width frame.source.height (λ q. macroblock_by frame (choice_at g q)) row n);
+      motion = motion_next g row n a.motion k old.motion (ap (λ (z : Grid MacroblockMotion). z.columns) moved) (ap (λ (z : Grid MacroblockMotion). z.rows) moved)
+          (ap (λ o. unwrap_or o intra) there ∙ e_is ∙ sym motion_is ∙ ap saved_motion here) (λ q far. ap (λ o. unwrap_or o intra) (others q far));
+      each = λ q inside earlier. elim (before_next q row n earlier) [
+        | inl sooner ↦ old.each q inside sooner
+        | inr last ↦ subst (λ (r : Place). IsChosenAt frame g r) (sym last) chosen_as
+      ];
+    }
 
-  -- with this motion afterwards
-  next : (k : Grid MacroblockMotion) → k.columns ≡ a.motion.columns → k.rows ≡ a.motion.rows → at intra k p ≡ saved_motion c
-      → ((q : Place) → q ≢ p → at intra k q ≡ at intra a.motion q) → AreWithin 511 k → AreChosenBefore frame (place row (n + 1)) (record { picture = picture; motion = k; chosen = chosen })
-  next k motion_columns motion_rows moved others short = record {
+  pub chosen_next : AreChosenBefore frame (place row (n + 1)) (record { picture = picture; motion = k; chosen = chosen })
+  chosen_next = record {
     size = record {
       width = before.size.width ∙ ap (λ (z : Image). z.width) (sym made);
       height = before.size.height ∙ ap (λ (z : Image). z.height) (sym made);
     };
-    columns = same_columns ∙ before.columns;
-    rows = same_rows ∙ before.rows;
-    motion_columns = motion_columns ∙ before.motion_columns;
-    motion_rows = motion_rows ∙ before.motion_rows;
-    picture = made
-        ∙ ap (λ (z : Image). rebuilt (macroblock_by frame c) p z) (before.picture ∙ pictures)
-        ∙ ap (λ (x : Choice). rebuilt (macroblock_by frame x) p (picture_before frame chosen p)) (sym here)
-        ∙ sym (rebuilt_before-next frame.source.width frame.source.height (λ q. macroblock_by frame (choice_at chosen q)) row n);
-    each = λ q has earlier.
-        let column : q.column < a.chosen.columns = subst (λ (j : ℕ). q.column < j) same_columns has.column in
-        elim (before_next q row n earlier) [
-          | inl old ↦ chosen_kept frame a.chosen chosen q before.columns same_columns same_rows column (kept q (apart q old))
-              (λ r sooner. kept r (apart r (before_trans r q p sooner old))) (before.each q (has_before q column old) old)
-          | inr last ↦ subst (λ (r : Place). IsChosenAt frame chosen r) (sym last) chosen_here
-        ];
-    moved = λ q has earlier.
-        let column : q.column < a.chosen.columns = subst (λ (j : ℕ). q.column < j) same_columns has.column in
-        elim (before_next q row n earlier) [
-          | inl old ↦ others q (apart q old) ∙ before.moved q (has_before q column old) old ∙ ap saved_motion (kept q (apart q old))
-          | inr last ↦ subst (λ (r : Place). at intra k r ≡ saved_motion (choice_at chosen r)) (sym last) (moved ∙ ap saved_motion (sym here))
-        ];
-    ahead = λ q later.
-        others q (λ e. later (subst (λ (r : Place). IsBeforeInRaster r (place row (n + 1))) (sym e) (last_next row n)))
-        ∙ before.ahead q (λ old. later (earlier_next q row n old));
-    short = short;
+    columns = columns ∙ before.columns;
+    rows = rows ∙ before.rows;
+    motion_columns = ap (λ (z : Grid MacroblockMotion). z.columns) moved ∙ before.motion_columns ∙ sym columns;
+    motion_rows = ap (λ (z : Grid MacroblockMotion). z.rows) moved ∙ before.motion_rows ∙ sym rows;
+    short = short_set a.motion k p e before.short there others (subst (λ (x : MacroblockMotion). IsWithin 259 (last_of x.vectors)) (sym e_is) one);
+    up_to = next;
   }
-
-  pub next_intra : is_intra c.modes.reference ≡ true → AreChosenBefore frame (place row (n + 1)) (record { picture = picture; motion = a.motion; chosen = chosen })
-  next_intra own = next a.motion refl refl (before.ahead p (not_itself p) ∙ rw own refl) (λ q far. refl) before.short
-
-  pub next_inter : (k : Grid MacroblockMotion) (x : MacroblockMotion) → is_intra c.modes.reference ≡ false → x ≡ chosen_entry c → k ≡ with_entry a.motion p x → entry k p ≡ Some x
-      → ((q : Place) → q ≢ p → entry k q ≡ entry a.motion q) → IsWithin 259 (last_of c.motion.vectors)
-      → AreChosenBefore frame (place row (n + 1)) (record { picture = picture; motion = k; chosen = chosen })
-  next_inter k x away x_is moved there others one =
-      next k (ap (λ (g : Grid MacroblockMotion). g.columns) moved) (ap (λ (g : Grid MacroblockMotion). g.rows) moved)
-      (ap (λ o. unwrap_or o intra) there ∙ x_is ∙ rw away refl) (λ q far. ap (λ o. unwrap_or o intra) (others q far))
-      (short_set a.motion k p x before.short there others (subst (λ (e : MacroblockMotion). IsWithin 259 (last_of e.vectors)) (sym x_is) one))
 
 -- ---- rows
 
 pub begun : (frame : FrameSearch) (width height : ℕ) (b : FrameChoices) → frame.source.width ≡ width → frame.source.height ≡ height → b.picture ≡ blank_image width height 0
     → b.motion ≡ everywhere (macroblocks width) (macroblocks height) intra → b.chosen.columns ≡ macroblocks width → b.chosen.rows ≡ macroblocks height → AreChosenBefore frame (place 0 0) b
-begun frame width height b wide high blank still columns rows =
-    let none : (q : Place) → IsBeforeInRaster q (place 0 0) → ⊥ = λ q earlier.
-    let up : q.row ≤ 0 = earlier.row in
-    let never = earlier.column (omega arith) in omega arith in
-    let unmoved : (q : Place) → at intra b.motion q ≡ intra = λ q. ap (λ (g : Grid MacroblockMotion). at intra g q) still ∙ all_still (macroblocks width) (macroblocks height) q in
-    record {
-      size = record { width = wide ∙ sym (ap (λ (z : Image). z.width) blank); height = high ∙ sym (ap (λ (z : Image). z.height) blank) };
-      columns = columns ∙ ap macroblocks (sym wide);
-      rows = rows ∙ ap macroblocks (sym high);
-      motion_columns = ap (λ (g : Grid MacroblockMotion). g.columns) still ∙ ap macroblocks (sym wide);
-      motion_rows = ap (λ (g : Grid MacroblockMotion). g.rows) still ∙ ap macroblocks (sym high);
-      picture = blank ∙ (λ i. blank_image (sym wide i) (sym high i) 0) ∙ sym (over-none _ _ ∙ over-none _ _);
-      each = λ q has earlier. absurd (none q earlier);
-      moved = λ q has earlier. absurd (none q earlier);
-      ahead = λ q later. unmoved q;
-      short = λ q. subst (λ (e : MacroblockMotion). IsWithin 511 (own e)) (sym (unmoved q)) still_within;
-    }
-
-pub next_row : (frame : FrameSearch) (row n : ℕ) (b : FrameChoices) → n ≡ b.chosen.columns → AreChosenBefore frame (place row n) b → AreChosenBefore frame (place (row + 1) 0) b
-next_row frame row n b all before =
-    let wide = before.columns in
-    let back : (q : Place) → Has b.chosen q → IsBeforeInRaster q (place (row + 1) 0) → IsBeforeInRaster q (place row n) = λ q has earlier.
-    let level : q.row ≤ row = elim (cases_lt q.row (row + 1)) [
-      | inl above ↦ omega arith
-      | inr same ↦ let never = earlier.column (omega arith) in absurd (omega arith)
-    ] in
-    record { row = level; column = λ e. omega arith } in
-    record {
-      size = before.size;
-      columns = before.columns;
-      rows = before.rows;
-      motion_columns = before.motion_columns;
-      motion_rows = before.motion_rows;
-      picture = before.picture
-          ∙ ap (λ (k : ℕ). picture_before frame b.chosen (place row k)) (all ∙ wide)
-          ∙ sym (rebuilt_before-row frame.source.width frame.source.height (λ q. macroblock_by frame (choice_at b.chosen q)) row);
-      each = λ q has earlier. before.each q has (back q has earlier);
-      moved = λ q has earlier. before.moved q has (back q has earlier);
-      ahead = λ q later. before.ahead q (λ old. let up = old.row in later (record { row = omega arith; column = λ e. absurd (omega arith) }));
-      short = before.short;
-    }
-
-pub all_rows : (frame : FrameSearch) (rows : ℕ) (b : FrameChoices) → rows ≡ b.chosen.rows → AreChosenBefore frame (place rows 0) b → AreChosen frame b.chosen
-all_rows frame rows b all before = record {
-  columns = before.columns;
-  rows = before.rows;
-  each = λ p has. let up = has.row in before.each p has (record { row = omega arith; column = λ e. absurd (omega arith) });
+begun frame width height b wide high blank still columns rows = record {
+  size = record { width = wide ∙ sym (ap (λ (z : Image). z.width) blank); height = high ∙ sym (ap (λ (z : Image). z.height) blank) };
+  columns = columns ∙ ap macroblocks (sym wide);
+  rows = rows ∙ ap macroblocks (sym high);
+  motion_columns = ap (λ (g : Grid MacroblockMotion). g.columns) still ∙ sym columns;
+  motion_rows = ap (λ (g : Grid MacroblockMotion). g.rows) still ∙ sym rows;
+  short = λ q. subst (λ (e : MacroblockMotion). IsWithin 511 (own e)) (sym (ap (λ (g : Grid MacroblockMotion). at intra g q) still ∙ all_still (macroblocks width) (macroblocks height) q)) still_within;
+  up_to = λ g more. record {
+    picture = blank ∙ (λ i. blank_image (sym wide i) (sym high i) 0) ∙ sym (over-none _ _ ∙ over-none _ _);
+    motion = motion_none (macroblocks width) (macroblocks height) g b.motion (more.columns ∙ columns) (more.rows ∙ rows) still;
+    each = λ q has earlier. absurd (none_before q earlier);
+  };
 }
 
-pub all_pictured : (frame : FrameSearch) (rows : ℕ) (b : FrameChoices) → rows ≡ b.chosen.rows → AreChosenBefore frame (place rows 0) b → b.picture ≡ picture_by frame b.chosen
-all_pictured frame rows b all before =
-    before.picture
-    ∙ ap (λ (k : ℕ). picture_before frame b.chosen (place k 0)) (all ∙ before.rows)
-    ∙ rebuilt_before-all frame.source.width frame.source.height (λ q. macroblock_by frame (choice_at b.chosen q))
+pub next_row : (frame : FrameSearch) (row n : ℕ) (b : FrameChoices) → n ≡ b.chosen.columns → AreChosenBefore frame (place row n) b → AreChosenBefore frame (place (row + 1) 0) b
+next_row frame row n b all before = record {
+  size = before.size;
+  columns = before.columns;
+  rows = before.rows;
+  motion_columns = before.motion_columns;
+  motion_rows = before.motion_rows;
+  short = before.short;
+  up_to = λ g more.
+      let old = before.up_to g (record { columns = more.columns; rows = more.rows; same = λ q earlier. more.same q (earlier_row q row n earlier) }) in
+      record {
+        picture = old.picture
+            ∙ ap (λ (k : ℕ). picture_before frame g (place row k)) (all ∙ before.columns)
+            ∙ sym (rebuilt_before-row frame.source.width frame.source.height (λ q. macroblock_by frame (choice_at g q)) row);
+        motion = motion_row g row n b.motion (all ∙ sym more.columns) old.motion;
+        each = λ q has earlier. old.each q has (row_over q row n (omega (arith, has.column, more.columns)) earlier);
+      };
+}
+
+pub all_chosen : (frame : FrameSearch) (rows : ℕ) (b : FrameChoices) → rows ≡ b.chosen.rows → AreChosenBefore frame (place rows 0) b
+    → AreChosen frame b.chosen × (b.picture ≡ picture_by frame b.chosen)
+all_chosen frame rows b all before =
+    let made = before.up_to b.chosen (record { columns = refl; rows = refl; same = λ q earlier. refl }) in (
+      record { columns = before.columns; rows = before.rows; each = λ p has. made.each p has (in_rows p rows (omega (arith, has.row))) },
+      made.picture
+          ∙ ap (λ (k : ℕ). picture_before frame b.chosen (place k 0)) (all ∙ before.rows)
+          ∙ rebuilt_before-all frame.source.width frame.source.height (λ q. macroblock_by frame (choice_at b.chosen q)),
+    )

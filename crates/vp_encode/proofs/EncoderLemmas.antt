@@ -1,5 +1,5 @@
 -- What an encoder's packet says is what was chosen, and what it leaves is what the encoder keeps.
-use Rattle.std.proofs.Common.{◌≡◌, ◌∙◌, ℕ, zero, suc, ◌*◌, ◌<◌, ◌≤◌, true, false, List, [], ◌∷◌, map, min, refl, sym, ap, subst, arith, inl, inr}
+use Rattle.std.proofs.Common.{◌≡◌, ◌∙◌, ℕ, zero, ◌*◌, ◌<◌, ◌≤◌, true, false, List, [], ◌∷◌, map, min, refl, sym, ap, subst, arith, inl, inr}
 use Rattle.std.specs.Prelude.{◌⊎◌, Option, Some, None, IfSome, Ok, not, ◌==◌}
 use Rattle.std.proofs.lemmas.Bool.{cases_Bool}
 use Rattle.vp_base.specs.declared.limits.Dim.{Dim}
@@ -8,13 +8,11 @@ use Rattle.vp_base.specs.declared.place.Place.{Place}
 use Rattle.vp_base.specs.Grid.{Grid, Has, at}
 use Rattle.vp_base.specs.Image.{Image, blank_image, macroblocks}
 use Rattle.vp_bool.specs.Bools.{State, initial_state}
-use Rattle.vp_bool.specs.Reader.{Reader, bind, rows as rows_of}
 use Rattle.vp_head.specs.declared.fields.Header.{Header}
 use Rattle.vp_head.specs.Reference.{is_intra}
 use Rattle.vp_head.specs.Tag.{tag_of}
 use Rattle.vp_modes.specs.Entry.{Modes, plain}
 use Rattle.vp_modes.specs.Map.{segments_of}
-use Rattle.vp_modes.specs.Modes.{modes_at}
 use Rattle.vp_motion.specs.Vector.{MacroblockMotion}
 use Rattle.vp_tokens.specs.declared.contexts.Tokens.{Tokens}
 use Rattle.vp_tokens.specs.Blocks.{any_token}
@@ -23,23 +21,24 @@ use Rattle.vp_refs.specs.References.{reference_picture}
 use Rattle.vp_recon.specs.Predictor.{Macroblock, Intra, Inter, macroblock_of}
 use Rattle.vp_recon.specs.Rebuilt.{all_rebuilt}
 use Rattle.vp_choose.specs.declared.frame.Choice.{Choice}
-use Rattle.vp_choose.specs.Frame.{FrameSearch, source_by, no_biases}
-use Rattle.vp_decode.specs.MacroblockInfo.{MacroblockInfo, modes_in, motion_in, place, macroblock_read, motion_read, row_read, maps_read}
+use Rattle.vp_choose.specs.Frame.{FrameSearch, source_by, no_biases, choice_motion}
+use Rattle.vp_choose.specs.Choice.{IsChoice}
+use Rattle.vp_decode.specs.MacroblockInfo.{modes_in, motion_in}
 use Rattle.vp_decode.specs.Frame.{FrameInfo, frame_of, unfiltered, picture_of, predictor_at, factors_at, predictor_by as source_read_by}
 use Rattle.vp_decode.specs.RebuiltFrame.{IsRebuiltFrame}
 use Rattle.vp_decode.specs.Step.{DecoderState, FrameContext, ParsedPacket, parsed, frame_info_of, frame_of_packet, state_after, Answer, answer, decoded, step, Decoder, after}
-use Rattle.vp_decode.proofs.SizeLemmas.{KeepsShape, info-mapped, newest_is, picture_shaped}
+use Rattle.vp_decode.proofs.SizeLemmas.{KeepsShape, newest_is, picture_shaped}
 use Rattle.vp_encode.specs.declared.settings.Settings.{Settings}
 use Rattle.vp_encode.specs.declared.coded_frame.CodedFrame.{CodedFrame}
-use Rattle.vp_encode.specs.CodedFrame.{coded_choice, saved_motion}
+use Rattle.vp_encode.specs.CodedFrame.{coded_choice, saved_motions}
 use Rattle.vp_encode.specs.PacketContents.{HasContents}
 use Rattle.vp_encode.specs.Encoder.{EncoderState, AreAllowed, kept_for, context_over, tag_key, frame_for, search_in, continued, quantiser}
-use Rattle.vp_encode.specs.FrameChoices.{macroblock_by, picture_before, picture_by, saved_motions, AreUnsegmented}
+use Rattle.vp_encode.specs.FrameChoices.{macroblock_by, picture_before, picture_by, AreUnsegmented}
 use Rattle.vp_encode.specs.Choice.{rebuilt_before, choice_read, AreChoices, IsChosen}
 use Rattle.vp_encode.specs.TooLong.{IsFrameFor}
 use Rattle.vp_encode.specs.Between.{HasSize, IsPacketOver, IsKeptFor, IsSound, ShowsNewest}
 use Rattle.vp_encode.proofs.Candidates.{at-mapped, candidates-same, motion_by-at}
-use Rattle.vp_encode.proofs.ChoosingLemmas.{AreLike, AreSameCandidates, choice_like, around, rows-same, rebuilt_before-same}
+use Rattle.vp_encode.proofs.ChoosingLemmas.{AreSameCandidates, choice_with, rows-same, rebuilt_before-same}
 
 -- Limits that are wide enough for every picture are so for this one.
 product : (w h : ℕ) → w ≤ 16383 → h ≤ 16383 → w * h ≤ 268402689
@@ -57,11 +56,8 @@ record IsOpened (dim : Dim) (state kept : Option DecoderState) (c : CodedFrame) 
   says : HasContents (tag_key dim kept) (context_over dim kept) c packet opening
 
 -- a context of this size
-record IsBasisOf (dim : Dim) (context : FrameContext) : Type 0 where
-  width : context.width ≡ dim.w
-  height : context.height ≡ dim.h
-  columns : context.modes.columns ≡ macroblocks dim.w
-  rows : context.modes.rows ≡ macroblocks dim.h
+abbrev IsBasisOf : Dim → FrameContext → Type 0
+IsBasisOf dim context = (context.width ≡ dim.w) × (context.height ≡ dim.h)
 
 -- The next frame is coded with nothing, or with the state.
 kept_is : (e : EncoderState) → (kept_for e ≡ None) ⊎ (kept_for e ≡ e.state)
@@ -75,41 +71,17 @@ opened dim state (Some k) c packet (inr e) x =
     record { opening = y.opening; opens = λ limits fits. subst (λ (s : Option DecoderState). parsed limits s packet ≡ Ok y.opening) e (y.opens limits (Some k) refl tt); says = y.says }
 
 basis : (dim : Dim) (state kept : Option DecoderState) → (kept ≡ None) ⊎ (kept ≡ state) → IfSome state (IsKeptFor dim) → IsBasisOf dim (context_over dim kept)
-basis dim state None is sound = record { width = refl; height = refl; columns = refl; rows = refl }
+basis dim state None is sound = (refl, refl)
 basis dim state (Some k) (inl e) sound = absurd cc
 basis dim state (Some k) (inr e) sound =
     let stands : IsKeptFor dim k = subst (λ (s : Option DecoderState). IfSome s (IsKeptFor dim)) (sym e) sound in
-    record { width = stands.size.width; height = stands.size.height; columns = stands.segments.columns; rows = stands.segments.rows }
+    (stands.size.width, stands.size.height)
 
 -- the step of a packet that is opened
 opened_step : (limits : Limits) (state : Option DecoderState) (packet : List ℕ) (o : ParsedPacket) → parsed limits state packet ≡ Ok o → step limits state packet ≡ decoded (Ok o)
 unfolding step parsed tag_of
 opened_step limits state [] o e = absurd cc
 opened_step limits state (b ∷ bs) o e = ap decoded e
-
--- ---- the maps that are read have the frame's size
-
-rows-kept : {A : Type 0} (P : A → Type 0) (n : ℕ) (row : ℕ → A → Reader A) (a : A) (s : State) → ((k : ℕ) (b : A) (t : State) → P b → P (row k b t).0) → P a → P (rows_of n row a s).0
-unfolding rows_of bind
-rows-kept P zero row a s keeps h = h
-rows-kept P (suc n) row a s keeps h = keeps n (rows_of n row a s).0 (rows_of n row a s).1 (rows-kept P n row a s keeps h)
-
--- the motion has this size
-abbrev IsSized : ℕ → ℕ → MacroblockInfo → Type 0
-IsSized columns rows m = (m.motion.columns ≡ columns) × (m.motion.rows ≡ rows)
-
-macroblock-sized : (columns rows : ℕ) (h : Header) (p : Place) (m : MacroblockInfo) (s : State) → IsSized columns rows m → IsSized columns rows (macroblock_read h p m s).0
-unfolding macroblock_read motion_read bind
-macroblock-sized columns rows h p m s sized = elim (cases_Bool (is_intra (modes_at h m.modes p s).0.reference)) [ inl own ↦ rw own sized | inr moved ↦ rw moved sized ]
-
-motion-sized : (o : ParsedPacket) → IsSized o.context.modes.columns o.context.modes.rows (frame_info_of o).maps
-unfolding frame_info_of maps_read row_read
-motion-sized o =
-    let columns = o.context.modes.columns in
-    let rows = o.context.modes.rows in
-    rows-kept (IsSized columns rows) rows (row_read o.header columns) _ o.first
-    (λ row a t. rows-kept (IsSized columns rows) columns (λ column. macroblock_read o.header (place row column)) a t
-    (λ column. macroblock-sized columns rows o.header (place row column))) (refl, refl)
 
 segment_at : (g : Grid Modes) (p : Place) → at 0 (segments_of g) p ≡ (at plain g p).segment
 unfolding plain
@@ -119,7 +91,7 @@ segment_at g p = at-mapped (λ (m : Modes). m.segment) plain g p
 
 -- what it is predicted from
 source_read : (s : Settings) (dim : Dim) (kept : Option DecoderState) (version : ℕ) (modes : Modes) (motion : MacroblockMotion) (c : Choice)
-    → version ≡ 0 → modes ≡ c.modes → motion ≡ saved_motion c → source_read_by (context_over dim kept).references version modes motion ≡ source_by (search_in s kept) c
+    → version ≡ 0 → modes ≡ c.modes → motion ≡ choice_motion c → source_read_by (context_over dim kept).references version modes motion ≡ source_by (search_in s kept) c
 source_read s dim None version modes motion c v m e = ap Intra m
 source_read s dim (Some k) version modes motion c v m e = elim (cases_Bool (is_intra c.modes.reference)) [
   | inl own ↦
@@ -127,8 +99,7 @@ source_read s dim (Some k) version modes motion c v m e = elim (cases_Bool (is_i
       rw (own, too) (ap Intra m)
   | inr away ↦
       let too : is_intra modes.reference ≡ false = ap (λ (x : Modes). is_intra x.reference) m ∙ away in
-      let entry : motion ≡ record { reference = c.modes.reference; mode = c.motion.mode; vectors = c.motion.vectors } = e ∙ rw away refl in
-      rw (away, too) (λ i. Inter (entry i) (reference_picture k.references (m i).reference) (v i))
+      rw (away, too) (λ i. Inter (e i) (reference_picture k.references (m i).reference) (v i))
 ]
 
 index_same : (n : ℕ) → n ≤ 127 → min n 127 ≡ n
@@ -183,11 +154,22 @@ module _ (e : EncoderState) (source : Image) (c : CodedFrame) (packet : List ℕ
   inside : (p : Place) → p.column < macroblocks e.dim.w → p.row < macroblocks e.dim.h → Has g p
   inside p column row = let a = columns in let b = rows in record { column = omega arith; row = omega arith }
 
+  -- the motion that is read is the chosen one
+  motion_same : (p : Place) → Has g p → motion_in plan.maps p ≡ choice_motion (coded_choice c p)
+  motion_same p has = x.says.maps.motion p has ∙ (is.chosen.each p has).motion
+
+  read_same : (p : Place) → Has g p → coded_choice c p ≡ choice_read plan parts p
+  read_same p has = sym (λ i. record {
+    modes = x.says.maps.modes p has i;
+    motion = record { mode = (motion_same p has i).mode; vectors = (motion_same p has i).vectors };
+    tokens = x.says.tokens p has i;
+  })
+
   source_same : (p : Place) → Has g p → predictor_at plan p ≡ source_by frame.search (coded_choice c p)
   unfolding predictor_at frame_info_of
   source_same p has =
       ap (λ (b : FrameContext). source_read_by b.references o.tag.version (modes_in plan.maps p) (motion_in plan.maps p)) x.says.context_is
-      ∙ source_read e.settings e.dim (kept_for e) o.tag.version (modes_in plan.maps p) (motion_in plan.maps p) (coded_choice c p) x.says.version (x.says.modes p has) (x.says.motion p has)
+      ∙ source_read e.settings e.dim (kept_for e) o.tag.version (modes_in plan.maps p) (motion_in plan.maps p) (coded_choice c p) x.says.version (x.says.maps.modes p has) (motion_same p has)
 
   factors_same : (p : Place) → factors_at plan p ≡ frame.factors
   unfolding factors_at frame_info_of
@@ -198,34 +180,24 @@ module _ (e : EncoderState) (source : Image) (c : CodedFrame) (packet : List ℕ
   macroblock_same : (p : Place) → Has g p → chosen p ≡ read p
   macroblock_same p has = λ i. macroblock_of (sym (source_same p has) i) (sym (x.says.tokens p has) i) (sym (factors_same p) i)
 
-  like : (p : Place) → Has g p → AreLike (coded_choice c p) (choice_read plan parts p)
-  like p has = record {
-    modes = sym (x.says.modes p has);
-    tokens = sym (x.says.tokens p has);
-    motion = λ away.
-        let entry : motion_in plan.maps p ≡ record { reference = (coded_choice c p).modes.reference; mode = (coded_choice c p).motion.mode; vectors = (coded_choice c p).motion.vectors } =
-        x.says.motion p has ∙ rw away refl in
-        λ i. record { mode = (sym entry i).mode; vectors = (sym entry i).vectors };
-  }
-
   pictures_same : (p : Place) → Has g p → picture_before frame g p ≡ rebuilt_before e.dim.w e.dim.h read p
   pictures_same p has =
       let wide = columns in
       (λ i. rebuilt_before (width i) (height i) chosen p)
       ∙ rebuilt_before-same e.dim.w e.dim.h chosen read p (omega arith)
-      (λ q within earlier. macroblock_same q (let up = earlier.row in let row = has.row in record { column = omega arith; row = omega arith }))
+      (λ q within earlier. macroblock_same q (record { column = omega arith; row = omega arith }))
 
   candidates_same : (p : Place) → Has g p → AreSameCandidates (saved_motions g) plan.maps.motion p
   candidates_same p has r =
-      candidates-same (saved_motions g) plan.maps.motion p r no_biases (around (saved_motions g) plan.maps.motion p
-      (columns ∙ sym ((motion-sized o).0 ∙ context.columns)) (rows ∙ sym ((motion-sized o).1 ∙ context.rows)) has.column
-      (λ q within earlier. motion_by-at g q ∙ sym (x.says.motion q (let up = earlier.row in record { column = within; row = omega arith }))))
+      candidates-same (saved_motions g) plan.maps.motion p r no_biases (sym x.says.maps.motion_columns) (sym x.says.maps.motion_rows) has.column
+      (λ q within earlier. motion_by-at g q ∙ sym (x.says.maps.motion q (record { column = within; row = omega arith })))
 
   choices_read : AreChoices e source plan parts
   choices_read p column row =
       let has = inside p column row in
-      choice_like frame (picture_before frame g p) (rebuilt_before e.dim.w e.dim.h read p) (saved_motions g) plan.maps.motion p (coded_choice c p) (choice_read plan parts p)
-      (pictures_same p has) (candidates_same p has) (like p has) (is.chosen.each p has).is
+      subst (λ (d : Choice). IsChoice frame (rebuilt_before e.dim.w e.dim.h read p) plan.maps.motion p d) (read_same p has)
+      (choice_with frame (picture_before frame g p) (rebuilt_before e.dim.w e.dim.h read p) (saved_motions g) plan.maps.motion p (coded_choice c p)
+      (pictures_same p has) (candidates_same p has) (is.chosen.each p has).is)
 
   pictures_read : (wide high : ℕ) → wide ≡ e.dim.w → high ≡ e.dim.h → picture_by frame g ≡ unfiltered (frame_of plan parts wide high)
   unfolding unfiltered
@@ -247,14 +219,15 @@ module _ (e : EncoderState) (source : Image) (c : CodedFrame) (packet : List ℕ
     closed = x.says.closed;
   }
 
+  in_frame : {A : Type 0} {m : Grid A} (p : Place) → Has m p → m.columns ≡ g.columns → m.rows ≡ g.rows → Has g p
+  in_frame p has wide high = record { column = omega (arith, has.column, wide); row = omega (arith, has.row, high) }
+
   rebuilt_here : (picture : Image) → picture ≡ picture_by frame g → IsRebuiltFrame o picture
   rebuilt_here picture by = record {
-    picture = by ∙ pictures_read o.context.width o.context.height context.width context.height;
+    picture = by ∙ pictures_read o.context.width o.context.height context.0 context.1;
     skipped = λ q has.
-        let wide = (info-mapped o).columns_are ∙ context.columns in
-        let high = (info-mapped o).rows_are ∙ context.rows in
-        let there = inside q (omega arith) (omega arith) in
-        ap (λ (m : Modes). m.skip) (x.says.modes q there) ∙ (is.chosen.each q there).is.skip ∙ ap (λ (t : Tokens). not (any_token t)) (sym (x.says.tokens q there));
+        let there = in_frame q has x.says.maps.columns x.says.maps.rows in
+        ap (λ (m : Modes). m.skip) (x.says.maps.modes q there) ∙ (is.chosen.each q there).is.skip ∙ ap (λ (t : Tokens). not (any_token t)) (sym (x.says.tokens q there));
   }
 
   -- the picture of the choices is the one that the packet describes
@@ -267,16 +240,13 @@ module _ (e : EncoderState) (source : Image) (c : CodedFrame) (packet : List ℕ
 
   -- segments that are 0 stay so
   unsegmented : AreUnsegmented e.dim (segments_of plan.maps.modes)
-  unsegmented =
-      let wide = (info-mapped o).columns_are ∙ context.columns in
-      let high = (info-mapped o).rows_are ∙ context.rows in
-      record {
-        columns = wide;
-        rows = high;
-        zero = λ p has.
-            let there = inside p (omega arith) (omega arith) in
-            segment_at plan.maps.modes p ∙ ap (λ (m : Modes). m.segment) (x.says.modes p there) ∙ (is.chosen.each p there).is.segment;
-      }
+  unsegmented = record {
+    columns = x.says.maps.columns ∙ columns;
+    rows = x.says.maps.rows ∙ rows;
+    zero = λ p has.
+        let there = in_frame p has x.says.maps.columns x.says.maps.rows in
+        segment_at plan.maps.modes p ∙ ap (λ (m : Modes). m.segment) (x.says.maps.modes p there) ∙ (is.chosen.each p there).is.segment;
+  }
 
   pub frame_shows : KeepsShape → ShowsNewest e.dim e.state packet
   frame_shows law =
@@ -286,8 +256,8 @@ module _ (e : EncoderState) (source : Image) (c : CodedFrame) (packet : List ℕ
         kept = state_after o;
         sound = record {
           size = record {
-            width = ap (λ (p : Image). p.width) newest ∙ shaped.width_is ∙ context.width;
-            height = ap (λ (p : Image). p.height) newest ∙ shaped.height_is ∙ context.height;
+            width = ap (λ (p : Image). p.width) newest ∙ shaped.width_is ∙ context.0;
+            height = ap (λ (p : Image). p.height) newest ∙ shaped.height_is ∙ context.1;
           };
           segments = unsegmented;
         };

@@ -1,12 +1,12 @@
 -- A file's pictures are encoded, one after another.
-use Rattle.std.proofs.Common.{◌≡◌, ◌≢◌, ℕ, ◌+◌, ◌^◌, ◌<◌, ◌≤◌, ◌*◌, ◌/◌, List, [], ◌∷◌, ◌++◌, length, map, Option, Some, None, Result, Ok, Err, refl, sym, ap, subst, ◌∙◌, inl, inr, append_assoc, add-zero, arith}
-use Rattle.std.specs.List.{All, sum_by}
+use Rattle.std.proofs.Common.{◌≡◌, ◌≢◌, ℕ, ◌+◌, ◌^◌, ◌<◌, ◌≤◌, ◌*◌, ◌/◌, List, [], ◌∷◌, ◌++◌, length, map, Option, Some, None, Result, Ok, Err, refl, sym, ap, subst, ◌∙◌, ◌⊎◌, inl, inr, append_assoc, arith}
+use Rattle.std.specs.List.{All}
 use Rattle.std.specs.Io.KnownBytes.{Appends, Consumes, IsAtEnd}
 use Rattle.std.proofs.KnownBytes.{Consumes-nil, Consumes-trans}
 use Rattle.std.proofs.lemmas.List.{length-append, append-nil, map-append, length-map}
 use Rattle.std.proofs.lemmas.Nat.{row_fits, mul-le}
 use Rattle.std.proofs.lemmas.List.Elements.{All-nil, All-push, All-same, All-map, All-weaker}
-use Rattle.std.proofs.lemmas.List.Sums.{sum_by-cons, sum_by-append}
+use Rattle.std.proofs.lemmas.List.Sums.{sum_by_push}
 use Rattle.vp_base.specs.declared.limits.Dim.{Dim}
 use Rattle.vp_base.specs.declared.limits.Limits.{Limits}
 use Rattle.vp_base.specs.Image.{Image, i420}
@@ -28,7 +28,7 @@ use Rattle.vp_encode.specs.declared.report.EncodeAllFault.TheVariants as fault
 use Rattle.vp_encode.specs.Encoder.{EncoderState, AreAllowed}
 use Rattle.vp_encode.specs.Encoded.{EncodedFrame, IsEncoded, AreEncoded, initial_encoder, packet_length, error_of}
 use Rattle.vp_encode.specs.Pictures.{IsPicture, BeginWith}
-use Rattle.vp_encode.specs.File.{IsWrittenFurther, Work, IsDone, HasAllPictures, IsEncodeReported, HasOneMore, IsEndedBehind, IsAnswerBehind, IsAnswerOver, IsWatched, HasDone, AreFramesOf, most_reads, source_of, packet_of, ivf_text, encoded_file, encode_fault_of, frames_report, so_far_of, progress_after, progress_of_frames}
+use Rattle.vp_encode.specs.File.{IsWrittenFurther, Work, IsDone, HasAllPictures, HasOneMore, IsEndedBehind, IsAnswerBehind, IsAnswerOver, IsWatched, HasDone, AreFramesOf, most_reads, source_of, packet_of, ivf_text, encoded_file, encode_fault_of, frames_report, so_far_of, progress_after, progress_of_frames}
 use Rattle.vp_encode.specs.EncodeProgress.{EncodeProgress, IsAdded, IsPictureRefused, IsHeadLine, IsBegun, IsAt, HasWorkFrames, EndsEncode, start}
 
 -- ---- small facts, for where much else is known
@@ -47,7 +47,7 @@ no_fewer n m = omega arith
 
 -- ---- one more picture
 
-begins_more : (w h : ℕ) (bytes : List ℕ) (ps : List Image) (mid : List ℕ) (p : Image) (rest : List ℕ)
+pub begins_more : (w h : ℕ) (bytes : List ℕ) (ps : List Image) (mid : List ℕ) (p : Image) (rest : List ℕ)
     → BeginWith w h bytes ps mid → IsPicture w h p → next_of w h mid ≡ Ok (Some (i420 p, rest)) → BeginWith w h bytes (ps ++ p ∷ []) rest
 begins_more w h bytes [] mid p rest e is next = (rest, is, ap (next_of w h) e ∙ next, refl)
 begins_more w h bytes (q ∷ ps) mid p rest b is next = (b.0, b.1, b.2, begins_more w h b.0 ps mid p rest b.3 is next)
@@ -55,16 +55,10 @@ begins_more w h bytes (q ∷ ps) mid p rest b is next = (b.0, b.1, b.2, begins_m
 pub is_picture : (w h : ℕ) (p : Image) (before after : Option (List ℕ)) → GivesPicture w h p before after → IsPicture w h p
 is_picture w h p before after s = record { width = s.width; height = s.height; outside = s.outside }
 
-encoded_more : (e : EncoderState) (fs : List EncodedFrame) (mid : EncoderState) (f : EncodedFrame) (last : EncoderState)
+pub encoded_more : (e : EncoderState) (fs : List EncodedFrame) (mid : EncoderState) (f : EncodedFrame) (last : EncoderState)
     → AreEncoded e fs mid → IsEncoded mid f last → AreEncoded e (fs ++ f ∷ []) last
 encoded_more e [] mid f last is h = let P : EncoderState → Type 0 = λ x. IsEncoded x f last in (last, subst P is h, refl)
 encoded_more e (g ∷ fs) mid f last r h = (r.0, r.1, encoded_more r.0 fs mid f last r.2 h)
-
-sum_one : {X : Type 0} (g : X → ℕ) (x : X) → sum_by g (x ∷ []) ≡ g x
-sum_one g x = sum_by-cons g x [] ∙ add-zero (g x)
-
-sum_more : {X : Type 0} (g : X → ℕ) (xs : List X) (x : X) → sum_by g (xs ++ x ∷ []) ≡ sum_by g xs + g x
-sum_more g xs x = sum_by-append g xs (x ∷ []) ∙ ap (λ n. sum_by g xs + n) (sum_one g x)
 
 pub at_start : (head : Head) (begun : EncodeProgress) → (begun ≡ start begun.limits (initial_encoder begun.encoder.dim begun.encoder.settings)) → IsAt head begun begun [] []
 at_start head begun first = record {
@@ -94,9 +88,9 @@ at_next head begun now new bytes frames p before after h s f is a =
       dim = a.encoded.dim ∙ h.dim;
       limits = a.limits ∙ h.limits;
       packets = a.packets ∙ (ap (λ ps. ps ++ f.packet ∷ []) h.packets ∙ sym (map-append packet_of frames (f ∷ [])));
-      bytes_are = a.bytes ∙ (ap (λ n. n + packet_length f) h.bytes_are ∙ sym (sum_more packet_length frames f));
-      error = a.error ∙ (ap (λ n. n + error_of f) h.error ∙ sym (sum_more error_of frames f));
-      few = let room = a.room in let same = ap (λ (l : Limits). l.packets) h.limits in omega (arith, length-append frames (f ∷ []));
+      bytes_are = a.bytes ∙ (ap (λ n. n + packet_length f) h.bytes_are ∙ sym (sum_by_push packet_length frames f));
+      error = a.error ∙ (ap (λ n. n + error_of f) h.error ∙ sym (sum_by_push error_of frames f));
+      few = let same = ap (λ (l : Limits). l.packets) h.limits in omega (arith, length-append frames (f ∷ []));
       small = All-push P frames f h.small (rw (← h.limits) a.small);
     }
 
@@ -347,98 +341,66 @@ module _ (limits : Limits) (settings : Settings) (head : Head) (file : List ℕ)
       λ i. record { frames = all_counted i; error = e.4.error i } in
       is ∙ (same ∙ ap frames_report e.5)
 
--- ---- the answer, by where the work ended
+-- ---- the answer
 
 device_by : (f : SourceFault) → encode_fault_of f ≡ fault.Device → f ≡ source.Device
 device_by source.Device e = refl
 device_by f e = cc
 
+-- what is known of a head that could not be read, by the fault of encoding
+pub head_end : (pixels : ℕ) (f : SourceFault) (before after : Option (List ℕ)) → Fails (file_head pixels) f before after → encode_fault_of f ≡ fault.Torn → IsAtEnd after
+head_end pixels source.Torn before after s e = s.at_end
+head_end pixels f before after s e = cc
+
+pub head_device : {A : Type 0} (f : SourceFault) (n m : ℕ) → (let r : Result A SourceFault = Err f in r ≡ Err source.Device → HasFailed n m) → encode_fault_of f ≡ fault.Device → HasFailed n m
+head_device f n m device e = device (ap Err (device_by f e))
+
+pub head_quiet : {A : Type 0} (f : SourceFault) (n m : ℕ) → (let r : Result A SourceFault = Err f in r ≢ Err source.Device → m ≡ n) → encode_fault_of f ≢ fault.Device → m ≡ n
+head_quiet f n m quiet other = quiet (λ e. other (let same : f ≡ source.Device = cc in ap encode_fault_of same))
+
 module _ {R W : Type 0} (remaining : R → Option (List ℕ)) (contents : W → Option (List ℕ)) (limits : Limits) (settings : Settings)
-    (result : Result EncodeReport EncodeAllFault) (reader reader' : Counted R) where
-  torn_by : (f : SourceFault) → Fails (file_head limits.pixels) f (counted_remaining remaining reader) (counted_remaining remaining reader')
-      → encode_fault_of f ≡ fault.Torn → IsAtEnd (counted_remaining remaining reader')
-  torn_by source.Torn s e = s.at_end
-  torn_by f s e = cc
+    (result : Result EncodeReport EncodeAllFault) (reader reader' : Counted R) (writer writer' : Counted W) (told told' : List EncodedSoFar → Type 0) where
+  abbrev Answers : Type 0
+  Answers = IsAnswerOver remaining contents limits settings result reader reader' writer writer'
+      × IsWatched remaining contents limits settings result reader reader' writer writer' told told'
 
-  -- before anything is written
-  pub unwritten_answer : {A : Type 0} (writer : Counted W) (f : EncodeAllFault) → result ≡ Err f
-      → (file : List ℕ) → Consumes (counted_remaining remaining reader) (counted_remaining remaining reader') file
-      → (pictures : ℕ) → IsEndedBehind pictures limits settings f file (counted_contents contents writer) (counted_contents contents writer)
-      → (let r : Result A EncodeAllFault = Err f in r ≡ Err fault.Torn → IsAtEnd (counted_remaining remaining reader'))
-      → (let r : Result A EncodeAllFault = Err f in r ≡ Err fault.Device → HasFailed (counted_failures reader) (counted_failures reader'))
-      → (let r : Result A EncodeAllFault = Err f in r ≢ Err fault.Device → counted_failures reader' ≡ counted_failures reader)
-      → IsAnswerOver remaining contents limits settings result reader reader' writer writer
-  unwritten_answer writer f is file consumed pictures ended torn device quiet = record {
-    file = file;
-    consumed = consumed;
-    answer = rw is (pictures, ended);
-    unwritten = λ _ _ _. refl;
-    end = rw is tt;
-    torn = λ e. torn cc;
-    device = λ e. inl (device cc);
-    quiet = λ n. (quiet (λ e. n cc), refl);
-  }
-
-  -- at the head's line
-  pub head_answer : {A : Type 0} (writer : Counted W) (f : SourceFault) → result ≡ Err (encode_fault_of f)
-      → Fails (file_head limits.pixels) f (counted_remaining remaining reader) (counted_remaining remaining reader')
-      → (let r : Result A SourceFault = Err f in r ≡ Err source.Device → HasFailed (counted_failures reader) (counted_failures reader'))
-      → (let r : Result A SourceFault = Err f in r ≢ Err source.Device → counted_failures reader' ≡ counted_failures reader)
-      → IsAnswerOver remaining contents limits settings result reader reader' writer writer
-  head_answer {A = A} writer f is fails device quiet =
-      let now = head_failed limits settings f (counted_remaining remaining reader) (counted_remaining remaining reader') fails in
-      unwritten_answer {A = A} writer (encode_fault_of f) is now.0 now.1 0 (now.2 (counted_contents contents writer))
-      (λ e. torn_by f fails cc) (λ e. device (ap Err (device_by f cc))) (λ n. quiet (λ e. n (let same : f ≡ source.Device = cc in ap Err (ap encode_fault_of same))))
-
-  -- what the callback received where the work ended by a fault
-  pub ended_watched : (writer writer' : Counted W) (told told' : List EncodedSoFar → Type 0) (f : EncodeAllFault) → result ≡ Err f
-      → (frames : List EncodedFrame) → IsWrittenFurther told told' (progress_of_frames frames)
+  -- the work ended by a fault, behind these frames
+  pub failed : (f : EncodeAllFault) → result ≡ Err f → (frames : List EncodedFrame) → IsWrittenFurther told told' (progress_of_frames frames)
       → (file : List ℕ) → Consumes (counted_remaining remaining reader) (counted_remaining remaining reader') file → AreFramesOf limits settings file frames
-      → IsEndedBehind (length frames) limits settings f file (counted_contents contents writer) (counted_contents contents writer')
-      → IsWatched remaining contents limits settings result reader reader' writer writer' told told'
-  ended_watched writer writer' told told' f is frames further file consumed are ended =
-      record { frames = frames; told = further; file = file; consumed = consumed; encoded = are; answer = rw is ended; reported = rw is tt }
+      → IsEndedBehind (length frames) limits settings f file (counted_contents contents writer) (counted_contents contents writer') → (f ≢ fault.Device → writer' ≡ writer)
+      → (f ≡ fault.Torn → IsAtEnd (counted_remaining remaining reader'))
+      → (f ≡ fault.Device → HasFailed (counted_failures reader) (counted_failures reader') ⊎ HasFailed (counted_failures writer) (counted_failures writer'))
+      → (f ≢ fault.Device → counted_failures reader' ≡ counted_failures reader) → Answers
+  failed f is frames further file consumed are ended unwritten torn device quiet =
+      let other : result ≢ Err fault.Device → f ≢ fault.Device = λ n e. n (is ∙ ap Err e) in (
+        record {
+          file = file;
+          consumed = consumed;
+          answer = rw is (length frames, ended);
+          unwritten = λ g same n. unwritten (λ e. n cc);
+          end = rw is tt;
+          torn = λ e. torn cc;
+          device = λ e. device cc;
+          quiet = λ n. (quiet (other n), ap counted_failures (unwritten (other n)));
+        },
+        record { frames = frames; told = further; file = file; consumed = consumed; encoded = are; answer = rw is ended; reported = rw is tt },
+      )
 
-  -- at the settings
-  pub settings_answer : (writer : Counted W) → result ≡ Err fault.Settings
-      → (file : List ℕ) → Consumes (counted_remaining remaining reader) (counted_remaining remaining reader') file
-      → IsEndedBehind 0 limits settings fault.Settings file (counted_contents contents writer) (counted_contents contents writer)
-      → counted_failures reader' ≡ counted_failures reader
-      → IsAnswerOver remaining contents limits settings result reader reader' writer writer
-  settings_answer writer is file consumed ended quiet =
-      unwritten_answer {A = EncodeReport} writer fault.Settings is file consumed 0 ended (λ e. cc) (λ e. cc) (λ n. quiet)
-
-  -- at a write that failed
-  pub unfinished_answer : (writer writer' : Counted W) → result ≡ Err fault.Device
-      → (file : List ℕ) → Consumes (counted_remaining remaining reader) (counted_remaining remaining reader') file
-      → (pictures : ℕ) → IsEndedBehind pictures limits settings fault.Device file (counted_contents contents writer) (counted_contents contents writer')
-      → HasFailed (counted_failures writer) (counted_failures writer')
-      → IsAnswerOver remaining contents limits settings result reader reader' writer writer'
-  unfinished_answer writer writer' is file consumed pictures ended failed = record {
-    file = file;
-    consumed = consumed;
-    answer = rw is (pictures, ended);
-    unwritten = λ f e n. absurd (n cc);
-    end = rw is tt;
-    torn = λ e. cc;
-    device = λ e. inr failed;
-    quiet = λ n. absurd (n is);
-  }
-
-  -- at the file's end
-  pub whole_answer : (writer writer' : Counted W) (report : EncodeReport) → result ≡ Ok report
-      → (file : List ℕ) → Consumes (counted_remaining remaining reader) (counted_remaining remaining reader') file
-      → IsEncodeReported limits settings report file (counted_contents contents writer) (counted_contents contents writer')
-      → IsAtEnd (counted_remaining remaining reader')
-      → counted_failures reader' ≡ counted_failures reader → counted_failures writer' ≡ counted_failures writer
-      → IsAnswerOver remaining contents limits settings result reader reader' writer writer'
-  whole_answer writer writer' report is file consumed reported at_end read written = record {
-    file = file;
-    consumed = consumed;
-    answer = rw is reported;
-    unwritten = λ f e n. cc;
-    end = rw is at_end;
-    torn = λ e. cc;
-    device = λ e. cc;
-    quiet = λ n. (read, written);
-  }
+  -- all is encoded and written
+  pub finished : (report : EncodeReport) → result ≡ Ok report → (frames : List EncodedFrame) → IsWrittenFurther told told' (progress_of_frames frames)
+      → (file : List ℕ) → Consumes (counted_remaining remaining reader) (counted_remaining remaining reader') file → AreFramesOf limits settings file frames
+      → IsAnswerBehind (length frames) limits settings (Ok report) file (counted_contents contents writer) (counted_contents contents writer') → report ≡ frames_report frames
+      → IsAtEnd (counted_remaining remaining reader') → counted_failures reader' ≡ counted_failures reader → counted_failures writer' ≡ counted_failures writer → Answers
+  finished report is frames further file consumed are whole reported at_end read written = (
+    record {
+      file = file;
+      consumed = consumed;
+      answer = rw is whole.0;
+      unwritten = λ f e n. cc;
+      end = rw is at_end;
+      torn = λ e. cc;
+      device = λ e. cc;
+      quiet = λ n. (read, written);
+    },
+    record { frames = frames; told = further; file = file; consumed = consumed; encoded = are; answer = rw is whole; reported = rw is reported },
+  )

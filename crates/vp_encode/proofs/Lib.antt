@@ -1,3 +1,4 @@
+pub mod RasterOrder
 pub mod Candidates
 pub mod ContentLemmas
 pub mod ChoosingLemmas

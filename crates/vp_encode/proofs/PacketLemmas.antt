@@ -1,6 +1,6 @@
 -- A packet that was put together is opened: its tag, its first partition and its token partitions.
 use Rattle.std.proofs.Common.{◌≡◌, ◌∙◌, ℕ, ◌+◌, ◌*◌, ◌/◌, ◌%◌, ◌^◌, ◌<◌, ◌≤◌, List, [], ◌∷◌, ◌++◌, length, sym, ap, arith, ◌-◌, true, take, drop, refl, subst, append_assoc, length-append}
-use Rattle.std.specs.Prelude.{Some, None, Ok, ◌==◌, Option, IfSome, Vec, slice_index_or}
+use Rattle.std.specs.Prelude.{Some, None, Ok, ◌==◌, Option, IfSome}
 use Rattle.std.proofs.lemmas.Bool.{le-ltb}
 use Rattle.vp_base.specs.declared.limits.Dim.{Dim}
 use Rattle.vp_base.specs.declared.limits.Limits.{Limits}
@@ -8,12 +8,9 @@ use Rattle.vp_head.specs.declared.fields.KeyTag.{KeyTag}
 use Rattle.vp_head.specs.Sides.{is_below_16384}
 use Rattle.vp_head.specs.Tag.{bit_field, tag_of, tag_of_word, key_of, dim_within_limits, tag_dim, key_with}
 use Rattle.vp_head.proofs.Sizes.{within-allowed}
-use Rattle.vp_encode.specs.PacketContents.{key_tag, HasFinalZero, HasContents, EncodesFrame, IsKeyFramePacket, IsInterFramePacket}
-use Rattle.vp_encode.specs.Written.{three_bytes, two_bytes, tag_bytes, encoder_tag, AreOf, Have, finished, first_read, IsFirst, IsPlanOf, IsPacket}
-use Rattle.std.specs.Global.{Global}
-use Rattle.std.proofs.lemmas.List.{drop_at, take_at, take-map, get_or-take, length-map, length-take}
-use Rattle.std.proofs.lemmas.Nat.{pow_pos}
-use Rattle.std.proofs.Math.Pow.{pow_mono}
+use Rattle.vp_encode.specs.PacketContents.{key_tag, HasFinalZero, AreMapsOf, HasContents, EncodesFrame, IsKeyFramePacket, IsInterFramePacket}
+use Rattle.vp_encode.specs.Written.{three_bytes, two_bytes, tag_bytes, encoder_tag, finished, first_read, IsFirst, IsPacket}
+use Rattle.std.proofs.lemmas.List.{drop_at, take_at}
 use Rattle.vp_bool.specs.Bools.{State, initial_state}
 use Rattle.vp_bool.specs.Intervals.{Interval, whole_interval}
 use Rattle.vp_bool.specs.Reader.{bind, ◌>>=◌, give, Reads}
@@ -31,7 +28,7 @@ use Rattle.vp_head.specs.Saved.{kept_after}
 use Rattle.vp_head.specs.Spelled.{kept_before}
 use Rattle.vp_head.specs.Reference.{is_intra}
 use Rattle.vp_modes.specs.Map.{of_segments}
-use Rattle.vp_tokens.specs.Partitions.{cut_of, lists, AreBelow24Bits}
+use Rattle.vp_tokens.specs.Partitions.{cut_of}
 use Rattle.vp_decode.specs.MacroblockInfo.{MacroblockInfo, maps_read}
 use Rattle.vp_decode.specs.Frame.{FrameInfo}
 use Rattle.vp_decode.specs.Step.{FrameContext, key_context, inter_context, ParsedPacket, parsed_in_context, frame_info_of, maps_before, tag_length, first_part, count_of}
@@ -46,30 +43,22 @@ word_back w = omega arith
 two_back : (w : ℕ) → w % 256 + 256 * (w / 256) ≡ w
 two_back w = omega arith
 
--- the bits of the word of a shown packet of version 0
-version_is : (n i : ℕ) → i < 2 → (32 * n + (16 + i)) / 2 ^ 1 % 2 ^ 3 ≡ 0
-version_is n i h = omega arith
+-- the version, the show bit, the length and the kind of a shown packet of version 0
+tag_bits : (n i : ℕ) → i < 2 → n < 2 ^ 19
+    → ((32 * n + (16 + i)) / 2 ^ 1 % 2 ^ 3 ≡ 0) × ((32 * n + (16 + i)) / 2 ^ 4 % 2 ^ 1 ≡ 1) × ((32 * n + (16 + i)) / 2 ^ 5 % 2 ^ 19 ≡ n) × ((32 * n + (16 + i)) / 2 ^ 0 % 2 ^ 1 ≡ i)
+tag_bits n i h k = (omega arith, omega arith, omega arith, omega arith)
 
-show_is : (n i : ℕ) → i < 2 → (32 * n + (16 + i)) / 2 ^ 4 % 2 ^ 1 ≡ 1
-show_is n i h = omega arith
-
-length_is : (n i : ℕ) → i < 2 → n < 2 ^ 19 → (32 * n + (16 + i)) / 2 ^ 5 % 2 ^ 19 ≡ n
-length_is n i h k = omega arith
-
-kind_is : (n i : ℕ) → i < 2 → (32 * n + (16 + i)) / 2 ^ 0 % 2 ^ 1 ≡ i
-kind_is n i h = omega arith
-
-pub inter_word : (limits : Limits) (n : ℕ) (packet : List ℕ) → n < 2 ^ 19 → tag_of_word limits (32 * n + 17) packet ≡ Ok (encoder_tag None n)
+inter_word : (limits : Limits) (n : ℕ) (packet : List ℕ) → n < 2 ^ 19 → tag_of_word limits (32 * n + 17) packet ≡ Ok (encoder_tag None n)
 unfolding tag_of_word
 inter_word limits n packet k =
-    rw (version_is n 1 (omega arith), kind_is n 1 (omega arith))
-    (λ j. Ok (record { version = 0; show = show_is n 1 (omega arith) j == 1; first_partition = length_is n 1 (omega arith) k j; key = None }))
+    let bits = tag_bits n 1 (omega arith) k in
+    rw (bits.0, bits.3) (λ j. Ok (record { version = 0; show = bits.1 j == 1; first_partition = bits.2 j; key = None }))
 
-pub key_word : (limits : Limits) (n : ℕ) (packet : List ℕ) (key : KeyTag) → n < 2 ^ 19 → key_of limits packet ≡ Ok key → tag_of_word limits (32 * n + 16) packet ≡ Ok (encoder_tag (Some key) n)
+key_word : (limits : Limits) (n : ℕ) (packet : List ℕ) (key : KeyTag) → n < 2 ^ 19 → key_of limits packet ≡ Ok key → tag_of_word limits (32 * n + 16) packet ≡ Ok (encoder_tag (Some key) n)
 unfolding tag_of_word
 key_word limits n packet key k is =
-    rw (version_is n 0 (omega arith), kind_is n 0 (omega arith), is)
-    (λ j. Ok (record { version = version_is n 0 (omega arith) j; show = show_is n 0 (omega arith) j == 1; first_partition = length_is n 0 (omega arith) k j; key = Some key }))
+    let bits = tag_bits n 0 (omega arith) k in
+    rw (bits.0, bits.3, is) (λ j. Ok (record { version = bits.0 j; show = bits.1 j == 1; first_partition = bits.2 j; key = Some key }))
 
 -- a tag's three bytes and what follows
 after_word : (limits : Limits) (w : ℕ) (rest : List ℕ) → tag_of limits (three_bytes w ++ rest) ≡ tag_of_word limits w (three_bytes w ++ rest)
@@ -81,20 +70,18 @@ after_word limits w rest =
 pub inter_tag : (limits : Limits) (n : ℕ) (rest : List ℕ) → n < 2 ^ 19 → tag_of limits (tag_bytes None n ++ rest) ≡ Ok (encoder_tag None n)
 inter_tag limits n rest k = after_word limits (32 * n + 17) rest ∙ inter_word limits n (three_bytes (32 * n + 17) ++ rest) k
 
-low_bits : (n : ℕ) → n ≤ 16383 → n / 2 ^ 0 % 2 ^ 14 ≡ n
-low_bits n h = omega arith
-
-no_scale : (n : ℕ) → n ≤ 16383 → n / 2 ^ 14 % 2 ^ 2 ≡ 0
-no_scale n h = omega arith
+-- the bits of a side, and its scale
+side_bits : (n : ℕ) → n ≤ 16383 → (n / 2 ^ 0 % 2 ^ 14 ≡ n) × (n / 2 ^ 14 % 2 ^ 2 ≡ 0)
+side_bits n h = (omega arith, omega arith)
 
 sized : (limits : Limits) (dim : Dim) → dim.w * dim.h ≤ limits.pixels → key_with dim.w dim.h (dim_within_limits limits (tag_dim dim.w dim.h)) ≡ Ok (key_tag dim)
 sized limits dim fits =
-    let wide = low_bits dim.w dim.w_in_range.1 in
-    let high = low_bits dim.h dim.h_in_range.1 in
-    let allowed : bit_field 0 14 dim.w * bit_field 0 14 dim.h ≤ limits.pixels = rw (wide, high) fits in
-    let is = within-allowed limits (bit_field 0 14 dim.w) (bit_field 0 14 dim.h) (is_below_16384 dim.w) (is_below_16384 dim.h) dim (sym wide) (sym high) allowed in
+    let wide = side_bits dim.w dim.w_in_range.1 in
+    let high = side_bits dim.h dim.h_in_range.1 in
+    let allowed : bit_field 0 14 dim.w * bit_field 0 14 dim.h ≤ limits.pixels = rw (wide.0, high.0) fits in
+    let is = within-allowed limits (bit_field 0 14 dim.w) (bit_field 0 14 dim.h) (is_below_16384 dim.w) (is_below_16384 dim.h) dim (sym wide.0) (sym high.0) allowed in
     ap (key_with dim.w dim.h) (sym is)
-    ∙ (λ i. Ok (record { dim = dim; horizontal_scale = no_scale dim.w dim.w_in_range.1 i; vertical_scale = no_scale dim.h dim.h_in_range.1 i }))
+    ∙ (λ i. Ok (record { dim = dim; horizontal_scale = wide.1 i; vertical_scale = high.1 i }))
 
 -- the ten bytes of a key packet's tag
 abbrev key_bytes : Dim → ℕ → List ℕ
@@ -119,9 +106,9 @@ key_tag_read limits dim n rest k fits =
 
 pub first_said : (kept : Saved) (tag : Tag) (before : MacroblockInfo) (c : CodedFrame) (maps : MacroblockInfo) (bytes : List ℕ) {old mid new : Interval} → old ≡ whole_interval
     → Writes (header kept tag) old mid (c.header, kept_after (kept_before kept tag) c.header) → Writes (maps_read c.header before) mid new maps → bytes ≡ finished new
-    → AreOf c maps → ((p : Place) → Has c.macroblocks p → Have c p maps) → IsFirst kept tag before c bytes
+    → AreMapsOf c maps → IsFirst kept tag before c bytes
 unfolding first_read
-first_said kept tag before c maps bytes {old = old} {mid = mid} {new = new} begins h m done size told =
+first_said kept tag before c maps bytes {old = old} {mid = mid} {new = new} begins h m done are =
     let head : Header × Saved = (c.header, kept_after (kept_before kept tag) c.header) in
     let behind : Continues (maps_read c.header before >>= λ ms. give (head, ms)) (give (head, maps)) mid new =
     Writes-then (λ ms. give (head, ms)) m (Continues-none (give (head, maps)) new) in
@@ -132,39 +119,23 @@ first_said kept tag before c maps bytes {old = old} {mid = mid} {new = new} begi
       bytes_are = done ∙ ap finished (all_of.appended ∙ ap (write_all all_of.bools) begins);
       maps = maps;
       taken = all_of.taken;
-      size = size;
-      told = told;
+      are = are;
     }
 
--- what is read of a first partition
-record IsReadFirst (kept : Saved) (tag : Tag) (before : MacroblockInfo) (c : CodedFrame) (bytes : List ℕ) : Type 0 where
-  maps : MacroblockInfo
-  behind : State
-  rest : State
-  header_read : header kept tag (initial_state bytes) ≡ ((c.header, kept_after (kept_before kept tag) c.header), behind)
-  maps_are : maps_read c.header before behind ≡ (maps, rest)
-  size : AreOf c maps
-  told : (p : Place) → Has c.macroblocks p → Have c p maps
-  closed : HasFinalZero bytes
-
-first_again : (kept : Saved) (tag : Tag) (before : MacroblockInfo) (c : CodedFrame) (bytes : List ℕ) → IsFirst kept tag before c bytes → IsReadFirst kept tag before c bytes
+-- the header and the maps are read of a first partition
+first_again : (kept : Saved) (tag : Tag) (before : MacroblockInfo) (c : CodedFrame) (bytes : List ℕ) → (x : IsFirst kept tag before c bytes) → let head = header kept tag (initial_state bytes) in
+    (head.0 ≡ (c.header, kept_after (kept_before kept tag) c.header)) × ((maps_read c.header before head.1).0 ≡ x.maps) × HasFinalZero bytes
 unfolding first_read bind
 first_again kept tag before c bytes x =
     let r = reads_back x.bools (0 ∷ []) x.probabilities one_zero in
     let s : State = initial_state bytes in
     let reads : Reads x.bools s r.0 = subst (λ (b : List ℕ). Reads x.bools (initial_state b) r.0) (sym x.bytes_are) r.1 in
     let said : first_read kept tag before s ≡ (((c.header, kept_after (kept_before kept tag) c.header), x.maps), r.0) = x.taken s r.0 reads in
-    let head : (header kept tag s).0 ≡ (c.header, kept_after (kept_before kept tag) c.header) = ap (λ (z : ((Header × Saved) × MacroblockInfo) × State). z.0.0) said in
-    record {
-      maps = x.maps;
-      behind = (header kept tag s).1;
-      rest = r.0;
-      header_read = λ i. (head i, (header kept tag s).1);
-      maps_are = ap (λ (z : Header × Saved). maps_read z.0 before (header kept tag s).1) (sym head) ∙ ap (λ (z : ((Header × Saved) × MacroblockInfo) × State). (z.0.1, z.1)) said;
-      size = x.size;
-      told = x.told;
-      closed = subst HasFinalZero (sym x.bytes_are) (closed_by (partition_of x.bools));
-    }
+    let head : (header kept tag s).0 ≡ (c.header, kept_after (kept_before kept tag) c.header) = ap (λ (z : ((Header × Saved) × MacroblockInfo) × State). z.0.0) said in (
+      head,
+      ap (λ (z : Header × Saved). (maps_read z.0 before (header kept tag s).1).0) (sym head) ∙ ap (λ (z : ((Header × Saved) × MacroblockInfo) × State). z.0.1) said,
+      subst HasFinalZero (sym x.bytes_are) (closed_by (partition_of x.bools)),
+    )
 
 -- ---- opening
 
@@ -210,11 +181,14 @@ module _ (key : Option KeyTag) (context : FrameContext) (c : CodedFrame) (packet
   abbrev tag : Tag
   tag = encoder_tag key (length x.first)
 
-  abbrev first : IsReadFirst context.saved (encoder_tag key 0) (maps_before context.modes) c x.first
+  abbrev head : (Header × Saved) × State
+  head = header context.saved (encoder_tag key 0) (initial_state x.first)
+
+  first : (head.0 ≡ (c.header, kept_after (kept_before context.saved tag) c.header)) × ((maps_read c.header (maps_before context.modes) head.1).0 ≡ x.first_is.maps) × HasFinalZero x.first
   first = first_again context.saved (encoder_tag key 0) (maps_before context.modes) c x.first x.first_is
 
   abbrev opening : ParsedPacket
-  opening = opened_of tag context c (kept_after (kept_before context.saved tag) c.header) first.behind x.parts
+  opening = opened_of tag context c (kept_after (kept_before context.saved tag) c.header) head.1 x.parts
 
   abbrev front : List ℕ
   front = tag_bytes key (length x.first)
@@ -227,10 +201,8 @@ module _ (key : Option KeyTag) (context : FrameContext) (c : CodedFrame) (packet
   unfolding frame_info_of
   says begun long own =
       let plan : FrameInfo = frame_info_of opening in
-      let maps_are : plan.maps ≡ first.maps = ap (λ (r : MacroblockInfo × State). r.0) first.maps_are in
-      let told : (p : Place) → Has c.macroblocks p → Have c p plan.maps = λ p inside. subst (λ (m : MacroblockInfo). Have c p m) (sym maps_are) (first.told p inside) in
-      let plan_is : IsPlanOf c plan = record { header = refl; size = subst (AreOf c) (sym maps_are) first.size; told = told; own = own } in
-      let each = x.parts_are.each plan plan_is in
+      let are : AreMapsOf c plan.maps = subst (AreMapsOf c) (sym first.1) x.first_is.are in
+      let each = x.parts_are.each plan (record { header = refl; maps = are; own = own }) in
       record {
         version = refl;
         shown = refl;
@@ -238,18 +210,17 @@ module _ (key : Option KeyTag) (context : FrameContext) (c : CodedFrame) (packet
         context_is = refl;
         header = refl;
         saved = ap (λ (k : Saved). kept_after k c.header) begun;
-        modes = λ p inside. (told p inside).modes;
-        motion = λ p inside. (told p inside).motion;
+        maps = are;
         tokens = parts_read plan c each.0 x.parts each.1 each.2;
-        first_closed = subst HasFinalZero (sym (first_is long)) first.closed;
+        first_closed = subst HasFinalZero (sym (first_is long)) first.2;
         closed = parts_closed each.0 x.parts each.2;
       }
 
   opens : length front ≡ tag_length tag → parsed_in_context tag context packet ≡ Ok opening
   opens long =
       ap (parsed_in_context tag context) x.together.bytes_are
-      ∙ opened_by tag context front x.first x.together.rest c (kept_after (kept_before context.saved tag) c.header) first.behind x.parts long refl
-      (same_header context.saved key (length x.first) 0 (initial_state x.first) ∙ first.header_read) x.parts_are.count x.together.cut
+      ∙ opened_by tag context front x.first x.together.rest c (kept_after (kept_before context.saved tag) c.header) head.1 x.parts long refl
+      (same_header context.saved key (length x.first) 0 (initial_state x.first) ∙ (λ i. (first.0 i, head.1))) x.parts_are.count x.together.cut
 
   pub told_by : kept_before context.saved tag ≡ context.saved → length front ≡ tag_length tag
       → (context.references ≡ None → (p : Place) → Has c.macroblocks p → is_intra (coded_choice c p).modes.reference ≡ true)
@@ -275,32 +246,3 @@ inter_said saved segments c packet x k same_saved same_segments =
     (subst (λ (s : Saved). IsPacket None s (maps_before (of_segments segments)) c packet) (sym same_saved) x) in
     told_by None (inter_context k) c packet here refl refl (λ none. absurd cc)
     (λ limits fits. inter_tag limits (length here.first) (here.first ++ here.together.rest) here.short)
-
--- ---- how many partitions
-
-pub count_small : (n : ℕ) → n < 2 ^ 2 → (0 < count_of n) × (count_of n ≤ 8)
-unfolding count_of
-count_small n h = (pow_pos n, pow_mono {i = n} {j = 3} (omega arith))
-
--- the parts but the last, in what the code has at hand
-parts_but_last : (xs ys : List (Vec ℕ Global)) (n : ℕ) → xs ≡ ys → n ≡ length ys → lists (take (n - 1) xs) ≡ take (length ys - 1) (lists ys)
-parts_but_last xs ys n same long = (λ i. lists (take (long i - 1) (same i))) ∙ sym (take-map (λ v. v.items) (length ys - 1) ys)
-
-pub short_parts : (xs ys : List (Vec ℕ Global)) (n : ℕ) → xs ≡ ys → n ≡ length ys → AreBelow24Bits (lists (take (n - 1) xs)) → AreBelow24Bits (take (length ys - 1) (lists ys))
-short_parts xs ys n same long below = subst AreBelow24Bits (parts_but_last xs ys n same long) below
-
--- a part that is not the last is as long among all
-within_all : (ps : List (List ℕ)) (k i : ℕ) → i < length (take k ps) → 2 ^ 24 ≤ length (slice_index_or (take k ps) i []) → (i < k) × (2 ^ 24 ≤ length (slice_index_or ps i []))
-within_all ps k i below long =
-    let inside : i < k = omega (arith, length-take k ps) in
-    (inside, subst (λ (p : List ℕ). 2 ^ 24 ≤ length p) (get_or-take k ps i [] inside) long)
-
-pub long_part : (xs ys : List (Vec ℕ Global)) (n : ℕ) → xs ≡ ys → n ≡ length ys
-    → (i : ℕ) × (i < length (take (n - 1) xs)) × (2 ^ 24 ≤ length (slice_index_or (lists (take (n - 1) xs)) i []))
-    → (i : ℕ) × (i < length (lists ys) - 1) × (2 ^ 24 ≤ length (slice_index_or (lists ys) i []))
-long_part xs ys n same long found =
-    let i = found.0 in
-    let e : lists (take (n - 1) xs) ≡ take (length ys - 1) (lists ys) = parts_but_last xs ys n same long in
-    let inside : i < length (take (length ys - 1) (lists ys)) = omega (arith, found.1, length-map (take (n - 1) xs) (λ v. v.items), ap length e) in
-    let is = within_all (lists ys) (length ys - 1) i inside (subst (λ (ps : List (List ℕ)). 2 ^ 24 ≤ length (slice_index_or ps i [])) e found.2) in
-    (i, omega (arith, is.0, length-map ys (λ v. v.items)), is.1)

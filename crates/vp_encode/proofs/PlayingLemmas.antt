@@ -67,9 +67,7 @@ rate_small None r s e =
     let usual : ℕ × ℕ = (25, 1) in
     let said : ℕ × ℕ = (r, s) in
     let same : usual ≡ said = cc in
-    let a : 25 ≡ r = ap (λ (p : ℕ × ℕ). p.0) same in
-    let b : 1 ≡ s = ap (λ (p : ℕ × ℕ). p.1) same in
-    (omega arith, omega arith)
+    subst (λ (p : ℕ × ℕ). (p.0 < 2 ^ 32) × (p.1 < 2 ^ 32)) same (omega arith, omega arith)
 rate_small (Some text) r s e =
     let before = before_first is_colon text in
     let after = after_first is_colon text in
@@ -257,17 +255,11 @@ calls_are_played_back limits e calls stands fit = record {
 
 -- ---- one call more
 
-same_size : (e : EncoderState) (source : Image) (result : Result Encoded EncodeFault) (next : EncoderState) → Leaves e source result next → next.dim ≡ e.dim
-same_size e source (Ok encoded) next left = left.frame.dim
-same_size e source (Err SourceSize) next left = ap (λ (x : EncoderState). x.dim) left
-same_size e source (Err TooLong) next left = left.dim
-same_size e source (Err Memory) next left = left.dim
-
-same_settings : (e : EncoderState) (source : Image) (result : Result Encoded EncodeFault) (next : EncoderState) → Leaves e source result next → next.settings ≡ e.settings
-same_settings e source (Ok encoded) next left = left.frame.settings
-same_settings e source (Err SourceSize) next left = ap (λ (x : EncoderState). x.settings) left
-same_settings e source (Err TooLong) next left = left.settings
-same_settings e source (Err Memory) next left = left.settings
+same_encoder : (e : EncoderState) (source : Image) (result : Result Encoded EncodeFault) (next : EncoderState) → Leaves e source result next → (next.dim ≡ e.dim) × (next.settings ≡ e.settings)
+same_encoder e source (Ok encoded) next left = (left.frame.dim, left.frame.settings)
+same_encoder e source (Err SourceSize) next left = (ap (λ (x : EncoderState). x.dim) left, ap (λ (x : EncoderState). x.settings) left)
+same_encoder e source (Err TooLong) next left = (left.dim, left.settings)
+same_encoder e source (Err Memory) next left = (left.dim, left.settings)
 
 one_more : (first : EncoderState) (calls : List Call) (e : EncoderState) (c : Call) (next : EncoderState) → AreCalls first calls e → Leaves e c.source c.result next
     → AreCalls first (calls ++ c ∷ []) next
@@ -278,9 +270,8 @@ pub stands_after : (e : EncoderState) (calls : List Call) (source : Image) (resu
     → Leaves e source result next → IsEncoderAfter next (calls ++ record { source = source; result = result } ∷ [])
 stands_after e calls source result next stands left =
     let first : Dim → Settings → Type 0 = λ dim settings. AreCalls (initial_encoder dim settings) (calls ++ record { source = source; result = result } ∷ []) next in
-    subst (λ (d : Dim). first d next.settings) (sym (same_size e source result next left))
-    (subst (λ (s : Settings). first e.dim s) (sym (same_settings e source result next left))
-    (one_more (initial_encoder e.dim e.settings) calls e (record { source = source; result = result }) next stands left))
+    let same = same_encoder e source result next left in
+    subst (λ (d : Dim). first d next.settings) (sym same.0) (subst (λ (s : Settings). first e.dim s) (sym same.1) (one_more (initial_encoder e.dim e.settings) calls e (record { source = source; result = result }) next stands left))
 
 pub stands_refused : (e : EncoderState) (calls : List Call) (source : Image) (error : PacketError) (fault : EncodeFault) (next : EncoderState) → IsEncoderAfter e calls
     → fault ≡ fault_of error → IsForgotten e next → IsEncoderAfter next (calls ++ record { source = source; result = Err fault } ∷ [])

@@ -52,8 +52,7 @@ source_y2 (Some r) version x own = elim (cases_Bool (is_intra x.modes.reference)
 plan_y2 : (c : CodedFrame) (f : FrameInfo) (p : Place) → IsPlanOf c f → Has c.macroblocks p → source_has_y2 (predictor_at f p) ≡ choice_has_y2 (coded_choice c p)
 unfolding predictor_at
 plan_y2 c f p plan inside =
-    let have = plan.told p inside in
-    (λ i. source_has_y2 (predictor_by f.references f.version (have.modes i) (have.motion i)))
+    (λ i. source_has_y2 (predictor_by f.references f.version (plan.maps.modes p inside i) (plan.maps.motion p inside i)))
     ∙ source_y2 f.references f.version (coded_choice c p) (λ none. plan.own none p inside)
 
 plan_tokens : (c : CodedFrame) (f : FrameInfo) (p : Place) (g : Grid Blocks) → IsPlanOf c f → Has c.macroblocks p
@@ -61,30 +60,21 @@ plan_tokens : (c : CodedFrame) (f : FrameInfo) (p : Place) (g : Grid Blocks) →
 unfolding tokens_read
 plan_tokens c f p g plan inside =
     let y2 = plan_y2 c f p plan inside in
-    let have = plan.told p inside in
-    sym (λ i. macroblock (plan.header i).probabilities.coefficients g p (y2 i) (have.modes i).skip)
+    sym (λ i. macroblock (plan.header i).probabilities.coefficients g p (y2 i) (plan.maps.modes p inside i).skip)
 
 -- ---- a row
-
-row_seen-none : (f : FrameInfo) (row : ℕ) (g : Grid Blocks) (s : State) → row_seen f row 0 g s ≡ (g, s)
-unfolding row_seen rows
-row_seen-none f row g s = refl
 
 row_seen-more : (f : FrameInfo) (row n : ℕ) (g : Grid Blocks) (s : State) → row_seen f row (n + 1) g s ≡ seen_read f (place row n) (row_seen f row n g s).0 (row_seen f row n g s).1
 unfolding row_seen rows bind
 row_seen-more f row n g s = rw add-one refl
 
-seen_given : (f : FrameInfo) (p : Place) (g : Grid Blocks) (s t : State) (x : Tokens) → tokens_read f p g s ≡ (x, t)
-    → seen_read f p g s ≡ (with_entry g p (blocks_of (source_has_y2 (predictor_at f p)) x), t)
-unfolding seen_read bind
-seen_given f p g s t x e = ap (λ (r : Tokens × State). (with_entry g p (blocks_of (source_has_y2 (predictor_at f p)) r.0), r.1)) e
-
 row_given : (f : FrameInfo) (row n : ℕ) (g k : Grid Blocks) (s t u : State) (x : Tokens) → row_seen f row n g s ≡ (k, t) → tokens_read f (place row n) k t ≡ (x, u)
     → row_seen f row (n + 1) g s ≡ (with_entry k (place row n) (blocks_of (source_has_y2 (predictor_at f (place row n))) x), u)
+unfolding seen_read bind
 row_given f row n g k s t u x before here =
     row_seen-more f row n g s
     ∙ ap (λ (r : Grid Blocks × State). seen_read f (place row n) r.0 r.1) before
-    ∙ seen_given f (place row n) k t u x here
+    ∙ ap (λ (r : Tokens × State). (with_entry k (place row n) (blocks_of (source_has_y2 (predictor_at f (place row n))) r.0), r.1)) here
 
 tokens_given : (f : FrameInfo) (row n : ℕ) (g k : Grid Blocks) (s t u : State) (x : Tokens) → row_seen f row n g s ≡ (k, t) → tokens_read f (place row n) k t ≡ (x, u)
     → row_tokens f row g s n ≡ x
@@ -93,13 +83,13 @@ tokens_given f row n g k s t u x before here =
     ap (λ (r : Grid Blocks × State). (tokens_read f (place row n) r.0 r.1).0) before ∙ ap (λ (r : Tokens × State). r.0) here
 
 pub token_row_none : (f : FrameInfo) (c : CodedFrame) (row : ℕ) (g : Grid Blocks) (contexts : Contexts) (e : Interval) → AreContextsAt g (place row 0) contexts → IsTokenRow f c row 0 g contexts e e
-unfolding write_all
+unfolding write_all row_seen rows
 token_row_none f c row g contexts e stands = record {
   seen = g;
   columns = refl;
   rows = refl;
   stands = stands;
-  written = record { bools = []; probabilities = probabilities-none; appended = refl; taken = λ s t r. row_seen-none f row g s ∙ (λ i. (g, r i)) };
+  written = record { bools = []; probabilities = probabilities-none; appended = refl; taken = λ s t r i. (g, r i) };
   tokens = λ s t r column never. absurd (omega arith);
 }
 
@@ -159,12 +149,12 @@ pub frame_none : (f : FrameInfo) (c : CodedFrame) (contexts : Contexts) (es : Li
     → ((i : ℕ) → i < length es → slice_index_or es i whole_interval ≡ whole_interval) → AreTokenRows f c 0 contexts es
 unfolding readings
 frame_none f c contexts es plan stands empty =
-    let columns : f.maps.modes.columns ≡ c.macroblocks.columns = plan.size.columns in
+    let columns : f.maps.modes.columns ≡ c.macroblocks.columns = plan.maps.columns in
     let none : List (List (Bool × ℕ)) = replicate (length es) [] in
     record {
       seen = none_seen f.maps.modes.columns f.maps.modes.rows;
       columns = columns;
-      rows = plan.size.rows;
+      rows = plan.maps.rows;
       stands = subst (λ (n : ℕ). AreContextsAt (none_seen n f.maps.modes.rows) (place 0 0) contexts) (sym columns) (stands f.maps.modes.rows);
       bools = none;
       count = length-replicate (length es) [];
@@ -209,10 +199,6 @@ parted bss k bs ss us within reads =
       h.2,
     )
 
-readings-more : (f : FrameInfo) (ps : List State) (row : ℕ) → readings f ps (row + 1) ≡ token_row f row (readings f ps row)
-unfolding readings
-readings-more f ps row = over-more row (token_row f) (nothing_read f ps)
-
 -- what a row leaves, where its partition k stood at t
 row_left : (f : FrameInfo) (row n k : ℕ) (g h : Grid Blocks) (ts : List State) (t u : State) → f.maps.modes.columns ≡ n → row % length ts ≡ k → left ts k ≡ t
     → row_seen f row n g t ≡ (h, u) → token_row f row (record { seen = g; rests = ts }) ≡ record { seen = h; rests = slice_set ts k u }
@@ -235,6 +221,7 @@ pub frame_next : (f : FrameInfo) (c : CodedFrame) (row k : ℕ) (before after : 
     → row % length es ≡ k → k < length es → e ≡ slice_index_or es k whole_interval
     → (made : AreTokenRows f c row before es) → IsTokenRow f c row c.macroblocks.columns made.seen after e new
     → AreTokenRows f c (row + 1) after (slice_set es k new)
+unfolding readings
 frame_next f c row k before after es e new plan at within own made last =
     let bs = last.written.bools in
     let inside : k < length made.bools = omega (arith, made.count) in
@@ -264,9 +251,9 @@ frame_next f c row k before after es e new plan at within own made last =
           let long : length ts ≡ length es = h.1.1 ∙ made.count in
           let here : left ts k ≡ h.0 = get_or-set_same us k h.0 (initial_state []) (omega (arith, length-set us k h.0)) in
           let u = left us k in
-          readings-more f ss row
+          over-more row (token_row f) (nothing_read f ss)
           ∙ ap (token_row f row) (made.taken ss ts h.1)
-          ∙ row_left f row c.macroblocks.columns k made.seen last.seen ts h.0 u plan.size.columns (ap (λ (n : ℕ). row % n) long ∙ at) here (last.written.taken h.0 u h.2)
+          ∙ row_left f row c.macroblocks.columns k made.seen last.seen ts h.0 u plan.maps.columns (ap (λ (n : ℕ). row % n) long ∙ at) here (last.written.taken h.0 u h.2)
           ∙ ap (λ (z : List State). record { seen = last.seen; rests = z }) (set_back us k h.0 (initial_state []) (omega (arith, length-set us k h.0)));
       tokens = λ ss us reads p below column.
           let h = parted made.bools k bs ss us inside reads in

@@ -28,8 +28,12 @@ nothing = record {
 }
 
 -- the choice for the macroblock at p
+abbrev pub choice_at : Grid Choice → Place → Choice
+choice_at g p = at nothing g p
+
+-- that of the frame
 abbrev pub coded_choice : CodedFrame → Place → Choice
-coded_choice c p = at nothing c.macroblocks p
+coded_choice c p = choice_at c.macroblocks p
 
 -- the motion that later macroblocks see: an intra macroblock has none
 abbrev pub saved_motion : Choice → MacroblockMotion
@@ -38,8 +42,8 @@ saved_motion m =
     else record { reference = m.modes.reference; mode = m.motion.mode; vectors = m.motion.vectors }
 
 -- the motion of all macroblocks
-abbrev pub motion_of : CodedFrame → Grid MacroblockMotion
-motion_of c = mapped saved_motion c.macroblocks
+abbrev pub saved_motions : Grid Choice → Grid MacroblockMotion
+saved_motions g = mapped saved_motion g
 
 -- whether a macroblock has a Y2 block (chapter 13)
 abbrev pub choice_has_y2 : Choice → Bool
@@ -54,7 +58,7 @@ AreModesSpelled c before = (p : Place) → Has c.macroblocks p → modes.AreWrit
 -- the vectors can be written, relative to those of the macroblocks above and to the left
 abbrev pub IsMotionSpelled : CodedFrame → Type 0
 IsMotionSpelled c = (p : Place) → Has c.macroblocks p → is_intra (coded_choice c p).modes.reference ≡ false
-    → motion.CanBeWritten (candidates (motion_of c) p (coded_choice c p).modes.reference c.header.biases)
+    → motion.CanBeWritten (candidates (saved_motions c.macroblocks) p (coded_choice c p).modes.reference c.header.biases)
     (coded_choice c p).motion
 
 -- the tokens can be written; a skipped macroblock has none

@@ -10,7 +10,7 @@ use Rattle.vp_base.specs.Grid.{Grid, Has}
 use Rattle.vp_head.specs.declared.fields.KeyTag.{KeyTag}
 use Rattle.vp_head.specs.declared.fields.Saved.{Saved}
 use Rattle.vp_head.specs.Saved.{kept_after}
-use Rattle.vp_decode.specs.MacroblockInfo.{modes_in, motion_in}
+use Rattle.vp_decode.specs.MacroblockInfo.{MacroblockInfo, modes_in, motion_in}
 use Rattle.vp_decode.specs.Frame.{tokens_of}
 use Rattle.vp_decode.specs.Step.{DecoderState, FrameContext, key_context, inter_context, context_of, ParsedPacket}
 use Rattle.vp_decode.specs.Step.{parsed, frame_info_of, first_part}
@@ -26,6 +26,15 @@ pub record HasFinalZero (bytes : List ℕ) : Type 0 where
   pub some : 0 < length bytes
   pub last : slice_index bytes (length bytes - 1) ≡ 0
 
+-- the maps have the frame's size, and its modes and motion at each place
+pub record AreMapsOf (c : CodedFrame) (m : MacroblockInfo) : Type 0 where
+  pub columns : m.modes.columns ≡ c.macroblocks.columns
+  pub rows : m.modes.rows ≡ c.macroblocks.rows
+  pub motion_columns : m.motion.columns ≡ c.macroblocks.columns
+  pub motion_rows : m.motion.rows ≡ c.macroblocks.rows
+  pub modes : (p : Place) → Has c.macroblocks p → modes_in m p ≡ (coded_choice c p).modes
+  pub motion : (p : Place) → Has c.macroblocks p → motion_in m p ≡ saved_motion (coded_choice c p)
+
 -- the parsed packet is shown, of version 0, has this context and the frame's header; its partitions give the frame's
 -- modes, motion and tokens at each place
 pub record HasContents (key : Option KeyTag) (context : FrameContext) (c : CodedFrame) (packet : List ℕ)
@@ -36,8 +45,7 @@ pub record HasContents (key : Option KeyTag) (context : FrameContext) (c : Coded
   pub context_is : o.context ≡ context
   pub header : o.header ≡ c.header
   pub saved : o.saved ≡ kept_after context.saved c.header
-  pub modes : (p : Place) → Has c.macroblocks p → modes_in (frame_info_of o).maps p ≡ (coded_choice c p).modes
-  pub motion : (p : Place) → Has c.macroblocks p → motion_in (frame_info_of o).maps p ≡ saved_motion (coded_choice c p)
+  pub maps : AreMapsOf c (frame_info_of o).maps
   pub tokens : (p : Place) → Has c.macroblocks p → tokens_of (frame_info_of o) (map initial_state o.partitions) p
       ≡ (coded_choice c p).tokens
   -- each partition ends with a byte of 0

@@ -1,13 +1,13 @@
 -- The bytes of a packet: tag, first partition and token partitions (RFC 6386, chapters 9.1, 9.5 and 19). The state of
 -- writing is inside the crate. Pinned by the tests `eight_partitions` and `flat_macroblock`.
-use Rattle.std.specs.Prelude.{◌≡◌, ◌≢◌, ◌<◌, ◌≤◌, ◌⊎◌, ◌*◌, ◌^◌, ◌+◌, ◌-◌, ◌/◌, ◌%◌, ℕ, Bool, true, false, List, []}
+use Rattle.std.specs.Prelude.{◌≡◌, ◌<◌, ◌≤◌, ◌⊎◌, ◌*◌, ◌^◌, ◌+◌, ◌-◌, ◌/◌, ◌%◌, ℕ, Bool, true, List, []}
 use Rattle.std.specs.Prelude.{◌∷◌, ◌++◌, length, map, slice_index_or, Option, Some, None, Ok}
 use Rattle.vp_bool.specs.Bools.{State, initial_state}
 use Rattle.vp_bool.specs.Reader.{Reader, ◌>>=◌, give, Reads}
 use Rattle.vp_bool.specs.Intervals.{Interval, whole_interval, interval_bytes}
 use Rattle.vp_bool.specs.Writing.{write_all, AreProbabilities, HasWritten, TakesBools, Writes}
 use Rattle.vp_base.specs.declared.place.Place.{Place}
-use Rattle.vp_base.specs.Grid.{Grid, Has, at, all as everywhere}
+use Rattle.vp_base.specs.Grid.{Grid, Has, all as everywhere}
 use Rattle.vp_head.specs.declared.fields.Tag.{Tag}
 use Rattle.vp_head.specs.declared.fields.KeyTag.{KeyTag}
 use Rattle.vp_head.specs.declared.fields.Header.{Header}
@@ -16,7 +16,9 @@ use Rattle.vp_head.specs.Header.{header}
 use Rattle.vp_head.specs.Saved.{kept_after}
 use Rattle.vp_head.specs.Spelled.{kept_before}
 use Rattle.vp_head.specs.Reference.{is_intra}
-use Rattle.vp_modes.specs.Entry.{Modes, plain}
+use Rattle.vp_modes.specs.Entry.{Modes}
+use Rattle.vp_modes.specs.Spelled.{AreWritableModes}
+use Rattle.vp_motion.specs.Vector.{MacroblockMotion}
 use Rattle.vp_motion.specs.Map.{intra}
 use Rattle.vp_tokens.specs.Blocks.{Blocks, no_blocks_read}
 use Rattle.vp_tokens.specs.Contexts.{Contexts, AreContextsAt}
@@ -24,52 +26,26 @@ use Rattle.vp_tokens.specs.Partitions.{cut_of}
 use Rattle.vp_decode.specs.MacroblockInfo.{MacroblockInfo, modes_in, motion_in, place, maps_read}
 use Rattle.vp_decode.specs.Frame.{FrameInfo, row_seen, row_tokens, readings, tokens_of}
 use Rattle.vp_decode.specs.Step.{count_of}
-use Rattle.vp_choose.specs.declared.frame.Choice.{Choice}
 use Rattle.vp_encode.specs.declared.coded_frame.CodedFrame.{CodedFrame}
-use Rattle.vp_encode.specs.CodedFrame.{coded_choice, saved_motion}
+use Rattle.vp_encode.specs.CodedFrame.{coded_choice}
+use Rattle.vp_encode.specs.FrameChoices.{IsBeforeInRaster, IsMotionBefore}
+use Rattle.vp_encode.specs.PacketContents.{AreMapsOf}
 
 -- ---- modes and motion
 
--- the info has the frame's size
-pub record AreOf (c : CodedFrame) (m : MacroblockInfo) : Type 0 where
+-- these modes and this motion of all macroblocks
+abbrev pub maps_of : Grid Modes → Grid MacroblockMotion → MacroblockInfo
+maps_of modes motion = record { modes = modes; motion = motion }
+
+-- the macroblocks before p are written; those from p on can be written, and have no motion yet
+pub record AreWrittenBefore (c : CodedFrame) (p : Place) (m : MacroblockInfo) : Type 0 where
   pub columns : m.modes.columns ≡ c.macroblocks.columns
   pub rows : m.modes.rows ≡ c.macroblocks.rows
-  pub motion_columns : m.motion.columns ≡ c.macroblocks.columns
-  pub motion_rows : m.motion.rows ≡ c.macroblocks.rows
-
--- the info at p is that of the frame's macroblock
-pub record Have (c : CodedFrame) (p : Place) (m : MacroblockInfo) : Type 0 where
-  pub modes : modes_in m p ≡ (coded_choice c p).modes
-  pub motion : motion_in m p ≡ saved_motion (coded_choice c p)
-
--- the info of m and n is equal at p
-pub record AreMapsEqualAt (p : Place) (m n : MacroblockInfo) : Type 0 where
-  pub modes : modes_in m p ≡ modes_in n p
-  pub motion : motion_in m p ≡ motion_in n p
-
--- at p the info is updated with choice x; elsewhere it is unchanged
-pub record AreMapsUpdated (p : Place) (x : Choice) (old new : MacroblockInfo) : Type 0 where
-  pub columns : new.modes.columns ≡ old.modes.columns
-  pub rows : new.modes.rows ≡ old.modes.rows
-  pub motion_columns : new.motion.columns ≡ old.motion.columns
-  pub motion_rows : new.motion.rows ≡ old.motion.rows
-  pub modes : modes_in new p ≡ x.modes
-  pub unmoved : is_intra x.modes.reference ≡ true → motion_in new p ≡ motion_in old p
-  pub moved : is_intra x.modes.reference ≡ false → motion_in new p ≡ saved_motion x
-  pub elsewhere : (q : Place) → q ≢ p → AreMapsEqualAt q new old
-
--- the rows above `row` are written; from it on the modes are those before the frame, and there is no motion
-pub record AreRowsWritten (c : CodedFrame) (before : Grid Modes) (row : ℕ) (m : MacroblockInfo) : Type 0 where
-  pub size : AreOf c m
-  pub told : (p : Place) → p.row < row → p.column < c.macroblocks.columns → Have c p m
-  pub ahead : (p : Place) → row ≤ p.row → modes_in m p ≡ at plain before p
-  pub unmoved : (p : Place) → row ≤ p.row → motion_in m p ≡ intra
-
--- the first n macroblocks of a row are written, and all others are unchanged
-pub record IsRowWritten (c : CodedFrame) (row n : ℕ) (old new : MacroblockInfo) : Type 0 where
-  pub size : AreOf c new
-  pub told : (column : ℕ) → column < n → Have c (place row column) new
-  pub others : (p : Place) → (p.row ≡ row → n ≤ p.column) → AreMapsEqualAt p new old
+  pub motion : IsMotionBefore c.macroblocks p m.motion
+  pub modes : (q : Place) → Has c.macroblocks q → IsBeforeInRaster q p → modes_in m q ≡ (coded_choice c q).modes
+  pub ahead : (q : Place) → Has c.macroblocks q → ¬ IsBeforeInRaster q p
+      → AreWritableModes c.header m.modes q (coded_choice c q).modes
+  pub unmoved : (q : Place) → ¬ IsBeforeInRaster q p → motion_in m q ≡ intra
 
 -- ---- the first partition
 
@@ -96,16 +72,14 @@ pub record IsFirst (kept : Saved) (tag : Tag) (before : MacroblockInfo) (c : Cod
   pub maps : MacroblockInfo
   pub taken : TakesBools bools (first_read kept tag before) (give
       ((c.header, kept_after (kept_before kept tag) c.header), maps))
-  pub size : AreOf c maps
-  pub told : (p : Place) → Has c.macroblocks p → Have c p maps
+  pub are : AreMapsOf c maps
 
 -- ---- the token partitions
 
 -- f has the frame's header, modes and motion; without references all macroblocks are intra
 pub record IsPlanOf (c : CodedFrame) (f : FrameInfo) : Type 0 where
   pub header : f.header ≡ c.header
-  pub size : AreOf c f.maps
-  pub told : (p : Place) → Has c.macroblocks p → Have c p f.maps
+  pub maps : AreMapsOf c f.maps
   pub own : f.references ≡ None → (p : Place) → Has c.macroblocks p → is_intra (coded_choice c p).modes.reference ≡ true
 
 -- the blocks before the first macroblock
@@ -201,10 +175,12 @@ pub record IsPacket (key : Option KeyTag) (saved : Saved) (before : MacroblockIn
 
 -- ---- frames that no packet can carry
 
--- a partition is too long for its size field: 19 bits for the first one (chapter 9.1), 24 bits for a token partition
--- other than the last (chapter 9.5)
+-- a token partition other than the last is too long for its size field of 24 bits (chapter 9.5)
+abbrev pub HasLongTokenPart : List (List ℕ) → Type 0
+HasLongTokenPart parts = (i : ℕ) × (i < length parts - 1) × (2 ^ 24 ≤ length (slice_index_or parts i []))
+
+-- the first partition of the frame is too long for its size field of 19 bits (chapter 9.1), or a token partition is
 abbrev pub HasLongPartition : Option KeyTag → Saved → MacroblockInfo → CodedFrame → Type 0
 HasLongPartition key saved before c =
     ((first : List ℕ) × IsFirst saved (encoder_tag key 0) before c first × (2 ^ 19 ≤ length first))
-    ⊎ ((parts : List (List ℕ)) × AreTokenPartitions c parts × ((i : ℕ) × (i < length parts - 1)
-    × (2 ^ 24 ≤ length (slice_index_or parts i []))))
+    ⊎ ((parts : List (List ℕ)) × AreTokenPartitions c parts × HasLongTokenPart parts)

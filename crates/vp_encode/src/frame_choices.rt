@@ -80,13 +80,9 @@ impl FrameChoices {
     {
         let choice = chooser.choose(&mut self.picture, &self.motion, place);
         self.chosen.set(place, choice);
-        let reference = choice.modes.reference;
-        if reference.is_intra() {
-            return;
-        }
+        // The motion of an intra macroblock is zero, as that of one that isn't chosen yet.
         let motion = &choice.motion;
-        self.motion
-            .set(place, reference, motion.mode, &motion.vectors);
+        self.motion.set(place, choice.modes.reference, motion.mode, &motion.vectors);
     }
 
     /// Chooses a row of macroblocks.

@@ -11,7 +11,7 @@ mod frame;
 mod frame_choices;
 mod header;
 mod laws;
-mod macroblock_info;
+mod modes_and_motion;
 mod packet;
 mod report;
 mod settings;

@@ -1,20 +1,19 @@
 //! Writes a frame as a packet.
 
-ghost use Rattle.std.specs.Prelude.{◌≡◌, ◌≤◌, ◌<◌, ◌^◌, ◌-◌, ℕ, true, false, length, take, slice_index_or, [], IfOk};
-ghost use Rattle.std.specs.Prelude.{IfErr, is_some};
+ghost use Rattle.std.specs.Prelude.{◌≡◌, ◌≤◌, ◌<◌, ◌^◌, ◌-◌, true, false, length, take, IfOk, IfErr, is_some};
 ghost use Rattle.vp_base.specs.Image.{macroblocks};
 ghost use Rattle.vp_modes.specs.Map.{of_segments};
 ghost use Rattle.vp_tokens.specs.Partitions.{lists, AreBelow24Bits};
 ghost use Rattle.vp_decode.specs.Step.{key_context, maps_before};
 ghost use Rattle.vp_encode.specs.CodedFrame.{CanBeEncoded};
 ghost use Rattle.vp_encode.specs.PacketContents.{key_tag, IsKeyFramePacket, IsInterFramePacket};
-ghost use Rattle.vp_encode.specs.Written.{IsFirst, IsPutTogether, IsPacket, HasLongPartition};
+ghost use Rattle.vp_encode.specs.Written.{IsFirst, IsPutTogether, IsPacket, HasLongTokenPart, HasLongPartition};
 ghost use Rattle.vp_encode.specs.Written.{encoder_tag, kept_by};
 ghost use Rattle.vp_encode.specs.declared.fault.PacketError.{PacketError};
 
 use crate::coded_frame::CodedFrame;
 use crate::fault::PacketError;
-use crate::macroblock_info::MacroblockInfo;
+use crate::modes_and_motion::write_modes_and_motion;
 use crate::tag::put_tag;
 use crate::tokens::{finish, write_tokens};
 use std::alloc::{AllocError, Global};
@@ -103,11 +102,7 @@ fn write_packet(
         return Err(PacketError::TooLong);
     }
     let parts = write_tokens(alloc, coded)?;
-    if !are_short(&parts[..parts.len() - 1]) {
-        return Err(PacketError::TooLong);
-    }
-    let bytes = put_together(alloc, key, &first, &parts)?;
-    Ok(ByteList::from_vec(bytes))
+    put_together(alloc, key, &first, &parts)
 }
 
 /// Returns the first partition: the header, the modes and the motion.
@@ -132,25 +127,23 @@ fn write_first(
         first_partition: 0,
         key,
     };
-    let motion = VectorMap::new(alloc, dim)?;
-    let mut maps = MacroblockInfo {
-        modes: before,
-        motion,
-    };
+    let mut modes = before;
+    // The vectors are written as a decoder reads them, into a map of their own: `coded` may be of any caller.
+    let mut motion = VectorMap::new(alloc, dim)?;
     let mut encoder = BoolEncoder::new(alloc);
     coded.header.write(saved, &tag, &mut encoder)?;
-    maps.write(coded, &mut encoder)?;
+    write_modes_and_motion(coded, &mut modes, &mut motion, &mut encoder)?;
     let bytes = finish(encoder)?;
     Ok(bytes)
 }
 
-/// Returns whether the size of each given partition (all but the last) fits in 24 bits.
+/// Returns whether the size of each token partition but the last fits in 24 bits.
 fn are_short(parts: &[Vec<u8>]) -> bool
-    ensures short { result ≡ true → AreBelow24Bits (lists parts.now) }
-    ensures long { result ≡ false → (i : ℕ) × (i < length parts.now)
-        × (2 ^ 24 ≤ length (slice_index_or (lists parts.now) i [])) }
+    requires some { 0 < length parts.now }
+    ensures short { result ≡ true → AreBelow24Bits (take (length parts.now - 1) (lists parts.now)) }
+    ensures long { result ≡ false → HasLongTokenPart (lists parts.now) }
 {
-    for part in parts {
+    for part in &parts[..parts.len() - 1] {
         if part.len() > MOST_PART {
             return false;
         }
@@ -164,17 +157,20 @@ fn put_together(
     key: Option<KeyTag>,
     first: &[u8],
     parts: &[Vec<u8>],
-) -> Result<Vec<u8>, AllocError>
+) -> Result<ByteList, PacketError>
     requires first { length first.now < 2 ^ 19 }
     requires some { 0 < length parts.now }
     requires few { length parts.now ≤ 8 }
-    requires sizes { AreBelow24Bits (take (length parts.now - 1) (lists parts.now)) }
-    ensures { IfOk result (λ v. IsPutTogether key first.now (lists parts.now) v.items) }
+    ensures together { IfOk result (λ v. IsPutTogether key first.now (lists parts.now) v) }
+    ensures too_long { IfErr result (λ e. e ≡ PacketError.TooLong → HasLongTokenPart (lists parts.now)) }
 {
+    if !are_short(parts) {
+        return Err(PacketError::TooLong);
+    }
     let rest = Partitions::put(alloc, parts)?;
     let mut bytes = Vec::new(alloc);
     put_tag(key, first.len() as u32, &mut bytes)?;
     bytes.extend_from_slice(first)?;
     bytes.extend_from_slice(&rest)?;
-    Ok(bytes)
+    Ok(ByteList::from_vec(bytes))
 }

@@ -1,4 +1,4 @@
-//! Pads the source to whole macroblocks.
+//! Extends the source to whole macroblocks.
 
 ghost use Rattle.std.specs.Prelude.{◌≡◌, ◌<◌, IfOk};
 ghost use Rattle.vp_base.specs.Image.{plane_of, with_plane};
@@ -8,7 +8,8 @@ ghost use Rattle.vp_encode.specs.Continued.{ExtendsPlane, row_continued};
 use std::alloc::{AllocError, Global};
 use vp_base::{Picture, Plane};
 
-/// Writes row `y` of plane `k`: that row of the source, or its last row below it, extended by its last pixel.
+/// Writes row `y` of plane `k`: row `y` of the source, or its last shown row if `y` is below that, extended by its last
+/// pixel.
 fn continue_row(
     source: &Plane,
     width: usize,

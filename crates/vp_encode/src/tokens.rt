@@ -8,15 +8,28 @@ ghost use Rattle.vp_tokens.specs.Contexts.{AreContextsAt};
 ghost use Rattle.vp_tokens.specs.Partitions.{lists};
 ghost use Rattle.vp_decode.specs.MacroblockInfo.{place};
 ghost use Rattle.vp_decode.specs.Frame.{FrameInfo};
-ghost use Rattle.vp_decode.specs.Step.{count_of};
-ghost use Rattle.vp_encode.specs.CodedFrame.{AreTokensSpelled};
+ghost use Rattle.vp_encode.specs.CodedFrame.{AreTokensSpelled, choice_has_y2};
 ghost use Rattle.vp_encode.specs.Written.{IsPlanOf, IsTokenRow, AreTokenRows, none_seen, finished, AreTokenPartitions};
 
-use crate::coded_frame::{CodedFrame, has_y2};
+use crate::coded_frame::CodedFrame;
 use std::alloc::{AllocError, Global};
 use vp_base::Place;
 use vp_bool::BoolEncoder;
+use vp_choose::Choice;
+use vp_decode::partition_count;
 use vp_tokens::{Contexts, write_macroblock};
+
+/// Returns whether a macroblock has a Y2 block: not with B_PRED or split vectors (RFC 6386, chapter 13). A choice has no
+/// `Predictor`, whose `has_y2` says the same: that needs the reference frames, which aren't needed to write.
+fn has_y2(macroblock: &Choice) -> bool
+    ensures { result ≡ choice_has_y2 macroblock.now }
+{
+    if macroblock.modes.reference.is_intra() {
+        !macroblock.modes.luma.is_by_subblocks()
+    } else {
+        !macroblock.motion.mode.is_split()
+    }
+}
 
 /// Writes the tokens of a row of macroblocks into the row's partition.
 fn write_row(
@@ -110,20 +123,13 @@ fn finish_all(alloc: Global, encoders: Vec<BoolEncoder>) -> Result<Vec<Vec<u8>>,
 pub(crate) fn write_tokens(alloc: Global, coded: &CodedFrame) -> Result<Vec<Vec<u8>>, AllocError>
     requires few { coded.now.header.log2_partitions ≤ 3 }
     requires spelled { AreTokensSpelled coded.now }
-    ensures { IfOk result (λ v. AreTokenPartitions coded.now (lists v.items)) }
+    ensures parts { IfOk result (λ v. AreTokenPartitions coded.now (lists v.items)) }
+    ensures some { IfOk result (λ v. 0 < length v.items) }
+    ensures few { IfOk result (λ v. length v.items ≤ 8) }
 {
     let mut contexts = Contexts::new(alloc, coded.macroblocks.columns())?;
     let mut encoders = new_encoders(alloc, partition_count(coded.header.log2_partitions))?;
     write_rows(coded, &mut contexts, &mut encoders)?;
     let parts = finish_all(alloc, encoders)?;
     Ok(parts)
-}
-
-/// Returns the number of token partitions.
-fn partition_count(log2: u8) -> usize
-    requires { log2 ≤ 3 }
-    ensures value { result ≡ count_of log2 }
-    ensures some { 0 < result }
-{
-    1 << log2
 }

@@ -9,7 +9,7 @@ use Rattle.vp_base.specs.Grid.{Grid, Has, at, entry, repeated, all}
 use Rattle.vp_base.proofs.GridLemmas.{number_fits}
 use Rattle.vp_choose.specs.declared.frame.Choice.{Choice}
 use Rattle.vp_encode.specs.declared.coded_frame.CodedFrame.{CodedFrame}
-use Rattle.vp_encode.specs.CodedFrame.{nothing, coded_choice, motion_of, choice_has_y2, CanBeEncoded}
+use Rattle.vp_encode.specs.CodedFrame.{nothing, coded_choice, saved_motions, choice_has_y2, CanBeEncoded}
 use Rattle.vp_head.specs.declared.fields.Header.{Header}
 use Rattle.vp_head.specs.Reference.{is_intra}
 use Rattle.vp_head.specs.Saved.{defaults}
@@ -59,7 +59,7 @@ flat_told columns rows key before h m g grid spelled told none still =
     record {
       header = spelled;
       modes = λ p inside. rw (at_p p inside) (told p (column p inside) (row p inside));
-      motion = λ p inside away. let away_too = rw (at_p p inside) at away in rw (at_p p inside) (still away_too (candidates (motion_of coded) p m.modes.reference h.biases));
+      motion = λ p inside away. let away_too = rw (at_p p inside) at away in rw (at_p p inside) (still away_too (candidates (saved_motions g) p m.modes.reference h.biases));
       tokens = record {
         blocks = λ p inside. rw (at_p p inside, none) (none_spelled (choice_has_y2 m));
         skipped = λ p inside e. rw (at_p p inside) none;

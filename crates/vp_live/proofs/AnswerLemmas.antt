@@ -19,7 +19,7 @@ use Rattle.vp_encode.specs.declared.report.EncodeAllFault.TheVariants as fault
 use Rattle.vp_encode.specs.Encoder.{EncoderState, AreAllowed}
 use Rattle.vp_encode.specs.Encoded.{EncodedFrame}
 use Rattle.vp_encode.specs.File.{Work, IsDone, AreFramesOf, IsWrittenFurther, encode_fault_of, frames_report, progress_of_frames}
-use Rattle.vp_encode.proofs.FileLemmas.{head_answer, settings_answer, settings_refused, told_none}
+use Rattle.vp_encode.proofs.FileLemmas.{head_end, head_device, head_quiet, settings_refused, told_none}
 use Rattle.vp_live.specs.Live.{IsLiveOver, IsLiveEnded, IsLiveReported, live_text}
 use Rattle.vp_live.specs.Progress.{LiveProgress, IsLiveAt, EndsLive}
 use Rattle.vp_live.proofs.LiveLemmas.{head_ends}
@@ -47,28 +47,40 @@ live_ends limits settings encoder run after told told' head before mid left writ
 
 module _ {R W : Type 0} (remaining : R → Option (List ℕ)) (contents : W → Option (List ℕ)) (limits : Limits) (settings : Settings)
     (result : Result EncodeReport EncodeAllFault) (reader reader' : Counted R) where
+  -- by a fault
+  pub ended_over : (writer writer' : Counted W) (told told' : List EncodedSoFar → Type 0) (f : EncodeAllFault) → result ≡ Err f
+      → (frames : List EncodedFrame) → IsWrittenFurther told told' (progress_of_frames frames)
+      → (file : List ℕ) → Consumes (counted_remaining remaining reader) (counted_remaining remaining reader') file
+      → AreFramesOf limits settings file frames
+      → IsLiveEnded (length frames) limits settings f file (counted_contents contents writer) (counted_contents contents writer')
+      → (f ≡ fault.Torn → IsAtEnd (counted_remaining remaining reader'))
+      → (f ≡ fault.Device → HasFailed (counted_failures reader) (counted_failures reader') ⊎ HasFailed (counted_failures writer) (counted_failures writer'))
+      → (f ≢ fault.Device → (counted_failures reader' ≡ counted_failures reader) × (counted_failures writer' ≡ counted_failures writer))
+      → IsLiveOver remaining contents limits settings result reader reader' writer writer' told told'
+  ended_over writer writer' told told' f is frames further file consumed are ended torn device quiet = record {
+    frames = frames;
+    file = file;
+    consumed = consumed;
+    encoded = are;
+    reported = rw is tt;
+    answer = rw is ended;
+    told_further = further;
+    end = rw is tt;
+    torn = λ e. torn cc;
+    device = λ e. device cc;
+    quiet = λ n. quiet (λ e. n (is ∙ ap Err e));
+  }
+
   -- at the head's line
   pub head_over : {A : Type 0} (writer : Counted W) (told : List EncodedSoFar → Type 0) (f : SourceFault) → result ≡ Err (encode_fault_of f)
       → Fails (file_head limits.pixels) f (counted_remaining remaining reader) (counted_remaining remaining reader')
       → (let r : Result A SourceFault = Err f in r ≡ Err source.Device → HasFailed (counted_failures reader) (counted_failures reader'))
       → (let r : Result A SourceFault = Err f in r ≢ Err source.Device → counted_failures reader' ≡ counted_failures reader)
       → IsLiveOver remaining contents limits settings result reader reader' writer writer told told
-  head_over {A = A} writer told f is fails device quiet =
-      let k = head_answer remaining contents limits settings result reader reader' {A = A} writer f is fails device quiet in
+  head_over writer told f is fails device quiet =
       let t = head_ends limits settings f (counted_remaining remaining reader) (counted_remaining remaining reader') fails in
-      record {
-        frames = [];
-        file = t.0;
-        consumed = t.1;
-        answer = rw is (t.2 (counted_contents contents writer));
-        encoded = inl refl;
-        reported = rw is tt;
-        told_further = told_none told;
-        end = k.end;
-        torn = k.torn;
-        device = k.device;
-        quiet = k.quiet;
-      }
+      ended_over writer writer told told (encode_fault_of f) is [] (told_none told) t.0 t.1 (inl refl) (t.2 (counted_contents contents writer))
+      (head_end limits.pixels f _ _ fails) (λ d. inl (head_device f _ _ device d)) (λ n. (head_quiet f _ _ quiet n, refl))
 
   -- at the settings
   pub settings_over : (writer : Counted W) (told : List EncodedSoFar → Type 0) (head : Head) → result ≡ Err fault.Settings
@@ -77,20 +89,8 @@ module _ {R W : Type 0} (remaining : R → Option (List ℕ)) (contents : W → 
       → IsLiveOver remaining contents limits settings result reader reader' writer writer told told
   settings_over writer told head is s refused quiet =
       let r = settings_refused limits settings head (counted_remaining remaining reader) (counted_remaining remaining reader') (counted_contents contents writer) s refused in
-      let k = settings_answer remaining contents limits settings result reader reader' writer is s.taken s.consumed r quiet in
-      record {
-        frames = [];
-        file = s.taken;
-        consumed = s.consumed;
-        answer = rw is (inl (inr (inl (refl, r.0, r.1, r.2)), refl, refl));
-        encoded = inl refl;
-        reported = rw is tt;
-        told_further = told_none told;
-        end = k.end;
-        torn = k.torn;
-        device = k.device;
-        quiet = k.quiet;
-      }
+      ended_over writer writer told told fault.Settings is [] (told_none told) s.taken s.consumed (inl refl) (inl (inr (inl (refl, r.0, r.1, r.2)), refl, refl))
+      (λ e. cc) (λ e. cc) (λ n. (quiet, refl))
 
   -- at a write of the head
   pub write_over : (writer writer' : Counted W) (told : List EncodedSoFar → Type 0) (head : Head) (encoder : EncoderState) → result ≡ Err fault.Device
@@ -101,48 +101,9 @@ module _ {R W : Type 0} (remaining : R → Option (List ℕ)) (contents : W → 
       → IsLiveOver remaining contents limits settings result reader reader' writer writer' told told
   write_over writer writer' told head encoder is s begun front failed =
       let w : Work = record { head = head; frames = []; encoder = encoder; rest = [] } in
-      let B : List ℕ → Type 0 = λ b. IsDone limits settings b w in
-      record {
-        frames = [];
-        file = s.taken;
-        consumed = s.consumed;
-        answer = rw is (inr (inr (refl, inl (w, (subst B (append-nil s.taken) (begun.done []), refl), refl, front))));
-        encoded = inl refl;
-        reported = rw is tt;
-        told_further = told_none told;
-        end = rw is tt;
-        torn = λ e. cc;
-        device = λ e. inr failed;
-        quiet = λ n. absurd (n is);
-      }
-
-  -- behind the head
-  pub ended_over : {A : Type 0} (writer writer' : Counted W) (told told' : List EncodedSoFar → Type 0) (f : EncodeAllFault) → result ≡ Err f
-      → (frames : List EncodedFrame) → IsWrittenFurther told told' (progress_of_frames frames)
-      → (file : List ℕ) → Consumes (counted_remaining remaining reader) (counted_remaining remaining reader') file
-      → AreFramesOf limits settings file frames
-      → IsLiveEnded (length frames) limits settings f file (counted_contents contents writer) (counted_contents contents writer')
-      → (reads writes : ℕ) → reads ≡ counted_failures reader → writes ≡ counted_failures writer
-      → (let r : Result A EncodeAllFault = Err f in r ≡ Err fault.Torn → IsAtEnd (counted_remaining remaining reader'))
-      → (let r : Result A EncodeAllFault = Err f in r ≡ Err fault.Device → HasFailed reads (counted_failures reader') ⊎ HasFailed writes (counted_failures writer'))
-      → (let r : Result A EncodeAllFault = Err f in r ≢ Err fault.Device → (counted_failures reader' ≡ reads) × (counted_failures writer' ≡ writes))
-      → IsLiveOver remaining contents limits settings result reader reader' writer writer' told told'
-  ended_over {A = A} writer writer' told told' f is frames further file consumed are ended reads writes read written torn device quiet =
-      let F : ℕ → Type 0 = λ n. HasFailed n (counted_failures reader') ⊎ HasFailed writes (counted_failures writer') in
-      let G : ℕ → Type 0 = λ n. HasFailed (counted_failures reader) (counted_failures reader') ⊎ HasFailed n (counted_failures writer') in
-      record {
-        frames = frames;
-        file = file;
-        consumed = consumed;
-        encoded = are;
-        reported = rw is tt;
-        answer = rw is ended;
-        told_further = further;
-        end = rw is tt;
-        torn = λ e. torn cc;
-        device = λ e. subst G written (subst F read (device cc));
-        quiet = λ n. let q = quiet (λ e. n cc) in (q.0 ∙ read, q.1 ∙ written);
-      }
+      let done : IsDone limits settings s.taken w = subst (λ (b : List ℕ). IsDone limits settings b w) (append-nil s.taken) (begun.done []) in
+      ended_over writer writer' told told fault.Device is [] (told_none told) s.taken s.consumed (inl refl) (inr (inr (refl, inl (w, (done, refl), refl, front))))
+      (λ e. cc) (λ e. inr failed) (λ n. absurd (n refl))
 
   -- at the source's end
   pub reported_over : (writer writer' : Counted W) (told told' : List EncodedSoFar → Type 0) (report : EncodeReport) → result ≡ Ok report

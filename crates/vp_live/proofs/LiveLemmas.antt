@@ -20,25 +20,15 @@ use Rattle.vp_encode.specs.declared.settings.Settings.{Settings}
 use Rattle.vp_encode.specs.declared.report.EncodeAllFault.{EncodeAllFault}
 use Rattle.vp_encode.specs.declared.report.EncodeAllFault.TheVariants as fault
 use Rattle.vp_encode.specs.Encoder.{EncoderState, AreAllowed}
-use Rattle.vp_encode.specs.Encoded.{EncodedFrame, IsEncoded, AreEncoded, initial_encoder, packet_length, error_of}
+use Rattle.vp_encode.specs.Encoded.{EncodedFrame, initial_encoder, packet_length, error_of}
 use Rattle.vp_encode.specs.Pictures.{IsPicture, BeginWith}
 use Rattle.vp_encode.specs.File.{Work, IsDone, HasDone, HasOneMore, AreFramesOf, source_of, encode_fault_of, frames_report, so_far_of}
 use Rattle.vp_live.specs.Live.{IsRefused, IsHeadFault, IsNextFault, IsLiveEnded, IsLiveReported, live_text, live_file}
 use Rattle.vp_live.specs.Progress.{LiveProgress, IsMade, IsCounted, IsLiveAt, frames_text, report_so_far, so_far}
-use Rattle.vp_encode.proofs.FileLemmas.{within_more}
+use Rattle.vp_encode.proofs.FileLemmas.{begins_more, encoded_more, within_more}
 use Rattle.vp_live.proofs.TextLemmas.{written_file}
 
 -- ---- one more picture
-
-begins_more : (w h : ℕ) (bytes : List ℕ) (ps : List Image) (mid : List ℕ) (p : Image) (rest : List ℕ)
-    → BeginWith w h bytes ps mid → IsPicture w h p → next_of w h mid ≡ Ok (Some (i420 p, rest)) → BeginWith w h bytes (ps ++ p ∷ []) rest
-begins_more w h bytes [] mid p rest e is next = (rest, is, ap (next_of w h) e ∙ next, refl)
-begins_more w h bytes (q ∷ ps) mid p rest b is next = (b.0, b.1, b.2, begins_more w h b.0 ps mid p rest b.3 is next)
-
-encoded_more : (e : EncoderState) (fs : List EncodedFrame) (mid : EncoderState) (f : EncodedFrame) (last : EncoderState)
-    → AreEncoded e fs mid → IsEncoded mid f last → AreEncoded e (fs ++ f ∷ []) last
-encoded_more e [] mid f last is h = let P : EncoderState → Type 0 = λ x. IsEncoded x f last in (last, subst P is h, refl)
-encoded_more e (g ∷ fs) mid f last r h = (r.0, r.1, encoded_more r.0 fs mid f last r.2 h)
 
 -- before the first picture
 pub at_start : (settings : Settings) (head : Head) (line : List ℕ) (dim : Dim) (run : LiveProgress) → AreAllowed settings → dim.w ≡ head.w → dim.h ≡ head.h
@@ -78,8 +68,7 @@ at_more settings head line bytes taken frames old new p f h is next c =
           let B : List ℕ → Type 0 = λ b. IsDone old.limits settings b w in
           let L : Limits → Type 0 = λ l. IsDone l settings ((line ++ (bytes ++ taken)) ++ rest) w in
           let Q : List Image → Type 0 = λ ps. BeginWith head.w head.h d.body ps rest in
-          let many : length (frames ++ f ∷ []) ≤ old.limits.packets =
-          let room = c.made.room in let same = h.frames_are in omega (arith, length-append frames (f ∷ [])) in
+          let many : length (frames ++ f ∷ []) ≤ old.limits.packets = omega (arith, c.made.room, h.frames_are, length-append frames (f ∷ [])) in
           let group : (line ++ bytes) ++ (taken ++ rest) ≡ (line ++ (bytes ++ taken)) ++ rest =
           sym (append_assoc (line ++ bytes) taken rest) ∙ ap (λ b. b ++ rest) (append_assoc line bytes taken) in
           subst L (sym c.limits) (subst B group (record {
@@ -94,7 +83,7 @@ at_more settings head line bytes taken frames old new p f h is next c =
             few = many;
             small = All-push P frames f d.small c.made.small;
           }));
-      frames_are = let more = c.frames in let same = h.frames_are in omega (arith, length-append frames (f ∷ []));
+      frames_are = omega (arith, length-append frames (f ∷ []));
       bytes_are = c.bytes ∙ (ap (λ n. n + packet_length f) h.bytes_are ∙ sym (sum_by_push packet_length frames f));
       error_is = c.error ∙ (ap (λ n. n + error_of f) h.error_is ∙ sym (sum_by_push error_of frames f));
     }
@@ -106,7 +95,7 @@ at_first settings head line run h = let B : List ℕ → Type 0 = λ b. IsLiveAt
 -- ---- the number of frames, and their report
 
 pub counted_more : (old new : LiveProgress) (p : Image) (f : EncodedFrame) (frames : List EncodedFrame) → IsCounted old p f new → old.frames ≡ length frames → new.frames ≡ length (frames ++ f ∷ [])
-counted_more old new p f frames c same = let more = c.frames in omega (arith, length-append frames (f ∷ []))
+counted_more old new p f frames c same = omega (arith, length-append frames (f ∷ []))
 
 pub reported_at : (settings : Settings) (head : Head) (bytes : List ℕ) (frames : List EncodedFrame) (run : LiveProgress) → IsLiveAt settings head bytes frames run
     → report_so_far run ≡ frames_report frames
@@ -121,7 +110,7 @@ none_yet n most none = omega arith
 
 pub few_more : (limits : Limits) (old new : LiveProgress) (p : Image) (f : EncodedFrame) → old.limits ≡ limits → IsCounted old p f new → new.frames ≤ limits.packets
 few_more limits old new p f same c =
-    let room = c.made.room in let more = c.frames in let most = ap (λ (l : Limits). l.packets) same in omega arith
+    let most = ap (λ (l : Limits). l.packets) same in omega (arith, c.made.room)
 
 abbrev each : Head → ℕ
 each h = 1025 + i420_length h.w h.h
@@ -137,14 +126,11 @@ within_next head now old mid new run next p f same counted before more =
 -- what a source that failed proves of the bytes that it took
 fails_at : {A : Type 0} (read : List ℕ → Result A SourceFault) (f : SourceFault) (before after : Option (List ℕ)) → (f ≢ source.Memory → Fails read f before after) → (f ≡ source.Memory → after ≡ before)
     → (taken : List ℕ) × Consumes before after taken × ((read taken ≡ Err f) ⊎ (f ≡ source.Device) ⊎ (f ≡ source.Memory))
-fails_at read source.Magic before after s m = let t = s (λ e. cc) in (t.taken, t.consumed, inl (ap read (sym (append-nil t.taken)) ∙ t.shown []))
-fails_at read source.Size before after s m = let t = s (λ e. cc) in (t.taken, t.consumed, inl (ap read (sym (append-nil t.taken)) ∙ t.shown []))
-fails_at read source.Colour before after s m = let t = s (λ e. cc) in (t.taken, t.consumed, inl (ap read (sym (append-nil t.taken)) ∙ t.shown []))
-fails_at read source.Interlaced before after s m = let t = s (λ e. cc) in (t.taken, t.consumed, inl (ap read (sym (append-nil t.taken)) ∙ t.shown []))
 fails_at read source.Torn before after s m = let t = s (λ e. cc) in (t.taken, t.consumed, inl t.shown)
 fails_at read source.Device before after s m = let t = s (λ e. cc) in (t.0, t.1, inr (inl refl))
 fails_at read source.Memory before after s m =
     let C : Option (List ℕ) → Type 0 = λ a. Consumes before a [] in ([], subst C (sym (m refl)) (Consumes-nil before), inr (inr refl))
+fails_at read f before after s m = let t = s (λ e. cc) in (t.taken, t.consumed, inl (ap read (sym (append-nil t.taken)) ∙ t.shown []))
 
 -- the head's line
 head_fault : (limits : Limits) (settings : Settings) (f : SourceFault) (before after : Option (List ℕ)) (taken : List ℕ) → Fails (file_head limits.pixels) f before after
@@ -255,7 +241,3 @@ module _ (settings : Settings) (head : Head) (line bytes : List ℕ) (frames : L
     reported_at settings head (line ++ bytes) frames run h,
     record { work = work s.taken; done = done s.taken; whole = s.shown; frames = h.frames_are; error = h.error_is; writes = whole },
   )
-
--- what is known of a source, by the head and the reader that it was opened over
-pub opened : (P : Head → Option (List ℕ) → Type 0) (head now : Head) (before bytes : Option (List ℕ)) → now ≡ head → bytes ≡ before → P now bytes → P head before
-opened P head now before bytes is same p = subst (P head) same (subst (λ (h : Head). P h bytes) is p)

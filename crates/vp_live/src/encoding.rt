@@ -5,9 +5,7 @@ ghost use Rattle.std.specs.Prelude.{OnOk, IfSome, Err};
 ghost use Rattle.std.specs.Io.KnownBytes.{Appends, Consumes, IsAtEnd};
 ghost use Rattle.vp_base.specs.Counted.{counted_remaining, counted_contents, counted_failures, counted_reads};
 ghost use Rattle.vp_base.specs.Counted.{HasFailed};
-ghost use Rattle.vp_y4m.specs.declared.source.Progress.{Progress};
 ghost use Rattle.vp_y4m.specs.Shown.{head_model};
-ghost use Rattle.vp_y4m.specs.Source.{reader_name, bytes_left, failures_of, reads_of, head_of, progress_of};
 ghost use Rattle.vp_y4m.specs.Reads.{TakesInReads};
 ghost use Rattle.vp_y4m.specs.Text.{i420_length};
 ghost use Rattle.vp_encode.specs.declared.settings.Settings.{Settings};
@@ -57,12 +55,13 @@ pub fn encode_live<R: Read, W: Write, T: Watcher>(
     let encoder = Encoder::new(alloc, head.dim, settings)?;
     write_head(writer, &head)?;
     let mut run = LiveProgress::new(encoder, limits);
-    encode_source(alloc, reader, head, &mut run, writer, watcher)?;
+    encode_pictures(alloc, reader, head, &mut run, writer, watcher)?;
     Ok(run.report())
 }
 
-/// Encodes the pictures that follow a file's head, and writes their packets after that of the live file.
-fn encode_source<R: Read, W: Write, T: Watcher>(
+/// Encodes the pictures that follow a file's head, and writes their packets after the head of the live file. The
+/// callback receives the file's head.
+fn encode_pictures<R: Read, W: Write, T: Watcher>(
     alloc: Global,
     reader: &mut Counted<R>,
     head: SourceHead,
@@ -95,46 +94,9 @@ fn encode_source<R: Read, W: Write, T: Watcher>(
         + (run.old.limits.packets + 1) * (1025 + i420_length head.dim.w head.dim.h) }
 {
     let mut source = Source::open(alloc, reader, head);
-    encode_pictures(&mut source, &head, run, writer, watcher)
-}
-
-/// Encodes the pictures that follow a file's head, and writes their packets after that of the live file. The callback
-/// receives the file's head.
-fn encode_pictures<R: Read, W: Write, T: Watcher>(
-    source: &mut Source<'_, R>,
-    head: &SourceHead,
-    run: &mut LiveProgress,
-    writer: &mut Counted<W>,
-    watcher: &mut T,
-) -> Result<(), EncodeAllFault>
-    requires open { progress_of source.old ≡ Progress.Open }
-    requires first { run.old.frames ≡ 0 }
-    requires width { run.old.encoder.dim.w ≡ (head_of source.old).w }
-    requires height { run.old.encoder.dim.h ≡ (head_of source.old).h }
-    ensures same_reference { reader_name source.new ≡ reader_name source.old }
-    // For every file that begins with the head's line, and contents of the writer before the live file's head:
-    ensures ends { (settings : Settings) (line : List ℕ) (before : Option (List ℕ))
-        → IsLiveAt settings (head_of source.old) line [] run.old
-        → Appends before (counted_contents W.contents writer.old) (live_text (head_of source.old) [])
-        → (bytes : List ℕ) × (frames : List EncodedFrame)
-        × Consumes (bytes_left R.remaining source.old) (bytes_left R.remaining source.new) bytes
-        × IsWrittenFurther (T.told watcher.old) (T.told watcher.new) (progress_of_frames frames)
-        × EndsLive run.old.limits settings result (line ++ bytes) frames run.new before
-        (counted_contents W.contents writer.new) }
-    ensures end { OnOk result (IsAtEnd (bytes_left R.remaining source.new)) }
-    ensures torn { result ≡ Err EncodeAllFault.Torn → IsAtEnd (bytes_left R.remaining source.new) }
-    ensures device { result ≡ Err EncodeAllFault.Device → HasFailed (failures_of source.old) (failures_of source.new)
-        ⊎ HasFailed (counted_failures writer.old) (counted_failures writer.new) }
-    ensures quiet { result ≢ Err EncodeAllFault.Device → (failures_of source.new ≡ failures_of source.old)
-        × (counted_failures writer.new ≡ counted_failures writer.old) }
-    ensures reads { TakesInReads 1 (bytes_left R.remaining source.old) (bytes_left R.remaining source.new)
-        (reads_of source.old) (reads_of source.new) }
-    ensures within { reads_of source.new ≤ reads_of source.old
-        + (run.old.limits.packets + 1) * (1025 + i420_length (head_of source.old).w (head_of source.old).h) }
-{
     while let Some(picture) = source.next_picture()? {
         run.picture(&picture, writer)?;
-        watcher.encoded(head, run.so_far());
+        watcher.encoded(&head, run.so_far());
     }
     Ok(())
 }

@@ -7,7 +7,7 @@ use crate::check::equal;
 use std::process::Abort;
 use vp_transform::{
     cut, differences, fdct, fdct_short, fwht, fwht_short, idct, idct_cut, idct_of_first, idct_pair,
-    idct_short, iwht, iwht_of_first,
+    idct_short, iwht, iwht_of_first, iwht_short,
 };
 
 /// The expected numbers of the second block are those of RFC 6386's own program (chapters 14.3 and 14.4).
@@ -30,7 +30,7 @@ fn inverse_examples(rt: HostRuntime) {
         ]);
 }
 
-/// The inverse transform of that block in 16 bits.
+/// The inverse transforms of that block of 16-bit numbers.
 #[test]
 fn short_example(rt: HostRuntime) {
     let block = [
@@ -38,6 +38,9 @@ fn short_example(rt: HostRuntime) {
     ];
     equal!(rt; idct_short(&block), [
             -447, 174, -18, -7, 146, -669, 181, 16, 28, 192, -694, 88, -18, 5, 174, -551,
+        ]);
+    equal!(rt; iwht_short(&block), [
+            -534, 229, -75, 66, 199, -588, 96, -17, -34, 123, -621, 130, 61, -33, 213, -617,
         ]);
 }
 

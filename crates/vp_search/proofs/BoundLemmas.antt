@@ -7,8 +7,7 @@ use Rattle.vp_search.specs.Sums.{sum_below}
 use Rattle.vp_search.specs.Differences.{sum_of_differences, strided_block}
 use Rattle.vp_search.specs.Window.{vector_at, window_cost}
 use Rattle.vp_search.specs.declared.search_window.SearchWindow.{SearchWindow}
-use Rattle.vp_search.specs.Search.{cost_in, AreAbove}
-use Rattle.vp_search.specs.Summed.{AreBounds}
+use Rattle.vp_search.specs.Search.{cost_in, AreAbove, AreBounds}
 use Rattle.vp_search.specs.Bounds.{capped, column_sum, square_sum, block_sums, bound_of, IsSummed}
 use Rattle.vp_search.proofs.SumLemmas.{sum_below-same, sum_below-add, sum_below-plus, sum_of_differences-same, sum_of_differences-add}
 use Rattle.vp_search.proofs.WindowLemmas.{cost_at}

@@ -1,15 +1,14 @@
 -- Coarse sums, and the bounds that follow from them.
-use Rattle.std.proofs.Common.{◌≡◌, ℕ, ◌+◌, ◌-◌, ◌*◌, ◌/◌, ◌<◌, ◌≤◌, false, cond, min, List, get_or, ltb, leb, sym, subst, arith, zero, suc, length, replicate, inl, inr, ap, refl, ◌∙◌}
+use Rattle.std.proofs.Common.{◌≡◌, ℕ, ◌+◌, ◌-◌, ◌*◌, ◌/◌, ◌<◌, ◌≤◌, false, cond, min, List, get_or, ltb, leb, sym, subst, arith, zero, suc, replicate, inl, inr, ap, refl, ◌∙◌}
 use Rattle.std.proofs.lemmas.Bool.{cases_lt}
 use Rattle.std.proofs.lemmas.Bool.Decides.{nat_tests}
 use Rattle.std.proofs.lemmas.Simd.{get_or-chunk}
-use borrow.Rule.Slice.PartMut.{put_mid, mid_of}
+use borrow.Rule.Slice.PartMut.{mid_of}
 use Rattle.std.specs.Int.{abs_diff}
 use lib.Lanes.{top}
 use Rattle.vp_search.specs.declared.window.TheConstants.{WINDOW_WIDTH}
 use Rattle.vp_search.specs.Bounds.{capped, bound_of, distance_of}
 use Rattle.vp_search.specs.Coarse.{AreCoarse, coarse_of, coarse_bound_of, within_byte}
-use Rattle.vp_search.proofs.SquareLemmas.{put_at, put_before}
 
 -- ---- what one lane computes
 pub coarse_lane : (a : ℕ) → a < 65536 → cond (top 15 (cond (ltb (a / 64) 255) 65535 0)) (a / 64) 255 ≡ coarse_of a
@@ -76,15 +75,3 @@ none_coarse n m l k h = zero_at l k ∙ ap coarse_of (sym (zero_at m k))
 pub part_coarse : (sums coarse : List ℕ) (start n m : ℕ) → AreCoarse m sums coarse → start + n ≤ m → AreCoarse n (mid_of start n sums) (mid_of start n coarse)
 part_coarse sums coarse start n m all room k h =
     get_or-chunk start n coarse k 0 h ∙ all (start + k) (omega arith) ∙ ap coarse_of (sym (get_or-chunk start n sums k 0 h))
-
-pub whole_coarse : (sums coarse made own : List ℕ) (start n m : ℕ) → AreCoarse m sums coarse → AreCoarse n made own → start + n ≡ m
-    → start + n ≤ length sums → start + n ≤ length coarse → length made ≡ n → length own ≡ n → AreCoarse m (put_mid start n sums made) (put_mid start n coarse own)
-whole_coarse sums coarse made own start n m all part whole room low long wide k h =
-    elim (cases_lt k start) [
-      | inl less ↦ put_before coarse own start n k low less wide ∙ all k h ∙ ap coarse_of (sym (put_before sums made start n k room less long))
-      | inr more ↦
-          let j : ℕ = k - start in
-          let place : k ≡ start + j = omega arith in
-          ap (λ (i : ℕ). get_or (put_mid start n coarse own) i 0) place ∙ put_at coarse own start n j low (omega arith) wide ∙ part j (omega arith)
-          ∙ ap coarse_of (sym (put_at sums made start n j room (omega arith) long)) ∙ ap (λ (i : ℕ). coarse_of (get_or (put_mid start n sums made) i 0)) (sym place)
-    ]

@@ -30,48 +30,44 @@ first_rows_below w i j =
 -- ---- a row
 
 -- vectors that cost more than the best so far
-pub skipped : (w : SearchWindow) (i from to : ℕ) (found : Found) → IsFound w found → AreAbove w found.cost i from to → IsBestInRow w i from to found found
-skipped w i from to found is above = record {
-  found = is;
+pub skipped : (w : SearchWindow) (i from to : ℕ) (found : Found) → AreAbove w found.cost i from to → IsBestInRow w i from to found found
+skipped w i from to found above = record {
+  found = λ is. is;
   better = same found.cost found.vector;
   seen = λ j low high within. less_cost found.cost found.vector (cost_in w (vector_at w.range i j)) (vector_at w.range i j) (above j low high within);
 }
 
 -- none
-pub none_seen : (w : SearchWindow) (i from : ℕ) (found : Found) → IsFound w found → IsBestInRow w i from from found found
-none_seen w i from found is = skipped w i from from found is (λ j low high within. absurd (omega arith))
-
--- one vector
-pub one_seen : (w : SearchWindow) (i j : ℕ) (old new : Found) → IsFound w new → IsNoWorse new.cost new.vector old.cost old.vector → IsNoWorseAt w new i j
-    → IsBestInRow w i j (j + 1) old new
-one_seen w i j old new is no_worse here = record {
-  found = is;
-  better = no_worse;
-  seen = λ k low high within. let e : j ≡ k = omega arith in subst (λ (q : ℕ). IsNoWorseAt w new i q) e here;
-}
+pub none_seen : (w : SearchWindow) (i from : ℕ) (found : Found) → IsBestInRow w i from from found found
+none_seen w i from found = skipped w i from from found (λ j low high within. absurd (omega arith))
 
 -- one vector that costs more than the best so far
-pub one_skipped : (w : SearchWindow) (i j : ℕ) (found : Found) → IsFound w found → found.cost < cost_in w (vector_at w.range i j) → IsBestInRow w i j (j + 1) found found
-one_skipped w i j found is above =
-    one_seen w i j found found is (same found.cost found.vector) (less_cost found.cost found.vector (cost_in w (vector_at w.range i j)) (vector_at w.range i j) above)
+pub one_skipped : (w : SearchWindow) (i j : ℕ) (found : Found) → found.cost < cost_in w (vector_at w.range i j) → IsBestInRow w i j (j + 1) found found
+one_skipped w i j found above =
+    skipped w i j (j + 1) found (λ k low high within. let e : j ≡ k = omega arith in subst (λ (q : ℕ). found.cost < cost_in w (vector_at w.range i q)) e above)
+
+-- one vector whose block differs by more in its first four rows
+pub first_skipped : (w : SearchWindow) (i j : ℕ) (found : Found) → found.cost < first_rows_in w i j → IsBestInRow w i j (j + 1) found found
+first_skipped w i j found above = let low = first_rows_below w i j in one_skipped w i j found (omega arith)
 
 -- the better of the best so far and one vector
 pub one_taken : (w : SearchWindow) (i j cost : ℕ) (v : WholeVector) (best found : Found) → i ≤ 2 * w.range → j ≤ 2 * w.range → v ≡ vector_at w.range i j
-    → cost ≡ cost_in w (vector_at w.range i j) → IsFound w best → IsNoWorse found.cost found.vector best.cost best.vector → IsNoWorse found.cost found.vector cost v
+    → cost ≡ cost_in w (vector_at w.range i j) → IsNoWorse found.cost found.vector best.cost best.vector → IsNoWorse found.cost found.vector cost v
     → (found ≡ best) ⊎ (found ≡ record { vector = v; cost = cost }) → IsBestInRow w i j (j + 1) best found
-one_taken w i j cost v best found hi hj e known is no_worse here one =
+one_taken w i j cost v best found hi hj e known no_worse here one =
     let new : Found = record { vector = v; cost = cost } in
-    let of_new : IsFound w new = record {
-      near = subst (λ (u : WholeVector). IsNear w.range u) (sym e) (near_at w.range i j hi hj);
-      known = λ _. known ∙ ap (cost_in w) (sym e);
-    } in
-    let kept : IsFound w found = elim one [
-      | inl x ↦ subst (λ (f : Found). IsFound w f) (sym x) is
-      | inr x ↦ subst (λ (f : Found). IsFound w f) (sym x) of_new
-    ] in
-    one_seen w i j best found kept no_worse
-    (subst (λ (u : WholeVector). IsNoWorse found.cost found.vector (cost_in w (vector_at w.range i j)) u) e
-    (subst (λ (k : ℕ). IsNoWorse found.cost found.vector k v) known here))
+    let of_new : IsFound w new = (subst (λ (u : WholeVector). IsNear w.range u) (sym e) (near_at w.range i j hi hj), λ _. known ∙ ap (cost_in w) (sym e)) in
+    let no_worse_here : IsNoWorseAt w found i j =
+    subst (λ (u : WholeVector). IsNoWorse found.cost found.vector (cost_in w (vector_at w.range i j)) u) e
+    (subst (λ (k : ℕ). IsNoWorse found.cost found.vector k v) known here) in
+    record {
+      found = λ is. elim one [
+        | inl x ↦ subst (λ (f : Found). IsFound w f) (sym x) is
+        | inr x ↦ subst (λ (f : Found). IsFound w f) (sym x) of_new
+      ];
+      better = no_worse;
+      seen = λ k low high within. let s : j ≡ k = omega arith in subst (λ (q : ℕ). IsNoWorseAt w found i q) s no_worse_here;
+    }
 
 -- one vector more that costs more than a limit
 pub one_more : (w : SearchWindow) (limit i from column : ℕ) → AreAbove w limit i from column → limit < cost_in w (vector_at w.range i column) → AreAbove w limit i from (column + 1)
@@ -90,7 +86,7 @@ cost_here w i j at e =
 -- one part of a row after another
 pub further : (w : SearchWindow) (i a b c : ℕ) (x y z : Found) → IsBestInRow w i a b x y → IsBestInRow w i b c y z → IsBestInRow w i a c x z
 further w i a b c x y z p q = record {
-  found = q.found;
+  found = λ is. q.found (p.found is);
   better = along z.cost z.vector y.cost y.vector x.cost x.vector q.better p.better;
   seen = λ j low high within. elim (cases_lt j b) [
     | inl before ↦ along z.cost z.vector y.cost y.vector (cost_in w (vector_at w.range i j)) (vector_at w.range i j) q.better (p.seen j low before within)
@@ -100,19 +96,19 @@ further w i a b c x y z p q = record {
 
 -- ---- the whole window
 
--- the vectors of the rows at most d away from the middle are no better
+-- the vectors of the rows less than d away from the middle are no better
 abbrev pub AreSeen : SearchWindow → ℕ → Found → Type 0
 AreSeen w d found = (i j : ℕ) → w.range < i + d → i < w.range + d → j ≤ 2 * w.range → IsNoWorseAt w found i j
 
 -- the row in the middle
-pub first_seen : (w : SearchWindow) (middle : ℕ) (x y : Found) → middle ≡ w.range → IsBestInRow w middle 0 (2 * w.range + 1) x y → AreSeen w (0 + 1) y
+pub first_seen : (w : SearchWindow) (middle : ℕ) (x y : Found) → middle ≡ w.range → IsBestInRow w middle 0 (2 * w.range + 1) x y → AreSeen w 1 y
 first_seen w middle x y e p i j high low wide =
     let s : middle ≡ i = omega arith in
     subst (λ (k : ℕ). IsNoWorseAt w y k j) s (p.seen j (omega arith) (omega arith) wide)
 
 -- the next row above and the next one below
-pub rows_seen : (w : SearchWindow) (d above below : ℕ) (x y z : Found) → above + d + 1 ≡ w.range → below ≡ w.range + 1 + d → AreSeen w (d + 1) x
-    → IsBestInRow w above 0 (2 * w.range + 1) x y → IsBestInRow w below 0 (2 * w.range + 1) y z → AreSeen w (d + 1 + 1) z
+pub rows_seen : (w : SearchWindow) (d above below : ℕ) (x y z : Found) → above + d ≡ w.range → below ≡ w.range + d → AreSeen w d x
+    → IsBestInRow w above 0 (2 * w.range + 1) x y → IsBestInRow w below 0 (2 * w.range + 1) y z → AreSeen w (d + 1) z
 rows_seen w d above below x y z ea eb seen p q i j high low wide =
     let of_y : IsNoWorseAt w y i j → IsNoWorseAt w z i j =
     λ no. along z.cost z.vector y.cost y.vector (cost_in w (vector_at w.range i j)) (vector_at w.range i j) q.better no in
@@ -125,22 +121,22 @@ rows_seen w d above below x y z ea eb seen p q i j high low wide =
     ]
 
 -- a vector that is no worse than those of the rows near the middle, and than all in other rows, is the best
-pub best_within : (w : SearchWindow) (d : ℕ) (found : Found) → IsFound w found → AreSeen w (d + 1) found
-    → ((c : ℕ) (v : WholeVector) → d < unsigned_abs v.row → unsigned_abs v.row ≤ w.range → IsNoWorse found.cost found.vector c v) → IsBestBelow w found
+pub best_within : (w : SearchWindow) (d : ℕ) (found : Found) → IsFound w found → AreSeen w d found
+    → ((c : ℕ) (v : WholeVector) → d ≤ unsigned_abs v.row → unsigned_abs v.row ≤ w.range → IsNoWorse found.cost found.vector c v) → IsBestBelow w found
 best_within w d found is seen beyond =
     let all : (v : WholeVector) → IsNear w.range v → IsNoWorse found.cost found.vector (cost_in w v) v =
-    λ v near. elim (cases_lt d (unsigned_abs v.row)) [
-      | inl far ↦ beyond (cost_in w v) v far near.0
-      | inr close ↦
+    λ v near. elim (cases_lt (unsigned_abs v.row) d) [
+      | inr far ↦ beyond (cost_in w v) v far near.0
+      | inl close ↦
           let x = index w.range v.row near.0 in let y = index w.range v.column near.1 in
           let e : vector_at w.range x.at y.at ≡ v = vector_is (vector_at w.range x.at y.at) v (sym x.is) (sym y.is) in
           subst (λ (u : WholeVector). IsNoWorse found.cost found.vector (cost_in w u) u) e (seen x.at y.at (omega (arith, ints)) (omega (arith, ints)) y.within)
     ] in
     record {
-      known = is.known;
+      known = is.1;
       least = λ below. record {
-        near = is.near;
-        least = λ v near. subst (λ (k : ℕ). IsNoWorse k found.vector (cost_in w v) v) (is.known below) (all v near);
+        near = is.0;
+        least = λ v near. subst (λ (k : ℕ). IsNoWorse k found.vector (cost_in w v) v) (is.1 below) (all v near);
       };
       over = λ v near. (all v near).by_cost;
     }

@@ -1,52 +1,51 @@
 -- The sums of the squares of a window, row by row, and of the window of another place.
-use Rattle.std.proofs.Common.{◌≡◌, ℕ, ◌+◌, ◌-◌, ◌*◌, ◌<◌, ◌≤◌, List, get_or, sym, ap, ap₂, ◌∙◌, inl, inr, arith, pos, ◌-ℤ◌, length, rules}
+use Rattle.std.proofs.Common.{◌≡◌, ℕ, ◌+◌, ◌-◌, ◌*◌, ◌<◌, ◌≤◌, List, get_or, sym, ap, ap₂, ◌∙◌, inl, inr, arith, pos, ◌-ℤ◌, length}
 use Rattle.std.proofs.lemmas.Bool.{cases_lt}
-use Rattle.std.proofs.lemmas.List.{places}
-use Rattle.std.proofs.lemmas.Simd.{get_or-chunk}
-use borrow.Rule.Slice.PartMut.{put_mid, mid_of}
 use Rattle.vp_base.specs.declared.place.Place.{Place}
 use Rattle.vp_base.specs.Raster.{Raster}
 use Rattle.vp_inter.specs.Inter.{reference_pixel}
 use Rattle.vp_search.specs.declared.window.TheConstants.{WINDOW_WIDTH}
 use Rattle.vp_search.specs.Sums.{sum_below}
 use Rattle.vp_search.specs.Window.{searched_pixel}
-use Rattle.vp_search.specs.Bounds.{capped, column_sum, row_sum, square_sum, IsSummed, AreSummed}
+use Rattle.vp_search.specs.Bounds.{capped, column_sum, row_sum, square_sum, AreSummed}
 use Rattle.vp_search.specs.declared.kept.TheConstants.{SLIDE}
 use Rattle.vp_search.specs.declared.kept.Kept.{Kept}
+use Rattle.vp_search.specs.Coarse.{AreCoarse}
 use Rattle.vp_search.specs.Kept.{searched_square, AreKept}
 use Rattle.vp_search.proofs.SumLemmas.{sum_below-same}
 use Rattle.vp_search.proofs.SumLanes.{row_is_square}
 use Rattle.vp_search.proofs.WindowLemmas.{IsFilled}
 
--- the sums of the first rows, and those of the first columns of all rows
-pub record Rows (window sums : List ℕ) (range first rows : ℕ) : Type 0 where
-  pub made : (y x : ℕ) → y < rows → x ≤ 2 * range + 8 → get_or sums (y * WINDOW_WIDTH + x) 0 ≡ square_sum window (y * WINDOW_WIDTH + x) WINDOW_WIDTH
-  pub known : AreSummed window sums range first
+-- from an index on: the sums of the first rows, and those of the first columns of all rows
+pub record Rows (window sums : List ℕ) (range start first rows : ℕ) : Type 0 where
+  pub made : (y x : ℕ) → y < rows → x ≤ 2 * range + 8 → get_or sums (start + (y * WINDOW_WIDTH + x)) 0 ≡ square_sum window (y * WINDOW_WIDTH + x) WINDOW_WIDTH
+  pub known : AreSummed window sums range start first
 
 -- one row more
-pub row_more : (window old new columns : List ℕ) (range first i n at : ℕ) → Rows window old range first i → at ≡ i * WINDOW_WIDTH + first
+pub row_more : (window old new columns : List ℕ) (range start first i n at to : ℕ) → Rows window old range start first i → at ≡ i * WINDOW_WIDTH + first → to ≡ start + at
     → i ≤ 2 * range + 8 → first + 8 * n ≤ WINDOW_WIDTH → 2 * range + 9 ≤ first + 8 * n
     → ((x : ℕ) → x < 8 * (n + 1) → get_or columns x 0 ≡ column_sum window (at + x) WINDOW_WIDTH)
-    → ((x : ℕ) → x < 8 * n → get_or new (at + x) 0 ≡ row_sum columns x)
-    → ((k : ℕ) → k < at → get_or new k 0 ≡ get_or old k 0)
-    → ((k : ℕ) → at + 8 * n ≤ k → get_or new k 0 ≡ get_or old k 0)
-    → Rows window new range first (i + 1)
-row_more window old new columns range first i n at done e within fits wide all here before after = record {
+    → ((x : ℕ) → x < 8 * n → get_or new (to + x) 0 ≡ row_sum columns x)
+    → ((k : ℕ) → k < to → get_or new k 0 ≡ get_or old k 0)
+    → ((k : ℕ) → to + 8 * n ≤ k → get_or new k 0 ≡ get_or old k 0)
+    → Rows window new range start first (i + 1)
+row_more window old new columns range start first i n at to done e f within fits wide all here before after = record {
   made = λ y x h k. elim (cases_lt y i) [
-    | inl less ↦ before (y * WINDOW_WIDTH + x) (omega arith) ∙ done.made y x less k
+    | inl less ↦ before (start + (y * WINDOW_WIDTH + x)) (omega arith) ∙ done.made y x less k
     | inr more ↦ elim (cases_lt x first) [
-      | inl known ↦ before (y * WINDOW_WIDTH + x) (omega arith) ∙ done.known y x (omega arith) known
+      | inl known ↦ before (start + (y * WINDOW_WIDTH + x)) (omega arith) ∙ done.known y x (omega arith) known
       | inr new_one ↦
           let j : ℕ = x - first in
           let place : y * WINDOW_WIDTH + x ≡ at + j = omega arith in
-          ap (λ (k : ℕ). get_or new k 0) place ∙ here j (omega arith)
+          let stored : start + (y * WINDOW_WIDTH + x) ≡ to + j = omega arith in
+          ap (λ (k : ℕ). get_or new k 0) stored ∙ here j (omega arith)
           ∙ row_is_square columns window at WINDOW_WIDTH (8 * (n + 1)) j all (omega arith)
           ∙ ap (λ (k : ℕ). square_sum window k WINDOW_WIDTH) (sym place)
     ]
   ];
   known = λ y x h k. elim (cases_lt y (i + 1)) [
-    | inl less ↦ before (y * WINDOW_WIDTH + x) (omega arith) ∙ done.known y x h k
-    | inr more ↦ after (y * WINDOW_WIDTH + x) (omega arith) ∙ done.known y x h k
+    | inl less ↦ before (start + (y * WINDOW_WIDTH + x)) (omega arith) ∙ done.known y x h k
+    | inr more ↦ after (start + (y * WINDOW_WIDTH + x)) (omega arith) ∙ done.known y x h k
   ];
 }
 
@@ -73,32 +72,24 @@ square_moved p from to range y x moved same further =
     let row : 16 * from.row + (y + r) ≡ 16 * to.row + (y + r) = omega arith in
     ap₂ (λ (m n : ℕ). reference_pixel p (pos m -ℤ pos range) (pos n -ℤ pos range)) column row))))
 
--- ---- a part of the sums that are held
+-- ---- the sums that are kept
 
-pub put_at : (xs ys : List ℕ) (start n k : ℕ) → start + n ≤ length xs → k < n → length ys ≡ n → get_or (put_mid start n xs ys) (start + k) 0 ≡ get_or ys k 0
-put_at xs ys start n k room h long = search (rules, places)
+-- they are those of the window
+pub kept_summed : (window sums coarse : List ℕ) (p : Raster) (place : Place) (range : ℕ) (kept : Kept) → AreKept p range kept sums coarse → kept.place ≡ place → IsFilled window p place range
+    → AreSummed window sums range kept.start kept.columns
+kept_summed window sums coarse p place range kept all same filled y x h k =
+    let few = all.few in
+    all.are y x h k ∙ ap (λ (q : Place). searched_square p q range y x) same ∙ sym (square_searched window p place range y x filled h (omega arith))
 
-pub put_before : (xs ys : List ℕ) (start n k : ℕ) → start + n ≤ length xs → k < start → length ys ≡ n → get_or (put_mid start n xs ys) k 0 ≡ get_or xs k 0
-put_before xs ys start n k room h long = search (rules, places)
-
--- the kept sums are those of the window
-pub kept_summed : (window sums : List ℕ) (p : Raster) (place : Place) (range n : ℕ) (kept : Kept) → AreKept p range kept sums → kept.place ≡ place → IsFilled window p place range
-    → (2 * range + 16) * WINDOW_WIDTH ≤ n → range ≤ 64 → AreSummed window (mid_of kept.start n sums) range kept.columns
-kept_summed window sums p place range n kept all same filled room small y x h k =
-    get_or-chunk kept.start n sums (y * WINDOW_WIDTH + x) 0 (omega arith)
-    ∙ all.are y x h k
-    ∙ ap (λ (q : Place). searched_square p q range y x) same
-    ∙ sym (square_searched window p place range y x filled h (omega arith))
-
--- the sums of a window are kept
-pub summed_kept : (window sums made : List ℕ) (p : Raster) (place : Place) (range columns start n : ℕ) → IsSummed window made range → IsFilled window p place range → start ≤ SLIDE
-    → columns ≡ 2 * range + 9 → start + n ≤ length sums → length made ≡ n → (2 * range + 16) * WINDOW_WIDTH ≤ n → range ≤ 64
-    → AreKept p range (record { place = place; columns = columns; start = start }) (put_mid start n sums made)
-summed_kept window sums made p place range columns start n all filled room whole fits long wide small = record {
+-- those of a window are kept
+pub summed_kept : (window sums coarse : List ℕ) (p : Raster) (place : Place) (range columns start : ℕ) → AreSummed window sums range start (2 * range + 9) → columns ≡ 2 * range + 9 → start ≤ SLIDE
+    → IsFilled window p place range → length sums ≡ (2 * range + 16) * WINDOW_WIDTH + 8 + SLIDE → (0 < length coarse → length coarse ≡ length sums) → (0 < length coarse → AreCoarse (length sums) sums coarse)
+    → AreKept p range (record { place = place; columns = columns; start = start }) sums coarse
+summed_kept window sums coarse p place range columns start all whole room filled size wide same = record {
   few = omega arith;
   room = room;
-  are = λ y x h k.
-      put_at sums made start n (y * WINDOW_WIDTH + x) fits (omega arith) long
-      ∙ all y x h (omega arith)
-      ∙ square_searched window p place range y x filled h (omega arith);
+  size = size;
+  are = λ y x h k. all y x h (omega arith) ∙ square_searched window p place range y x filled h (omega arith);
+  coarse_size = wide;
+  coarse_are = same;
 }

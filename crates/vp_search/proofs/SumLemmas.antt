@@ -43,6 +43,18 @@ sum_below-bound (suc n) m f all =
     let rest = sum_below-bound n m f (λ k h. all k (omega arith)) in
     let last = all n (omega arith) in omega arith
 
+-- a sum over rows
+pub sum_below-rows : (m n : ℕ) (f : ℕ → ℕ) → sum_below (m * n) f ≡ sum_below m (λ r. sum_below n (λ c. f (r * n + c)))
+sum_below-rows zero n f =
+    ap (λ (k : ℕ). sum_below k f) (let e : zero * n ≡ 0 = omega arith in e) ∙ sum_below-none f ∙ sym (sum_below-none (λ r. sum_below n (λ c. f (r * n + c))))
+sum_below-rows (suc m) n f =
+    let rest = sum_below-rows m n f in
+    ap (λ (k : ℕ). sum_below k f) (let e : suc m * n ≡ m * n + n = omega arith in e)
+    ∙ sum_below-add (m * n) n f
+    ∙ ap (λ (s : ℕ). s + sum_below n (λ c. f (m * n + c))) rest
+    ∙ sym (sum_below-more m (λ r. sum_below n (λ c. f (r * n + c))))
+    ∙ ap (λ (k : ℕ). sum_below k (λ r. sum_below n (λ c. f (r * n + c)))) (let e : m + 1 ≡ suc m = omega arith in e)
+
 pub sum_below-four : (f : ℕ → ℕ) → sum_below 4 f ≡ (f 0 + f 1) + (f 2 + f 3)
 unfolding sum_below
 sum_below-four f = omega arith

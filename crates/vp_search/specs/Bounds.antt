@@ -39,7 +39,7 @@ abbrev pub IsSummed : List ℕ → List ℕ → ℕ → Type 0
 IsSummed window sums range = (y x : ℕ) → y ≤ 2 * range + 8 → x ≤ 2 * range + 8
     → slice_index sums (y * WINDOW_WIDTH + x) ≡ square_sum window (y * WINDOW_WIDTH + x) WINDOW_WIDTH
 
--- the list holds those of the first columns
-abbrev pub AreSummed : List ℕ → List ℕ → ℕ → ℕ → Type 0
-AreSummed window sums range columns = (y x : ℕ) → y ≤ 2 * range + 8 → x < columns
-    → slice_index sums (y * WINDOW_WIDTH + x) ≡ square_sum window (y * WINDOW_WIDTH + x) WINDOW_WIDTH
+-- from an index on the list holds those of the first columns
+abbrev pub AreSummed : List ℕ → List ℕ → ℕ → ℕ → ℕ → Type 0
+AreSummed window sums range start columns = (y x : ℕ) → y ≤ 2 * range + 8 → x < columns
+    → slice_index sums (start + (y * WINDOW_WIDTH + x)) ≡ square_sum window (y * WINDOW_WIDTH + x) WINDOW_WIDTH

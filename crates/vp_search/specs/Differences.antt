@@ -16,6 +16,10 @@ strided_block xs at stride r c = slice_index xs (at + r * stride + c)
 abbrev pub block16 : List ℕ → ℕ → ℕ → ℕ
 block16 xs r c = slice_index xs (r * 16 + c)
 
+-- a block of n columns, in raster order
+abbrev pub block_from_rows : ℕ → List ℕ → ℕ → ℕ → ℕ
+block_from_rows n xs r c = slice_index xs (r * n + c)
+
 -- the squared difference of the numbers at index i of two lists
 abbrev pub squared_difference : List ℕ → List ℕ → ℕ → ℕ
 squared_difference xs ys i = abs_diff (slice_index xs i) (slice_index ys i) * abs_diff (slice_index xs i)

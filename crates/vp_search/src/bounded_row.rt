@@ -2,11 +2,10 @@
 //! neither the best nor a tie. So is a longer one whose bound is that cost, as most are where the picture is flat: it
 //! is no better, and loses a tie.
 
-ghost use Rattle.std.specs.Prelude.{◌≡◌, ◌≢◌, ℕ, ◌+◌, ◌*◌, ◌<◌, ◌≤◌};
+ghost use Rattle.std.specs.Prelude.{◌≡◌, ◌≢◌, ℕ, ◌+◌, ◌*◌, ◌<◌, ◌≤◌, Some};
 ghost use Rattle.std.specs.Int.{bit_at};
 ghost use Rattle.vp_search.specs.Window.{vector_at};
-ghost use Rattle.vp_search.specs.Search.{cost_in, IsFound, IsBestInRow};
-ghost use Rattle.vp_search.specs.Summed.{IsSummedSearch, AreBounds};
+ghost use Rattle.vp_search.specs.Search.{cost_in, IsBestInRow, AreBounds};
 
 use crate::search_window::SearchWindow;
 use crate::summed::SquareSums;
@@ -28,32 +27,31 @@ fn take_first(places: u64) -> (usize, u64)
     (first, places & !(1 << first))
 }
 
-impl<'a> SearchWindow<'a> {
-    /// The best of a known vector and those of row `i`, by their bounds. Of the bounds that are counted, some are past
+impl<'a, 's> SearchWindow<'a, 's> {
+    /// The best of a known vector and those of a row, by their bounds. Of the bounds that are counted, some are past
     /// the range: 7 of 24 at range 8.
     #[inline(always)]
-    pub(crate) fn consider_bounded_row(&self, sums: SquareSums, best: Found, i: usize) -> Progress
-        requires sums { IsSummedSearch self.now sums }
-        requires best { IsFound self.now best }
-        requires i { i ≤ 2 * self.now.range }
-        ensures { IsBestInRow self.now i 0 (2 * self.now.range + 1) best result.best }
+    pub(crate) fn row_by_bounds(&self, sums: SquareSums, best: Found, row: usize) -> Progress
+        requires sums { self.now.sums ≡ Some sums }
+        requires row { row ≤ 2 * self.now.range }
+        ensures { IsBestInRow self.now row 0 (2 * self.now.range + 1) best result.best }
     {
         let groups = usize::from(self.range) / 4 + 1;
         let mut found = best;
         let mut g = 0;
         let mut passed = 0;
-        while let Some(next) = next_within(sums, i * WINDOW_WIDTH, g, groups, found.cost) {
+        while let Some(next) = next_within(sums, row * WINDOW_WIDTH, g, groups, found.cost) {
             let spot = Spot {
-                row: i,
+                row,
                 column: 8 * next.number,
             };
             passed += below_best(next.bounds, found.cost);
-            self.consider_eight(&mut found, spot, next.bounds);
+            self.best_of_eight(&mut found, spot, next.bounds);
             g = next.number + 1;
         }
         Progress {
             best: found,
-            unbounded: self.unbounded_after(found.cost, i, passed > HALF * groups),
+            unbounded: self.unbounded_after(found.cost, row, passed > HALF * groups),
         }
     }
 
@@ -61,8 +59,7 @@ impl<'a> SearchWindow<'a> {
     /// least `bounds`. Not inlined: the loop over the bounds needs the registers. The window is copied so that its
     /// fields stay in registers too.
     #[inline(never)]
-    fn consider_eight(&self, best: &mut Found, spot: Spot, bounds: u16x8)
-        requires best { IsFound self.now best.old }
+    fn best_of_eight(&self, best: &mut Found, spot: Spot, bounds: u16x8)
         requires row { spot.row ≤ 2 * self.now.range }
         requires column { spot.column ≤ 2 * self.now.range + 8 }
         requires bounds { AreBounds self.now spot.row spot.column bounds }
@@ -77,15 +74,14 @@ impl<'a> SearchWindow<'a> {
                 row: spot.row,
                 column: spot.column + t,
             };
-            let next = window.consider_bounded(*best, place, u32::from(each[t]));
+            let next = window.better_by_bound(*best, place, u32::from(each[t]));
             *best = next;
             left = others;
         }
     }
 
     /// The better of a known vector and the one at `spot`, whose cost is at least `bound`, if it is within the range.
-    fn consider_bounded(&self, best: Found, spot: Spot, bound: u32) -> Found
-        requires best { IsFound self.now best }
+    fn better_by_bound(&self, best: Found, spot: Spot, bound: u32) -> Found
         requires row { spot.row ≤ 2 * self.now.range }
         requires bound { spot.column ≤ 2 * self.now.range
             → bound ≤ cost_in self.now (vector_at self.now.range spot.row spot.column) }
@@ -100,6 +96,6 @@ impl<'a> SearchWindow<'a> {
                 return best;
             }
         }
-        self.consider(best, spot)
+        self.better::<false>(best, spot, self.first_rows(spot))
     }
 }

@@ -6,7 +6,7 @@ ghost use Rattle.vp_search.specs.declared.vector.WholeVector.{WholeVector};
 ghost use Rattle.vp_search.specs.Vectors.{IsNear};
 ghost use Rattle.vp_search.specs.Least.{IsNoWorse};
 ghost use Rattle.vp_search.specs.Window.{vector_at};
-ghost use Rattle.vp_search.specs.Search.{cost_in, first_rows_in, IsInRange, IsFound, IsBestInRow};
+ghost use Rattle.vp_search.specs.Search.{cost_in, first_rows_in, IsInRange, IsBestInRow};
 
 use crate::difference::{four_rows, rest_within, sad_up_to};
 use crate::search_window::SearchWindow;
@@ -15,8 +15,6 @@ use crate::window::WINDOW_WIDTH;
 
 /// Whether a vector is better than another.
 fn is_better(new: Found, old: Found) -> bool
-    requires new { IsNear 64 new.vector }
-    requires old { IsNear 64 old.vector }
     ensures yes { result ≡ true → IsNoWorse new.cost new.vector old.cost old.vector }
     ensures no { result ≡ false → IsNoWorse old.cost old.vector new.cost new.vector }
 {
@@ -33,17 +31,16 @@ fn is_better(new: Found, old: Found) -> bool
     new.vector.column < old.vector.column
 }
 
-/// Whether no vector more than `distance` rows away from the centre is better than `best`: it costs nothing, and is no
-/// longer than that.
+/// Whether no vector `distance` or more rows away from the centre is better than `best`: it costs nothing, and is
+/// shorter.
 pub(crate) fn is_best_beyond(best: Found, distance: usize) -> bool
-    requires near { IsNear 64 best.vector }
-    ensures { result ≡ true → (c : ℕ) (v : WholeVector) → distance < unsigned_abs v.row
+    ensures { result ≡ true → (c : ℕ) (v : WholeVector) → distance ≤ unsigned_abs v.row
         → IsNoWorse best.cost best.vector c v }
 {
-    best.cost == 0 && vector_length(best.vector) as usize <= distance
+    best.cost == 0 && vector_length(best.vector) < distance as u64
 }
 
-impl<'a> SearchWindow<'a> {
+impl<'a, 's> SearchWindow<'a, 's> {
     /// The zero vector, whose block is at the centre of the window, with its cost.
     pub(crate) fn centre(&self) -> Found
         ensures near { IsNear self.now.range result.vector }
@@ -72,9 +69,28 @@ impl<'a> SearchWindow<'a> {
         four_rows(self.block, 0, self.pixels, spot.at(), WINDOW_WIDTH)
     }
 
-    /// The better of the best vector and the one at `spot`, whose cost is known.
-    pub(crate) fn take(&self, best: Found, spot: Spot, cost: u32) -> Found
-        requires best { IsFound self.now best }
+    /// The better of the best vector and the one at `spot`, of whose block the first four rows differ by `first`. With
+    /// `EARLY` that is compared with the best cost. Always inlined: with a call for each vector, a search takes a third
+    /// more instructions.
+    #[inline(always)]
+    pub(crate) fn better<const EARLY: bool>(&self, best: Found, spot: Spot, first: u32) -> Found
+        requires spot { IsInRange self.now spot.row spot.column }
+        requires first { first ≡ first_rows_in self.now spot.row spot.column }
+        requires bound { first ≤ 4 * 16 * 255 }
+        ensures { IsBestInRow self.now spot.row spot.column (spot.column + 1) best result }
+    {
+        if EARLY && first > best.cost {
+            return best;
+        }
+        let at = spot.at();
+        match rest_within(self.block, self.pixels, at, WINDOW_WIDTH, first, best.cost) {
+            Some(cost) => self.better_by_cost(best, spot, cost),
+            None => best,
+        }
+    }
+
+    /// The better of the best vector and the one at `spot`, which costs `cost`.
+    pub(crate) fn better_by_cost(&self, best: Found, spot: Spot, cost: u32) -> Found
         requires spot { IsInRange self.now spot.row spot.column }
         requires cost { cost ≡ cost_in self.now (vector_at self.now.range spot.row spot.column) }
         ensures { IsBestInRow self.now spot.row spot.column (spot.column + 1) best result }
@@ -87,41 +103,5 @@ impl<'a> SearchWindow<'a> {
             found = new;
         }
         found
-    }
-
-    /// The better of the best vector and the one at `spot`, of whose block the first four rows differ by `first`. With
-    /// `EARLY` that is compared with the best cost.
-    #[inline(always)]
-    pub(crate) fn consider_rest<const EARLY: bool>(
-        &self,
-        best: Found,
-        spot: Spot,
-        first: u32,
-    ) -> Found
-        requires best { IsFound self.now best }
-        requires spot { IsInRange self.now spot.row spot.column }
-        requires first { first ≡ first_rows_in self.now spot.row spot.column }
-        requires bound { first ≤ 4 * 16 * 255 }
-        ensures { IsBestInRow self.now spot.row spot.column (spot.column + 1) best result }
-    {
-        if EARLY && first > best.cost {
-            return best;
-        }
-        let at = spot.at();
-        match rest_within(self.block, self.pixels, at, WINDOW_WIDTH, first, best.cost) {
-            Some(cost) => self.take(best, spot, cost),
-            None => best,
-        }
-    }
-
-    /// The better of the best vector and the one at `spot`. Always inlined: with a call for each vector, a search takes
-    /// a third more instructions.
-    #[inline(always)]
-    pub(crate) fn consider(&self, best: Found, spot: Spot) -> Found
-        requires best { IsFound self.now best }
-        requires spot { IsInRange self.now spot.row spot.column }
-        ensures { IsBestInRow self.now spot.row spot.column (spot.column + 1) best result }
-    {
-        self.consider_rest::<false>(best, spot, self.first_rows(spot))
     }
 }

@@ -79,7 +79,7 @@ fn coarse_bounds_at(block: [u8; 4], coarse: &[u8], at: usize) -> u8x16
     )
 }
 
-/// Whether a bound may be within the limit, by its coarse bound: rounding takes at most 63 from each of four distances.
+/// Whether a bound may be within the limit, by its coarse bound: rounding adds at most 63 to each of four distances.
 fn any_within(bounds: u8x16, limit: u32) -> bool
     ensures { result ≡ false → (j : ℕ) → j < 16 → limit + 252 < 64 * slice_index bounds j }
 {
@@ -88,7 +88,7 @@ fn any_within(bounds: u8x16, limit: u32) -> bool
 }
 
 /// The first group of eight vectors, from group `start` on in steps of two, where it or the next one may have a bound
-/// within the limit. Returns `groups` if there is none. The blocks of the first group begin at index `at` and after it.
+/// within the limit. Returns `groups` if there is none. The blocks of group 0 begin at index `at` and after it.
 pub(crate) fn next_coarse(
     sums: SquareSums,
     at: usize,
@@ -98,8 +98,6 @@ pub(crate) fn next_coarse(
 ) -> usize
     requires room { at + 8 * groups + 8 * WINDOW_WIDTH + 16 ≤ length sums.coarse.now }
     requires start { start ≤ groups }
-    requires block { AreCoarse 4 sums.block sums.coarse_block }
-    requires coarse { AreCoarse (at + 8 * groups + 8 * WINDOW_WIDTH + 8) sums.window.now sums.coarse.now }
     ensures later { start ≤ result }
     ensures bound { result ≤ groups }
     ensures skipped { (g t : ℕ) → start ≤ g → g < result → t < 8

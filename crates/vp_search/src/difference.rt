@@ -1,10 +1,10 @@
-//! Sums of absolute differences of 16x16 blocks.
+//! Sums of absolute differences of blocks.
 
 ghost use Rattle.std.specs.Prelude.{◌≡◌, ℕ, ◌+◌, ◌*◌, ◌<◌, ◌≤◌, length, slice_index, IfSome, None};
-ghost use Rattle.vp_search.specs.Differences.{sum_of_differences, strided_block, block16};
+ghost use Rattle.vp_search.specs.Differences.{sum_of_differences, strided_block, block16, block_from_rows};
 ghost use Rattle.vp_search.specs.Columns.{IsWithin};
 
-use crate::kernel::{four_differences, load_rows};
+use crate::kernel::{differences16, four_differences, load_rows};
 use crate::rows::Block;
 
 /// The sum of absolute differences of two 16x16 blocks in raster order.
@@ -13,6 +13,23 @@ pub fn sad16(a: &[u8; 256], b: &[u8; 256]) -> u32
     ensures bound { result ≤ 65280 }
 {
     sad_up_to(&Block::of(a), b, 0, 16, u32::MAX)
+}
+
+/// The sum of absolute differences of two 8x8 blocks in raster order.
+pub fn sad8(a: &[u8; 64], b: &[u8; 64]) -> u32
+    ensures value { result ≡ sum_of_differences 8 8 (block_from_rows 8 a.now) (block_from_rows 8 b.now) }
+    ensures bound { result ≤ 16320 }
+{
+    // Two rows of eight pixels lie as one of sixteen.
+    four_differences(load_rows(a, 0, 16), load_rows(b, 0, 16))
+}
+
+/// The sum of absolute differences of two 4x4 blocks in raster order.
+pub fn sad4(a: &[u8; 16], b: &[u8; 16]) -> u32
+    ensures value { result ≡ sum_of_differences 4 4 (block_from_rows 4 a.now) (block_from_rows 4 b.now) }
+    ensures bound { result ≤ 4080 }
+{
+    differences16(a, b)
 }
 
 /// The sum of absolute differences of rows `4 * i` to `4 * i + 3` of a block and four rows of a window that are

@@ -39,8 +39,8 @@ impl Kept {
         requires start { self.start ≤ SLIDE }
         ensures place { result.place ≡ place }
         ensures start { result.start ≤ SLIDE }
-        ensures kept { (p : Raster) (range : ℕ) (sums : List ℕ) → AreKept p range self sums
-            → AreKept p range result sums }
+        ensures kept { (p : Raster) (range : ℕ) (sums coarse : List ℕ) → AreKept p range self sums coarse
+            → AreKept p range result sums coarse }
     {
         if place.row != self.place.row || place.column < self.place.column {
             return Kept::none(place);

@@ -76,6 +76,14 @@ pub(crate) fn four_differences(a: FourRows, b: FourRows) -> u32
     total(both(upper, lower))
 }
 
+/// The sum of absolute differences of sixteen numbers.
+pub(crate) fn differences16(a: &[u8; 16], b: &[u8; 16]) -> u32
+    ensures value { result ≡ sum_below 16 (λ j. abs_diff (slice_index a.now j) (slice_index b.now j)) }
+    ensures bound { result ≤ 16 * 255 }
+{
+    total(apart(u8x16::from_array(*a), u8x16::from_array(*b)))
+}
+
 /// The sum of squared differences of sixteen numbers.
 pub(crate) fn squares16(a: &[u8], b: &[u8], at: usize) -> u32
     requires a_room { at + 16 ≤ length a.now }

@@ -10,10 +10,24 @@ ghost use Rattle.vp_search.specs.Refined.{IsRefined};
 use crate::block::macroblock;
 use crate::difference::sad16;
 use crate::refinement::refine_found;
-use crate::search::search_block;
+use crate::searcher::search_alone;
 use crate::vector::{Found, QuarterVector, Refined, WholeVector, quarters};
 use vp_base::{Place, Plane};
 use vp_inter::{luma_vector, predict_block16};
+
+/// Searches as `Searcher` does without sums and without a limit.
+pub fn search_block(block: &[u8; 256], reference: &Plane, place: Place, range: u8) -> Found
+    requires columns { 16 * place.column ≤ 16384 }
+    requires rows { 16 * place.row ≤ 16384 }
+    requires wide { 0 < reference.now.width }
+    requires high { 0 < reference.now.height }
+    requires range { range ≤ 64 }
+    ensures cost { result.cost ≡ whole_cost (block16 block.now) reference.now place result.vector }
+    ensures least { IsLeast range (whole_cost (block16 block.now) reference.now place) result.vector }
+    ensures predicted { result.cost ≡ quarter_cost (block16 block.now) reference.now place (quarters result.vector) }
+{
+    search_alone(block, reference, place, range, u32::MAX)
+}
 
 /// Searches as `search_block` does, for the source macroblock at `place`. Both planes are luma planes of whole
 /// macroblocks.

@@ -5,10 +5,11 @@ ghost use Rattle.std.specs.Prelude.{◌≡◌, ℕ, ◌+◌, ◌-◌, ◌*◌, �
 ghost use Rattle.std.specs.Int.{abs_diff, bit_at};
 ghost use Rattle.vp_search.specs.Sums.{sum_below};
 ghost use Rattle.vp_search.specs.Bounds.{capped, column_sum, row_sum, square_sum, block_sums, bound_of};
-ghost use Rattle.vp_search.specs.Bounds.{IsSummed, AreSummed};
+ghost use Rattle.vp_search.specs.Bounds.{AreSummed};
 ghost use Rattle.vp_search.specs.Coarse.{AreCoarse};
 
 use crate::coarse::{next_coarse, put_coarse};
+use crate::kept::Kept;
 use crate::summed::SquareSums;
 use crate::window::WINDOW_WIDTH;
 use std::simd::prelude::*;
@@ -156,26 +157,31 @@ fn put_squares(sums: &mut [u16], coarse: &mut [u8], at: usize, columns: &[u16], 
 }
 
 /// Writes the sums of the squares of a window that a search compares, and their coarse sums if there are any, from
-/// column `first` on. Those before it are already there.
-pub(crate) fn fill_sums(sums: &mut [u16], coarse: &mut [u8], window: &[u8], range: u8, first: usize)
+/// index `kept.start` on. Those of the first `kept.columns` columns are already there. Not inlined: a search takes
+/// fewer instructions so.
+#[inline(never)]
+pub(crate) fn fill_sums(sums: &mut [u16], coarse: &mut [u8], window: &[u8], range: u8, kept: Kept)
     requires range { range ≤ 64 }
-    requires room { (2 * range + 16) * WINDOW_WIDTH ≤ length sums.old }
-    requires coarse_room { 0 < length coarse.old → (2 * range + 16) * WINDOW_WIDTH ≤ length coarse.old }
+    requires room { kept.start + (2 * range + 16) * WINDOW_WIDTH ≤ length sums.old }
+    requires coarse_room { 0 < length coarse.old
+        → kept.start + (2 * range + 16) * WINDOW_WIDTH ≤ length coarse.old }
     requires window { (2 * range + 16) * WINDOW_WIDTH + 8 ≤ length window.now }
-    requires first { first ≤ 2 * range + 9 }
-    requires known { AreSummed window.now sums.old range first }
-    ensures sums { IsSummed window.now sums.new range }
+    requires columns { kept.columns ≤ 2 * range + 9 }
+    requires known { AreSummed window.now sums.old range kept.start kept.columns }
+    ensures sums { AreSummed window.now sums.new range kept.start (2 * range + 9) }
     ensures coarse { 0 < length coarse.old → (n : ℕ) → AreCoarse n sums.old coarse.old
         → AreCoarse n sums.new coarse.new }
 {
+    let first = kept.columns;
     let groups = (2 * usize::from(range) + 16 - first) / 8;
     let mut columns = [0; COLUMNS];
     put_columns(&mut columns, window, first, WINDOW_WIDTH, groups + 1);
-    put_squares(sums, coarse, first, &columns, groups);
+    put_squares(sums, coarse, kept.start + first, &columns, groups);
     for y in 0..2 * usize::from(range) + 8 {
         let at = y * WINDOW_WIDTH + first;
         slide_columns(&mut columns, window, at, WINDOW_WIDTH, groups + 1);
-        put_squares(sums, coarse, at + WINDOW_WIDTH, &columns, groups);
+        let below = at + WINDOW_WIDTH;
+        put_squares(sums, coarse, kept.start + below, &columns, groups);
     }
 }
 
@@ -253,13 +259,8 @@ pub(crate) fn next_within(
     groups: usize,
     limit: u32,
 ) -> Option<Group>
-    requires room { at + 8 * groups + 8 * WINDOW_WIDTH + 8 ≤ length sums.window.now }
-    requires coarse_room { 0 < length sums.coarse.now
-        → at + 8 * groups + 8 * WINDOW_WIDTH + 16 ≤ length sums.coarse.now }
+    requires room { at + 8 * groups + 8 * WINDOW_WIDTH + 16 ≤ length sums.window.now }
     requires start { start ≤ groups }
-    requires block { AreCoarse 4 sums.block sums.coarse_block }
-    requires coarse { 0 < length sums.coarse.now
-        → AreCoarse (at + 8 * groups + 8 * WINDOW_WIDTH + 8) sums.window.now sums.coarse.now }
     ensures place { IfSome result (λ next. (start ≤ next.number) × (next.number < groups)) }
     ensures skipped { IfSome result (λ next. (g t : ℕ) → start ≤ g → g < next.number → t < 8
         → limit < bound_of sums.entry.block sums.entry.window.now (at + 8 * g + t)) }

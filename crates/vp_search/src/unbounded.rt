@@ -1,7 +1,7 @@
 //! How many rows, or macroblocks, are searched without bounds. They are if bounds exclude less than half of the
 //! vectors, as in noise and in fine texture.
 
-ghost use Rattle.std.specs.Prelude.{◌+◌, ◌*◌, ◌≤◌, length};
+ghost use Rattle.std.specs.Prelude.{◌≡◌, ◌*◌, ◌≤◌, Some};
 
 use crate::search_window::SearchWindow;
 use crate::summed::SquareSums;
@@ -34,7 +34,7 @@ pub(crate) struct Progress {
 }
 
 impl Unbounded {
-    /// None. A search that has no sums compares early.
+    /// No rows. A search without sums compares after four rows of pixels.
     pub(crate) fn none() -> Unbounded {
         Unbounded {
             left: 0,
@@ -74,11 +74,11 @@ pub(crate) fn below_best(bounds: u16x8, cost: u32) -> usize
     (below as usize).min(8)
 }
 
-impl<'a> SearchWindow<'a> {
+impl<'a, 's> SearchWindow<'a, 's> {
     /// Whether most bounds of row `i` are below the best cost, by the eight that begin at its middle.
     pub(crate) fn most_pass(&self, sums: SquareSums, cost: u32, i: usize) -> bool
         requires i { i ≤ 2 * self.now.range }
-        requires room { (2 * self.now.range + 16) * WINDOW_WIDTH ≤ length sums.window.now }
+        requires sums { self.now.sums ≡ Some sums }
     {
         let middle = i * WINDOW_WIDTH + usize::from(self.range);
         below_best(bounds_at(sums.block, sums.window, middle), cost) > HALF
@@ -103,7 +103,8 @@ impl<'a> SearchWindow<'a> {
         count >= HALF
     }
 
-    /// The rows that are searched without bounds after row `i`: some if `pass`, most of its bounds being below `cost`.
+    /// The rows that are searched without bounds after row `i`: some if most of its bounds are below `cost`, which `pass`
+    /// says.
     pub(crate) fn unbounded_after(&self, cost: u32, i: usize, pass: bool) -> Unbounded
         requires { i ≤ 2 * self.now.range }
     {

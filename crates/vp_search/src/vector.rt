@@ -1,6 +1,6 @@
 //! Motion vectors of a luma block, and search results.
 
-ghost use Rattle.std.specs.Prelude.{◌≡◌, ◌+◌, ◌*◌, ◌≤◌};
+ghost use Rattle.std.specs.Prelude.{◌≡◌, ◌+◌, ◌*◌, ◌≤◌, min};
 ghost use Rattle.vp_search.specs.Vectors.{quarters, vector_length, IsNear};
 ghost use Rattle.vp_search.specs.Window.{vector_at};
 
@@ -42,7 +42,20 @@ pub struct Refined {
     pub cost: u32,
 }
 
-/// A row and a column of a window. Of eight places side by side it is the first.
+impl Found {
+    /// This vector, its cost capped at `limit`: a search begins with it, so that dearer vectors are not compared.
+    pub(crate) fn limited(self, limit: u32) -> Found
+        ensures vector { result.vector ≡ self.vector }
+        ensures cost { result.cost ≡ min self.cost limit }
+    {
+        Found {
+            vector: self.vector,
+            cost: self.cost.min(limit),
+        }
+    }
+}
+
+/// A row and a column of a window. Eight places side by side are named by the first.
 #[derive(Clone, Copy)]
 pub(crate) struct Spot {
     pub(crate) row: usize,
@@ -74,11 +87,10 @@ impl Spot {
 }
 
 /// The length of a vector: the sum of the magnitudes of row and column.
-pub(crate) fn vector_length(vector: WholeVector) -> u32
-    requires { IsNear 64 vector }
+pub(crate) fn vector_length(vector: WholeVector) -> u64
     ensures { result ≡ vector_length vector }
 {
-    vector.row.unsigned_abs() + vector.column.unsigned_abs()
+    u64::from(vector.row.unsigned_abs()) + u64::from(vector.column.unsigned_abs())
 }
 
 /// Converts whole pixels to quarter pixels.

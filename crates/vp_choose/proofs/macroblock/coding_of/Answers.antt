@@ -1,6 +1,7 @@
 use Rattle.std.proofs.Common.{◌≡◌, ◌<◌, ◌≤◌, Some, ap, arith}
 use Rattle.std.specs.Option.{option_map}
 use Rattle.std.proofs.lemmas.Grind.{common_steps}
+use Rattle.std.proofs.lemmas.Option.{IfSome_then}
 use Rattle.vp_base.specs.Image.{Image}
 use Rattle.vp_choose.specs.declared.motion.Moved.{Moved}
 use Rattle.vp_choose.specs.Costs.{block_pixels}
@@ -12,15 +13,16 @@ use Rattle.vp_choose.proofs.macroblock.coding_of.Goals as goal
 pub returns-in-Some-clause-chosen : goal.returns-in-Some-clause-chosen
 returns-in-Some-clause-chosen c =
     let frame = lent_frame c.args.frame.now in
-    let l = c.in-Some.luma in
     let q : Image = c.choose_luma_below.new.picture in
-    let below : (x : Moved) → c.args.moved ≡ Some x → c.in-Some.luma.luma.cost < x.cost = λ x e. grind (arith, common_steps) in
+    let is = c.in-Some.ensures.luma (block_pixels 16 frame.source.luma c.args.place) c.requires.cut.luma in
+    let predicted = c.in-Some.ensures.predicted in
+    let below : (x : Moved) → c.args.moved ≡ Some x → is.choice.cost < x.cost = λ x e. let same = is.is.cost in grind (arith, common_steps) in
     record {
-      luma = l.luma;
-      best = rw c.in-Some.ensures.kept (c.in-Some.ensures.luma (block_pixels 16 frame.source.luma c.args.place) c.requires.cut.luma);
-      coded = intra_coded frame q c.args.vectors.now c.args.place c.intra_coding.result l.luma c.args.moved c.requires.moved below c.intra_coding.ensures.reference
-          (c.intra_coding.ensures.coded frame.source frame.factors c.requires.cut (rw c.in-Some.ensures.kept c.in-Some.ensures.rebuilt));
-      small = grind (arith, common_steps);
+      luma = is.choice;
+      best = rw c.in-Some.ensures.kept is.best;
+      coded = intra_coded frame q c.args.vectors.now c.args.place c.intra_coding.result is.choice c.args.moved c.requires.moved below c.intra_coding.ensures.reference
+          (c.intra_coding.ensures.coded frame.source frame.factors is.choice c.requires.cut (rw c.in-Some.ensures.kept predicted) is.is);
+      small = rw c.intra_coding.ensures.subblocks (IfSome_then c.in-Some.luma.subblocks predicted.by_subblocks (λ s r. r.small));
       motion = c.intra_coding.ensures.motion c.args.vectors.now;
     }
 

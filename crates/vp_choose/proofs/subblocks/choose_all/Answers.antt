@@ -10,7 +10,7 @@ use Rattle.vp_choose.specs.declared.subblocks.Subblocks.{Subblocks}
 use Rattle.vp_choose.specs.Levels.{part}
 use Rattle.vp_choose.specs.Subblocks.{after_subblocks, sub_rebuilt}
 use Rattle.vp_choose.proofs.SubblockChoice.{made, after_new, one_more, none_chosen, left}
-use Rattle.vp_choose.proofs.Small.{none_within, each_set, IsSmall}
+use Rattle.vp_choose.proofs.BlockLevels.{none_within, each_set, IsSmall}
 use Rattle.vp_choose.proofs.subblocks.choose_all.Goals as goal
 
 pub loop-k-init : goal.loop-k-init

@@ -12,6 +12,7 @@ use Rattle.vp_recon.specs.Rebuilt.{summed}
 use Rattle.vp_search.specs.FirstLeast.{IsFirstLeast}
 use Rattle.vp_search.proofs.RefinedLemmas.{first_same}
 use Rattle.vp_choose.specs.Costs.{sub_cost}
+use Rattle.vp_choose.proofs.Listed.{differences-listed}
 use Rattle.vp_choose.specs.Subblocks.{mode_at}
 use Rattle.vp_choose.proofs.subblocks.choose_subblock.Goals as goal
 
@@ -24,7 +25,9 @@ module _ (c : goal.After-result-1) where
 
   cost_at : (f : ℕ → ℕ → ℕ) → c.args.block.now ≡ block 4 f → (i : ℕ) → i < 10 → get_or c.costs_of-costs.result i 0 ≡ sub_cost f c.args.picture.now.luma c.args.place (mode_at i)
   unfolding sub_cost
-  cost_at f e = c.costs_of-costs.ensures.value f (λ j. sub_pixel (mode_at j) c.args.picture.now.luma (4 * c.args.place.column) (4 * c.args.place.row)) e predicted_at
+  cost_at f e i below = c.costs_of-costs.ensures.value i below
+      ∙ differences-listed 4 c.args.block.now (get_or c.predict_sub_modes-predictions.result i []) f
+      (sub_pixel (mode_at i) c.args.picture.now.luma (4 * c.args.place.column) (4 * c.args.place.row)) e (predicted_at i below)
 
   first : IsFirstLeast 10 (λ i. get_or c.costs_of-costs.result i 0) c.first_least-best.result
   first = let long : length c.costs_of-costs.result ≡ 10 = search rules in rw long at c.first_least-best.ensures
@@ -35,13 +38,6 @@ returns-clause-mode c f e = record {
   first = first_same 10 (λ i. get_or c.costs_of-costs.result i 0) (λ i. sub_cost f c.args.picture.now.luma c.args.place (mode_at i)) c.first_least-best.result (cost_at c f e) (first c);
   is = refl;
 }
-
-pub returns-clause-levels : goal.returns-clause-levels
-returns-clause-levels c f e = rw (
-  c.quantised_levels-levels.ensures.value,
-  c.coefficients-numbers.ensures.value f (sub_pixel (mode_at c.first_least-best.result) c.args.picture.now.luma (4 * c.args.place.column) (4 * c.args.place.row)) e
-      (predicted_at c c.first_least-best.result (first c).within),
-)
 
 pub returns-clause-cost : goal.returns-clause-cost
 returns-clause-cost c f e = cost_at c f e c.first_least-best.result (first c).within

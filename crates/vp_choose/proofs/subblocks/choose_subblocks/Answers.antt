@@ -19,8 +19,14 @@ kept_is factors place p now next xs whole r written are =
     let f = λ (r : ℕ) (j : ℕ). get_or xs (r * 16 + j) 0 in
     written ∙ rw r.is (ap (with_plane p 0) (restored p.luma (after_subblocks factors place p.luma r.subblocks r.number) place f whole (after_outside factors place p.luma r.subblocks r.number r.most) are))
 
-pub returns-in-None-clause-kept : goal.returns-in-None-clause-kept
-returns-in-None-clause-kept c =
+pub returns-in_default-clause-kept : goal.returns-in_default-clause-kept
+returns-in_default-clause-kept c =
+    kept_is c.args.factors.now c.args.place c.args.picture.now c.choose_all-chosen.new.picture c.write_block.new.self c.macroblock-kept.result
+    (rw (← c.plane.ensures) c.width.ensures.whole) c.choose_all-chosen.ensures.rebuilt c.write_block.ensures
+    (λ r j rin jin. c.macroblock-kept.ensures r j rin jin ∙ rw c.plane-3.ensures)
+
+pub returns-in_default-2-clause-kept : goal.returns-in_default-2-clause-kept
+returns-in_default-2-clause-kept c =
     kept_is c.args.factors.now c.args.place c.args.picture.now c.choose_all-chosen.new.picture c.write_block.new.self c.macroblock-kept.result
     (rw (← c.plane.ensures) c.width.ensures.whole) c.choose_all-chosen.ensures.rebuilt c.write_block.ensures
     (λ r j rin jin. c.macroblock-kept.ensures r j rin jin ∙ rw c.plane-3.ensures)

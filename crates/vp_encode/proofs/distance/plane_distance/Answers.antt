@@ -8,8 +8,7 @@ loop-y-init c = record { value = sym (squares-none c.args.a.now c.args.b.now c.a
 
 pub loop-y-preserved : goal.loop-y-preserved
 loop-y-preserved c =
-    let long : length (take c.args.width c.row.result.now) ≡ c.args.width = length-take c.args.width c.row.result.now ∙ (let l = c.row.ensures.len in let f = c.requires.columns.0 in omega arith) in
-    let so_far = c.loop-y.invariant.bound in
+    let long : length (take c.args.width c.row.result.now) ≡ c.args.width = length-take c.args.width c.row.result.now ∙ omega arith in
     let one : c.sse-sum.result ≤ 65025 * length (take c.args.width c.row.result.now) = c.sse-sum.ensures.bound in
     record {
       value = ap₂ (λ x y. x + y) c.loop-y.invariant.value c.sse-sum.ensures.value

@@ -1,7 +1,6 @@
-use Rattle.std.proofs.Common.{◌++◌, ◌∷◌, [], Ok, Err, refl, sym, ap, ◌∙◌, rules}
+use Rattle.std.proofs.Common.{◌++◌, ◌∷◌, [], Ok, Err, refl, ap, ◌∙◌, rules}
 use Rattle.std.proofs.lemmas.Result.{err_from_is_err_and}
 use Rattle.std.proofs.KnownBytes.{Consumes-nil, Consumes-trans}
-use Rattle.vp_base.specs.declared.limits.Dim.{Dim}
 use Rattle.vp_base.specs.Counted.{counted_remaining}
 use Rattle.vp_y4m.specs.Shown.{head_model}
 use Rattle.vp_y4m.specs.Source.{bytes_left, head_of, progress_after}
@@ -118,9 +117,3 @@ returns-clause-within g c =
     let inv = c.loop-picture.invariant in
     let w = within_more _ c.args.run.now.limits.packets (head_model c.args.head) (head_of c.loop-picture.source) _ _ _ (few_now _ _ _ _ _ inv.3) inv.5 inv.10 c.in_ok-picture.ensures.within in
     search (rules, w)
-
-pub picture-requires : goal.picture-requires
-picture-requires g c =
-    let s = shows g (goal.at.picture-requires g c).In-Some in
-    let same = sym (c.loop-picture.invariant.3.dim) in
-    record { width = s.width ∙ sym c.requires.width ∙ ap (λ (d : Dim). d.w) same; height = s.height ∙ sym c.requires.height ∙ ap (λ (d : Dim). d.h) same }

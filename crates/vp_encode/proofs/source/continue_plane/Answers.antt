@@ -19,7 +19,7 @@ continue_row-requires-clause-size c =
     let q : Raster = plane_of c.args.picture.now c.args.k in
     subst (λ (r : Raster). ExtendsPlane c.args.width c.args.height c.args.source.now r)
     (sym (plane_at c.args.picture.now c.loop-y.picture c.args.k (over c.loop-y.y f q) c.loop-y.invariant))
-    (row_size c.args.width c.args.height c.args.source.now c.loop-y.y q c.height-y-end.ensures.whole (let t = c.loop-y-test.true in let e = c.height-y-end.ensures.value in omega arith) c.requires.size)
+    (row_size c.args.width c.args.height c.args.source.now c.loop-y.y q c.height-y-end.ensures.whole (omega arith) c.requires.size)
 
 pub loop-y-preserved : goal.loop-y-preserved
 loop-y-preserved c =
@@ -29,5 +29,4 @@ pub returns : goal.returns
 returns c =
     c.loop-y.invariant
     ∙ ap (with_plane c.args.picture.now c.args.k)
-    (plane_continued c.args.width c.args.height c.args.source.now c.loop-y.y (plane_of c.args.picture.now c.args.k) c.height-y-end.ensures.whole
-    (let e = c.height-y-end.ensures.value in omega arith) c.requires.size)
+    (plane_continued c.args.width c.args.height c.args.source.now c.loop-y.y (plane_of c.args.picture.now c.args.k) c.height-y-end.ensures.whole (omega arith) c.requires.size)

@@ -5,12 +5,6 @@ use Rattle.vp_tokens.specs.Partitions.{lists}
 use Rattle.vp_encode.specs.Written.{finished}
 use Rattle.vp_encode.proofs.tokens.finish_all.Goals as goal
 
-pub loop-encoder-init : goal.loop-encoder-init
-loop-encoder-init c = record {
-  whole = sym c.into_iter-encoder-iterator.ensures.into_iter_gives.0;
-  so_far = ap lists c.in_ok-parts.ensures.items;
-}
-
 pub loop-encoder-preserved : goal.loop-encoder-preserved
 loop-encoder-preserved c =
     let steps = c.in-Some.ensures.steps in

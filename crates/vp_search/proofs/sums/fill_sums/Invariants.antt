@@ -9,5 +9,5 @@ abbrev pub invariant-loop-y : goal.invariant-loop-y
 invariant-loop-y l = record {
   columns : (x : ℕ) → x < 8 * (l.groups + 1) → get_or l.columns x 0 ≡ column_sum l.window (l.y * WINDOW_WIDTH + l.first + x) WINDOW_WIDTH;
   coarse : 0 < length l.fn.coarse → (n : ℕ) → AreCoarse n l.fn.sums l.fn.coarse → AreCoarse n l.sums l.coarse;
-  squares : Rows l.window l.sums l.range l.first (l.y + 1);
+  squares : Rows l.window l.sums l.range l.kept.start l.first (l.y + 1);
 }

@@ -13,11 +13,11 @@ of_some E P (Some s) e h more = more h
 pub returns-clause-rebuilt : goal.returns-clause-rebuilt
 returns-clause-rebuilt c predictor pred =
     let coding : Coding = c.args.self.now in
-    let tokens = c.tokens_of-tokens.result in
+    let tokens = c.tokens-tokens.result in
     let same : c.is_some-by_subblocks.result ≡ is_some coding.subblocks = c.is_some-by_subblocks.ensures ∙ ap (λ (a : Coding). is_some a.subblocks) c.self.view_is in
     let given : IsGiven (macroblock_of predictor tokens c.args.factors.now) c.args.place c.args.picture.now coding.prediction = record {
       at_once = λ off. pred.at_once (sym pred.sub_modes ∙ off);
-      by_subblocks = λ on. of_some _ _ coding.subblocks (sym pred.sub_modes ∙ on) c.tokens_of-tokens.ensures.by_subblocks (pred.by_subblocks tokens);
+      by_subblocks = λ on. of_some _ _ coding.subblocks (sym pred.sub_modes ∙ on) c.tokens-tokens.ensures.by_subblocks (pred.by_subblocks tokens);
       u = pred.u;
       v = pred.v;
     } in
@@ -25,4 +25,4 @@ returns-clause-rebuilt c predictor pred =
     (subst (λ (a : Coding). IsGiven (macroblock_of predictor tokens c.args.factors.now) c.args.place c.args.picture.now a.prediction) (sym c.self.view_is) given)
 
 pub returns-clause-levels : goal.returns-clause-levels
-returns-clause-levels c original predictor cut pred = c.tokens_of-tokens.ensures.levels original c.args.picture.now c.args.place predictor cut pred
+returns-clause-levels c original predictor cut pred = c.tokens-tokens.ensures.levels original c.args.picture.now c.args.place predictor cut pred

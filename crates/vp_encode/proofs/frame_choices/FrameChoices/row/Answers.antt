@@ -5,5 +5,4 @@ use Rattle.vp_encode.proofs.frame_choices.FrameChoices.row.Goals as goal
 pub returns-clause-chosen : goal.returns-clause-chosen
 returns-clause-chosen c =
     next_row c.args.chooser.now c.args.row c.loop-column.column c.loop-column.self
-    (let a = c.columns-column-end.ensures.value in let b = c.loop-column.invariant.before.columns in let d = c.requires.before.columns in omega arith)
-    c.loop-column.invariant.before
+    (omega (arith, c.loop-column.invariant.before.columns, c.requires.before.columns)) c.loop-column.invariant.before
