@@ -26,9 +26,10 @@ LIBVPX = (
     (MODES, r"vp8/|onyxd|dboolhuff|treereader"),
     (OUTPUT, r"vpxdec|ivfdec|md5|tools_common|vpx_image|vpx_decoder"),
 )
-# Crates of the program, and modules of vp_recon.
+# Crates of the program, and modules of vp_recon. Nearly all bytes that the bool decoder loads are those of tokens, as of
+# libvpx's `bool_decoder_fill`.
 OURS = (
-    (TOKENS, r"vp_tokens"),
+    (TOKENS, r"vp_tokens|vp_bool.*number_of"),
     (FILTER, r"vp_loop"),
     (INTER, r"vp_inter|vp_recon.*(inter|moved|predict_(four|quarters))"),
     (INTRA, r"vp_intra|vp_recon.*intra"),

@@ -7,6 +7,7 @@ mod laws;
 mod map;
 mod reading;
 mod segment;
+mod walks;
 mod writing;
 
 pub use entry::Modes;

@@ -3,7 +3,6 @@
 ghost use Rattle.std.specs.Prelude.{◌≡◌, ◌<◌, replicate};
 ghost use Rattle.vp_base.specs.Grid.{Has, with_entry};
 ghost use Rattle.vp_bool.specs.Reader.{when};
-ghost use Rattle.vp_tree.specs.Tree.{walk_from};
 ghost use Rattle.vp_tables.specs.Modes.{is_by_subblocks};
 ghost use Rattle.vp_modes.specs.Modes.{segment_id, segment_of, skip_by, inter_reference, reference_of, luma_mode};
 ghost use Rattle.vp_modes.specs.Modes.{chroma_mode, sub_mode, sub_probabilities, sub_modes, intra_modes, prediction};
@@ -12,12 +11,13 @@ ghost use Rattle.vp_modes.specs.Modes.{modes_at};
 use crate::contexts::{mode_above, mode_left};
 use crate::entry::Modes;
 use crate::map::ModeMap;
+use crate::walks::{read_chroma_by, read_inter_luma, read_key_luma};
 use vp_base::Place;
 use vp_bool::BoolDecoder;
 use vp_head::{Header, Reference, ReferenceProbabilities};
 use vp_tables::{
-    CHROMA_TREE, ChromaMode, KEY_CHROMA_PROBABILITIES, KEY_LUMA_PROBABILITIES, KEY_LUMA_TREE,
-    LUMA_TREE, LumaMode, SEGMENT_TREE, SUB_PROBABILITIES, SUB_TREE, SubMode, key_sub_probabilities,
+    ChromaMode, KEY_CHROMA_PROBABILITIES, LumaMode, SEGMENT_TREE, SUB_PROBABILITIES, SUB_TREE,
+    SubMode, key_sub_probabilities,
 };
 use vp_tree::read_tree;
 
@@ -88,13 +88,6 @@ fn read_reference(header: &Header, d: &mut BoolDecoder) -> Reference
     }
 }
 
-fn read_luma_by(probabilities: &[u8; 4], d: &mut BoolDecoder) -> LumaMode
-    ensures value { result ≡ (walk_from LumaMode.Dc LUMA_TREE probabilities.now 0 d.old).0 }
-    ensures rest { d.new ≡ (walk_from LumaMode.Dc LUMA_TREE probabilities.now 0 d.old).1 }
-{
-    read_tree(&LUMA_TREE, probabilities, d)
-}
-
 /// Reads the luma mode of an intra macroblock.
 #[tactic(auto, unfolding(crate::specs::Modes::luma_mode))]
 fn read_luma(header: &Header, d: &mut BoolDecoder) -> LumaMode
@@ -102,17 +95,10 @@ fn read_luma(header: &Header, d: &mut BoolDecoder) -> LumaMode
     ensures rest { d.new ≡ (luma_mode header.now d.old).1 }
 {
     if header.key {
-        read_tree(&KEY_LUMA_TREE, &KEY_LUMA_PROBABILITIES, d)
+        read_key_luma(d)
     } else {
-        read_luma_by(&header.probabilities.luma, d)
+        read_inter_luma(&header.probabilities.luma, d)
     }
-}
-
-fn read_chroma_by(probabilities: &[u8; 3], d: &mut BoolDecoder) -> ChromaMode
-    ensures value { result ≡ (walk_from ChromaMode.Dc CHROMA_TREE probabilities.now 0 d.old).0 }
-    ensures rest { d.new ≡ (walk_from ChromaMode.Dc CHROMA_TREE probabilities.now 0 d.old).1 }
-{
-    read_tree(&CHROMA_TREE, probabilities, d)
 }
 
 /// Reads the chroma mode of an intra macroblock.
@@ -239,10 +225,11 @@ fn read_prediction(
     }
 }
 
-/// Reads the segment, the skip flag and the reference frame of the macroblock at `place`. Its modes are DC.
+/// Reads what stands before the modes of the macroblock at `place`: segment, skip flag and reference frame. The modes
+/// of the result are DC.
 #[inline(always)]
 #[tactic(auto, unfolding(crate::specs::Modes::modes_at, vp_bool::specs::Reader::bind))]
-fn read_unread(header: &Header, map: &ModeMap, place: Place, d: &mut BoolDecoder) -> Modes
+fn read_before_modes(header: &Header, map: &ModeMap, place: Place, d: &mut BoolDecoder) -> Modes
     requires { Has map.now place }
     ensures { prediction header.now map.now place result d.new ≡ modes_at header.now map.now place d.old }
 {
@@ -260,15 +247,16 @@ fn read_unread(header: &Header, map: &ModeMap, place: Place, d: &mut BoolDecoder
     }
 }
 
-/// Reads the header of the macroblock at `place`, without motion vectors. The map contains the modes of this frame's
-/// earlier macroblocks. At `place` it contains those of the previous frame, whose segment may be kept.
+/// Reads the header of the macroblock at `place`, without motion vectors: tests call it, and the decoder
+/// `read_modes_into`. The map contains the modes of this frame's earlier macroblocks. At `place` it contains those of the
+/// previous frame, whose segment may be kept.
 pub fn read_modes(header: &Header, map: &ModeMap, place: Place, d: &mut BoolDecoder) -> Modes
     requires { Has map.now place }
     ensures value { result ≡ (modes_at header.now map.now place d.old).0 }
     ensures rest { d.new ≡ (modes_at header.now map.now place d.old).1 }
 {
-    let unread = read_unread(header, map, place, d);
-    read_prediction(header, map, place, unread, d)
+    let modes = read_before_modes(header, map, place, d);
+    read_prediction(header, map, place, modes, d)
 }
 
 /// Reads the header of the macroblock at `place` and stores it in the map: `read_modes` and `ModeMap::set`. Returns its
@@ -285,12 +273,12 @@ pub fn read_modes_into(
     ensures reference { result ≡ (modes_at header.now map.old place d.old).0.reference }
     ensures rest { d.new ≡ (modes_at header.now map.old place d.old).1 }
 {
-    let unread = read_unread(header, map, place, d);
-    if !unread.reference.is_intra() {
-        map.set(place, &unread);
-        return unread.reference;
+    let modes = read_before_modes(header, map, place, d);
+    if !modes.reference.is_intra() {
+        map.set(place, &modes);
+        return modes.reference;
     }
-    let modes = read_intra(header, map, place, unread, d);
+    let modes = read_intra(header, map, place, modes, d);
     map.set(place, &modes);
     modes.reference
 }
