@@ -1,7 +1,7 @@
 """Millions of instructions by stage of decoding, in `vp8` beside libvpx: for decode_speed --stages. Not proved.
 
 Callgrind counts them. libvpx is Debian's source, built with symbols. A row of callgrind belongs to the first stage
-whose words its file or function has."""
+whose words its file or function has. What memcpy copies for output is output, as what `fwrite` copies is."""
 import collections
 import pathlib
 import re
@@ -11,10 +11,11 @@ import textwrap
 STAGES = ("tokens", "loop filter", "modes, vectors, header, row loop", "inter prediction", "intra prediction",
           "residue", "memset, memcpy", "output", "else", "all")
 TOKENS, FILTER, MODES, INTER, INTRA, RESIDUE, MEMORY, OUTPUT, ELSE, ALL = STAGES
+COPIES = r"memset|memcpy|memmove"
 # What the C library and the loader do. A copy inside `fwrite` is output too.
 COMMON = (
     (OUTPUT, r"fwrite|fileops|genops|_IO_|libioP|iofwrite|mempcpy|__write"),
-    (MEMORY, r"memset|memcpy|memmove"),
+    (MEMORY, COPIES),
     (ELSE, r"/elf/|malloc|/stdlib/|/string/|strlen|strcmp|getenv"),
 )
 LIBVPX = (
@@ -57,6 +58,24 @@ def build_libvpx(folder):
     return built
 
 
+def copied_for_output(profile, rules):
+    """The instructions of memcpy and memset that are called by functions of the stage output."""
+    names = {}
+    pattern = next(words for stage, words in rules if stage == OUTPUT)
+    before = [words for stage, words in rules if stage != OUTPUT]
+    total, caller, callee, is_call = 0, "", "", False
+    for line in profile.read_text().splitlines():
+        named = re.match(r"(c?)fn=\((\d+)\)(?: (.*))?", line)
+        if named:
+            name = names.setdefault(named[2], named[3])
+            caller, callee = (caller, name) if named[1] else (name, callee)
+        elif is_call and re.search(COPIES, callee):
+            is_output = re.search(pattern, caller) and not any(re.search(words, caller) for words in before)
+            total += int(line.split()[-1]) if is_output else 0
+        is_call = line.startswith("calls=")
+    return total
+
+
 def stages(command, rules, folder):
     """The instructions of a run by stage."""
     profile = pathlib.Path(folder, "callgrind")
@@ -71,6 +90,9 @@ def stages(command, rules, folder):
             count, name = int(found[1].replace(",", "")), re.sub(r"::<[^<>]*>(?= \[|$)", "", found[2])
             every = ((ALL, "^PROGRAM TOTALS"), *COMMON, *rules)
             sums[next((stage for stage, words in every if re.search(words, name)), ELSE)] += count
+    copied = copied_for_output(profile, rules)
+    sums[OUTPUT] += copied
+    sums[MEMORY] -= copied
     return sums
 
 
