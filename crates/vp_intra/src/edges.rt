@@ -31,10 +31,15 @@ pub(crate) fn edge_left<const N: usize>(plane: &Plane, x: usize, y: usize) -> [u
     ensures { result ≡ first N (left_pixel plane.now x y) }
 {
     let mut edge = [129; N];
-    let _known = plane.height();
     if x > 0 {
+        let _known = plane.height();
+        let stride = plane.width();
+        let pixels = plane.pixels();
+        // Each index is a sum: after the loop is unrolled, products would be worked out one by one.
+        let mut at = y * stride + (x - 1);
         for r in 0..N {
-            edge[r] = plane.get(x - 1, y + r);
+            edge[r] = pixels[at];
+            at += stride;
         }
     }
     edge

@@ -16,6 +16,10 @@ pub record LiesAt (p : Raster) (x y n h : ℕ) (bytes : List ℕ) (at stride : �
   pub columns : x + n ≤ p.width
   pub rows : y + h ≤ p.height
 
+-- four vectors
+abbrev pub Four : Type 0
+Four = List ℤ × List ℤ × List ℤ × List ℤ
+
 -- number j of row r of four vectors
 abbrev pub row_lane : List ℤ → List ℤ → List ℤ → List ℤ → ℕ → ℕ → ℤ
 row_lane a b c d r j = lane (slice_index_or (a ∷ b ∷ c ∷ d ∷ []) r []) j

@@ -1,6 +1,7 @@
 //! Adds residues to the prediction that a picture already holds (RFC 6386, chapter 14.5).
 
-ghost use Rattle.std.specs.Prelude.{◌≡◌, ℕ, ◌+◌, ◌-◌, ◌*◌, ◌<◌, ◌≤◌, List, ℤ, length, [], slice_index, slice_index_or};
+ghost use Rattle.std.specs.Prelude.{◌≡◌, ℕ, ◌+◌, ◌-◌, ◌*◌, ◌<◌, ◌≤◌, true, List, ℤ, length, []};
+ghost use Rattle.std.specs.Prelude.{slice_index, slice_index_or};
 ghost use Rattle.vp_base.specs.Raster.{Raster, pixel};
 ghost use Rattle.vp_base.specs.Block.{with_block, written};
 ghost use Rattle.vp_base.specs.Image.{plane_of, with_plane};
@@ -12,7 +13,7 @@ ghost use Rattle.vp_recon.specs.Parts.{HasBoundedY2Dc, HasResidues, IsAlone, res
 ghost use Rattle.std.specs.Simd.Lanes.{put_chunk};
 ghost use Rattle.vp_lanes.specs.Lane.{lane};
 
-use crate::residue::{Residues, block_of, luma_firsts, residues_after_y2};
+use crate::residue::{Residues, block_of, luma_firsts, residues_after_y2, side_by_side};
 use std::simd::prelude::*;
 use vp_base::{Picture, Plane};
 use vp_quant::{Factors, ShortFactors};
@@ -117,16 +118,16 @@ fn add_residues<const ACROSS: usize>(
     }
     let at = y * stride + x;
     if tokens <= 1 {
-        add_all_firsts::<ACROSS>(picture.pixels_mut(plane), at, stride, residues);
+        add_strips::<ACROSS, true>(picture.pixels_mut(plane), at, stride, residues);
     } else {
-        add_strips::<ACROSS>(picture.pixels_mut(plane), at, stride, residues);
+        add_strips::<ACROSS, false>(picture.pixels_mut(plane), at, stride, residues);
     }
 }
 
-/// Adds the residues of a block's subblocks, which have DC coefficients only, to its pixels. The first pixel is at
-/// index `at`; rows are `stride` apart.
+/// Adds the residues of a block's subblocks to its pixels. The first pixel is at index `at`; rows are `stride` apart.
+/// `ALONE` says that all subblocks have DC coefficients only.
 #[inline(never)]
-fn add_all_firsts<const ACROSS: usize>(
+fn add_strips<const ACROSS: usize, const ALONE: bool>(
     pixels: &mut [u8],
     at: usize,
     stride: usize,
@@ -135,26 +136,7 @@ fn add_all_firsts<const ACROSS: usize>(
     requires across { IsAcross ACROSS }
     requires blocks { residues.now.first + ACROSS * ACROSS ≤ 25 }
     requires small { HasBoundedY2Dc residues.now }
-    requires alone { (i : ℕ) → i < ACROSS * ACROSS → IsAlone residues.now i }
-    requires room { at + (4 * ACROSS - 1) * stride + 4 * ACROSS ≤ length pixels.old }
-    ensures value { (p : Raster) (x y : ℕ) (residue : ℕ → List ℤ) → HasResidues (ACROSS * ACROSS) residues.now residue
-        → LiesAt p x y (4 * ACROSS) (4 * ACROSS) pixels.old at stride
-        → pixels.new ≡ written p x y (4 * ACROSS) (4 * ACROSS) (block_sum ACROSS p x y residue) }
-    ensures len { length pixels.new ≡ length pixels.old }
-{
-    let mut start = at;
-    for i in 0..ACROSS {
-        add_firsts::<ACROSS>(pixels, start, stride, residues, ACROSS * i);
-        start += 4 * stride;
-    }
-}
-
-/// Adds the residues of a block's subblocks to its pixels. The first pixel is at index `at`; rows are `stride` apart.
-#[inline(never)]
-fn add_strips<const ACROSS: usize>(pixels: &mut [u8], at: usize, stride: usize, residues: &Residues)
-    requires across { IsAcross ACROSS }
-    requires blocks { residues.now.first + ACROSS * ACROSS ≤ 25 }
-    requires small { HasBoundedY2Dc residues.now }
+    requires alone { ALONE ≡ true → (i : ℕ) → i < ACROSS * ACROSS → IsAlone residues.now i }
     requires room { at + (4 * ACROSS - 1) * stride + 4 * ACROSS ≤ length pixels.old }
     ensures value { (p : Raster) (x y : ℕ) (residue : ℕ → List ℤ) → HasResidues (ACROSS * ACROSS) residues.now residue
         → LiesAt p x y (4 * ACROSS) (4 * ACROSS) pixels.old at stride
@@ -164,7 +146,11 @@ fn add_strips<const ACROSS: usize>(pixels: &mut [u8], at: usize, stride: usize, 
     let factors = ShortFactors::of(residues.dc, residues.ac);
     let mut start = at;
     for i in 0..ACROSS {
-        add_strip::<ACROSS>(pixels, start, stride, residues, ACROSS * i, &factors);
+        if ALONE {
+            add_firsts::<ACROSS>(pixels, start, stride, residues, ACROSS * i);
+        } else {
+            add_strip::<ACROSS>(pixels, start, stride, residues, ACROSS * i, &factors);
+        }
         start += 4 * stride;
     }
 }
@@ -218,13 +204,6 @@ fn add_strip<const ACROSS: usize>(
         → pixels.new ≡ written p x y (4 * ACROSS) 4 (strip_sum p x y (λ i. residue_in residues.now (k + i))) }
     ensures len { length pixels.new ≡ length pixels.old }
 {
-    let tokens = residues.tokens_in(k, ACROSS);
-    if tokens == 0 && residues.dc_from_y2.is_none() {
-        return;
-    }
-    if tokens <= 1 {
-        return add_firsts::<ACROSS>(pixels, at, stride, residues, k);
-    }
     for i in 0..ACROSS / 2 {
         add_two(pixels, at + 8 * i, stride, residues, k + 2 * i, factors);
     }
@@ -249,10 +228,35 @@ fn add_two(
         → pixels.new ≡ written p x y 8 4 (strip_sum p x y (λ i. residue_in residues.now (k + i))) }
     ensures len { length pixels.new ≡ length pixels.old }
 {
-    if residues.has_in_pair(k) {
-        let (a, b, c, d) = residues.rows_of_two(k, factors);
-        add_rows::<8>(pixels, at, stride, a, b, c, d);
+    let tokens = residues.tokens_in(k, 2);
+    if tokens == 0 && residues.dc_from_y2.is_none() {
+        return;
     }
+    if tokens <= 1 {
+        return add_firsts::<2>(pixels, at, stride, residues, k);
+    }
+    let Some(rows) = residues.rows_of_two(k, factors) else {
+        return add_large_two(pixels, at, stride, residues, k);
+    };
+    let (a, b, c, d) = rows;
+    add_rows::<8>(pixels, at, stride, a, b, c, d);
+}
+
+/// Adds the residues of subblocks `k` and `k + 1`, which are side by side, with coefficients of any size. Their first
+/// pixel is at index `at`.
+#[cold]
+#[inline(never)]
+fn add_large_two(pixels: &mut [u8], at: usize, stride: usize, residues: &Residues, k: usize)
+    requires subblocks { k + 1 < 16 }
+    requires blocks { residues.now.first + k + 1 < 25 }
+    requires small { HasBoundedY2Dc residues.now }
+    requires room { at + 3 * stride + 8 ≤ length pixels.old }
+    ensures value { (p : Raster) (x y : ℕ) → LiesAt p x y 8 4 pixels.old at stride
+        → pixels.new ≡ written p x y 8 4 (strip_sum p x y (λ i. residue_in residues.now (k + i))) }
+    ensures len { length pixels.new ≡ length pixels.old }
+{
+    let (a, b, c, d) = side_by_side(residues.kept(k), residues.kept(k + 1));
+    add_rows::<8>(pixels, at, stride, a, b, c, d);
 }
 
 /// Adds the numbers of `a`, `b`, `c` and `d` to four rows of `N` pixels, the first from index `at` on; rows are

@@ -13,7 +13,7 @@ use crate::add::{add_chroma, add_luma, store_subblock};
 use crate::residue::with_residue;
 use std::simd::prelude::*;
 use vp_base::{Picture, Place};
-use vp_quant::Factors;
+use vp_quant::{Factors, ShortFactors};
 use vp_tokens::{Block, Tokens};
 
 /// The pixels of a macroblock, each plane in raster order.
@@ -113,6 +113,7 @@ pub fn rebuild_subblock_from(
 {
     let _known = [picture.plane(0).width(), picture.plane(0).height()];
     let prediction = u8x16::from_array(*prediction);
-    let pixels = with_residue(prediction, levels, factors.y_dc, factors.y_ac);
+    let short = ShortFactors::of(factors.y_dc, factors.y_ac);
+    let pixels = with_residue(prediction, levels, factors, &short);
     store_subblock(picture, 4 * block.column, 4 * block.row, pixels);
 }

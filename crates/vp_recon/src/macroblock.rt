@@ -10,6 +10,7 @@ ghost use Rattle.vp_recon.specs.Rebuilt.{luma_rebuilt, chroma_rebuilt, rebuilt, 
 ghost use Rattle.vp_recon.specs.Sums.{with_colours};
 ghost use Rattle.vp_tables.specs.Modes.{is_by_subblocks};
 ghost use Rattle.vp_recon.specs.Residue.{residue};
+ghost use Rattle.vp_quant.specs.Short.{AreFactors};
 
 use crate::add::{add_chroma, add_luma, know_bytes, store_subblock};
 use crate::predict::{predict_chroma, predict_luma};
@@ -19,7 +20,7 @@ use std::simd::prelude::*;
 use vp_base::{Picture, Place};
 use vp_intra::predict_sub;
 use vp_modes::Modes;
-use vp_quant::Factors;
+use vp_quant::{Factors, ShortFactors};
 use vp_tables::SubMode;
 use vp_tokens::{Block, Tokens};
 
@@ -115,13 +116,14 @@ fn rebuild_subs(
 {
     let _known = picture.plane(0).width();
     let _known = picture.plane(0).height();
+    let short = ShortFactors::of(factors.y_dc, factors.y_ac);
     for k in 0..16 {
         let block = Place {
             column: place.column * 4 + k % 4,
             row: place.row * 4 + k / 4,
         };
         let levels = block_of(tokens, 1 + k);
-        rebuild_subblock(picture, block, modes.subs[k], levels, factors);
+        rebuild_sub(picture, block, modes.subs[k], levels, factors, &short);
     }
 }
 
@@ -139,13 +141,32 @@ pub fn rebuild_subblock(
     ensures { picture.new ≡ with_plane picture.old 0 (with_sub picture.old.luma block mode
         (residue levels.now.levels factors.now.y_dc factors.now.y_ac)) }
 {
+    let short = ShortFactors::of(factors.y_dc, factors.y_ac);
+    rebuild_sub(picture, block, mode, levels, factors, &short);
+}
+
+/// Rebuilds a subblock as `rebuild_subblock` does. `short` are its factors, which are made once for a macroblock.
+fn rebuild_sub(
+    picture: &mut Picture,
+    block: Place,
+    mode: SubMode,
+    levels: &Block,
+    factors: &Factors,
+    short: &ShortFactors,
+)
+    requires columns { 4 * block.column + 4 ≤ picture.old.luma.width }
+    requires rows { 4 * block.row + 4 ≤ picture.old.luma.height }
+    requires short { AreFactors short.now factors.now.y_dc factors.now.y_ac }
+    ensures { picture.new ≡ with_plane picture.old 0 (with_sub picture.old.luma block mode
+        (residue levels.now.levels factors.now.y_dc factors.now.y_ac)) }
+{
     let _known = picture.plane(0).width();
     let _known = picture.plane(0).height();
     let x = 4 * block.column;
     let y = 4 * block.row;
     let prediction = predict_sub(picture.plane(0), x, y, mode);
     let prediction = u8x16::from_array(prediction);
-    let pixels = with_residue(prediction, levels, factors.y_dc, factors.y_ac);
+    let pixels = with_residue(prediction, levels, factors, short);
     store_subblock(picture, x, y, pixels);
 }
 

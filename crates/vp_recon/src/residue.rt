@@ -13,7 +13,7 @@ ghost use Rattle.vp_recon.specs.Rebuilt.{summed};
 ghost use Rattle.vp_recon.specs.Residue.{residue, luma_firsts};
 ghost use Rattle.vp_recon.specs.Sums.{HasEqualSums, IsNothing};
 ghost use Rattle.vp_recon.specs.Parts.{HasBoundedY2Dc, HasResidues, IsAlone, coefficients_in, residue_in};
-ghost use Rattle.vp_recon.specs.Pairs.{AreSums, AreLow};
+ghost use Rattle.vp_recon.specs.Pairs.{AreSums, AreLow, Four};
 
 use crate::add::added;
 use std::simd::prelude::*;
@@ -50,41 +50,13 @@ fn even_number(first: i64) -> i16
     idct_of_first(first).clamp(-255, 255) as i16
 }
 
-/// Returns numbers that add up like the residue of a subblock. `first` is its DC coefficient; its AC levels are
-/// multiplied by `ac`.
-fn residue_with_first(block: &Block, first: i64, ac: u16) -> [i16; 16]
-    requires { unsigned_abs first ≤ 2 ^ 40 }
-    ensures value { HasEqualSums result (idct (slice_set (dequantised block.now.levels 0 ac) 0 first)) }
-    ensures low { AreLow 16 result }
-{
-    if block.tokens <= 1 {
-        return [even_number(first); 16];
-    }
-    match short_with_first(block, first, ac) {
-        Some(coefficients) => idct_short(&coefficients),
-        None => large_residue(block, first, ac),
-    }
-}
-
-/// Returns the coefficients of a subblock whose DC coefficient is `first`, if all are from -2200 to 2200. None also if
-/// a level is too large for 16-bit products.
-fn short_with_first(block: &Block, first: i64, ac: u16) -> Option<[i16; 16]>
-    ensures value { (zs : List ℤ) → result ≡ Some zs → zs ≡ slice_set (dequantised block.now.levels 0 ac) 0 first }
-    ensures small { (zs : List ℤ) → result ≡ Some zs → EachWithin 2200 zs }
-{
-    match dequant_short(block.levels, 0, ac) {
-        Some(own) => with_small_first(own, first),
-        None => None,
-    }
-}
-
 /// Returns the block with its first number replaced, if the new one is from -2200 to 2200.
 fn with_small_first(block: [i16; 16], first: i64) -> Option<[i16; 16]>
     requires { EachWithin 2200 block }
     ensures value { (zs : List ℤ) → result ≡ Some zs → zs ≡ slice_set block 0 first }
     ensures small { (zs : List ℤ) → result ≡ Some zs → EachWithin 2200 zs }
 {
-    if first.unsigned_abs() <= 2200 {
+    if -2200 <= first && first <= 2200 {
         Some(with_first(block, first as i16))
     } else {
         None
@@ -122,19 +94,39 @@ fn held(numbers: [i16; 16]) -> [i16; 16]
     clamp_i16(i16x16::from_array(numbers), -255, 255).to_array()
 }
 
-/// Adds the residue of a subblock to its prediction. Its DC level is multiplied by `dc`, its AC levels by `ac`.
-pub(crate) fn with_residue(prediction: u8x16, block: &Block, dc: u16, ac: u16) -> u8x16
+/// Adds the residue of a luma subblock without a Y2 block to its prediction. `short` are its factors.
+pub(crate) fn with_residue(
+    prediction: u8x16,
+    block: &Block,
+    factors: &Factors,
+    short: &ShortFactors,
+) -> u8x16
+    requires { AreFactors short.now factors.now.y_dc factors.now.y_ac }
     ensures { (r c : ℕ) → r < 4 → c < 4 → slice_index result (r * 4 + c) ≡ summed (slice_index prediction (r * 4 + c))
-        (slice_index_or (residue block.now.levels dc ac) (4 * r + c) (pos 0)) }
+        (slice_index_or (residue block.now.levels factors.now.y_dc factors.now.y_ac) (4 * r + c) (pos 0)) }
 {
     if block.tokens == 0 {
         return prediction;
     }
-    let first = scaled_dc(&block.levels, dc);
-    added::<16>(
-        prediction,
-        i16x16::from_array(residue_with_first(block, first, ac)),
-    )
+    let numbers = own_residue(block, factors, short);
+    added::<16>(prediction, i16x16::from_array(numbers))
+}
+
+/// Returns numbers that add up like the residue of a luma subblock without a Y2 block. `short` are its factors.
+fn own_residue(block: &Block, factors: &Factors, short: &ShortFactors) -> [i16; 16]
+    requires { AreFactors short.now factors.now.y_dc factors.now.y_ac }
+    ensures value { HasEqualSums result (residue block.now.levels factors.now.y_dc factors.now.y_ac) }
+    ensures low { AreLow 16 result }
+{
+    let first = scaled_dc(&block.levels, factors.y_dc);
+    if block.tokens <= 1 {
+        return [even_number(first); 16];
+    }
+    let levels = block.levels;
+    if short.are_small(levels, levels) {
+        return idct_short(&short.dequant(levels));
+    }
+    large_residue(block, first, factors.y_ac)
 }
 
 /// The inputs from which the residues of a plane's subblocks are computed.
@@ -152,27 +144,6 @@ pub(crate) struct Residues<'a> {
 }
 
 impl<'a> Residues<'a> {
-    /// Returns whether subblock `k` or the next may have a nonzero residue.
-    pub(crate) fn has_in_pair(&self, k: usize) -> bool
-        requires { self.now.first + k + 1 < 25 }
-        ensures left { result ≡ false → IsNothing (residue_in self.now k) }
-        ensures right { result ≡ false → IsNothing (residue_in self.now (k + 1)) }
-    {
-        self.has(k) || self.has(k + 1)
-    }
-
-    /// Returns whether subblock `k` may have a nonzero residue.
-    fn has(&self, k: usize) -> bool
-        requires { self.now.first + k < 25 }
-        ensures { result ≡ false → IsNothing (residue_in self.now k) }
-    {
-        let block = block_of(self.tokens, self.first + k);
-        match self.dc_from_y2 {
-            None => block.tokens > 0,
-            Some(_) => true,
-        }
-    }
-
     /// Returns a number that is at least the greatest number of tokens of the `count` subblocks from `start` on, and 0
     /// or 1 only if that is.
     #[inline(always)]
@@ -223,7 +194,7 @@ impl<'a> Residues<'a> {
     }
 
     /// Returns numbers that add up like the residue of subblock `k`.
-    fn kept(&self, k: usize) -> [i16; 16]
+    pub(crate) fn kept(&self, k: usize) -> [i16; 16]
         requires subblock { k < 16 }
         requires block { self.now.first + k < 25 }
         requires small { HasBoundedY2Dc self.now }
@@ -231,55 +202,39 @@ impl<'a> Residues<'a> {
         ensures low { AreLow 16 result }
     {
         let block = block_of(self.tokens, self.first + k);
-        residue_with_first(block, self.first_coefficient(k), self.ac)
+        large_residue(block, self.first_coefficient(k), self.ac)
     }
 
-    /// Returns four rows of eight numbers that add up like the residues of subblocks `k` and `k + 1` side by side.
-    /// `factors` are those of the levels.
+    /// Returns four rows of eight numbers that add up like the residues of subblocks `k` and `k + 1` side by side, if
+    /// their coefficients are from -2200 to 2200. `factors` are those of the levels.
     #[inline(always)]
     pub(crate) fn rows_of_two(
         &self,
         k: usize,
         factors: &ShortFactors,
-    ) -> (i16x8, i16x8, i16x8, i16x8)
+    ) -> Option<(i16x8, i16x8, i16x8, i16x8)>
         requires subblocks { k + 1 < 16 }
         requires blocks { self.now.first + k + 1 < 25 }
         requires small { HasBoundedY2Dc self.now }
         requires factors { AreFactors factors.now self.now.dc self.now.ac }
-        ensures value { AreSums 8 result.0 result.1 result.2 result.3 (λ i. residue_in self.now (k + i)) }
-        ensures first { AreLow 8 result.0 }
-        ensures second { AreLow 8 result.1 }
-        ensures third { AreLow 8 result.2 }
-        ensures fourth { AreLow 8 result.3 }
+        ensures value { (v : Four) → result ≡ Some v → AreSums 8 v.0 v.1 v.2 v.3 (λ i. residue_in self.now (k + i)) }
+        ensures first { (v : Four) → result ≡ Some v → AreLow 8 v.0 }
+        ensures second { (v : Four) → result ≡ Some v → AreLow 8 v.1 }
+        ensures third { (v : Four) → result ≡ Some v → AreLow 8 v.2 }
+        ensures fourth { (v : Four) → result ≡ Some v → AreLow 8 v.3 }
     {
         let left = block_of(self.tokens, self.first + k).levels;
         let right = block_of(self.tokens, self.first + (k + 1)).levels;
         if !factors.are_small(left, right) {
-            return self.large_rows_of_two(k);
+            return None;
         }
         let Some(left) = self.short_coefficients(k, factors.dequant(left)) else {
-            return self.large_rows_of_two(k);
+            return None;
         };
         let Some(right) = self.short_coefficients(k + 1, factors.dequant(right)) else {
-            return self.large_rows_of_two(k);
+            return None;
         };
-        idct_pair(&left, &right)
-    }
-
-    /// Returns rows as `rows_of_two` does, for coefficients of any size.
-    #[cold]
-    #[inline(never)]
-    fn large_rows_of_two(&self, k: usize) -> (i16x8, i16x8, i16x8, i16x8)
-        requires subblocks { k + 1 < 16 }
-        requires blocks { self.now.first + k + 1 < 25 }
-        requires small { HasBoundedY2Dc self.now }
-        ensures value { AreSums 8 result.0 result.1 result.2 result.3 (λ i. residue_in self.now (k + i)) }
-        ensures first { AreLow 8 result.0 }
-        ensures second { AreLow 8 result.1 }
-        ensures third { AreLow 8 result.2 }
-        ensures fourth { AreLow 8 result.3 }
-    {
-        side_by_side(self.kept(k), self.kept(k + 1))
+        Some(idct_pair(&left, &right))
     }
 
     /// Returns the residue of each pixel of subblock `k`, clamped to -255..255. The subblock must have a DC coefficient
@@ -354,7 +309,7 @@ fn four_numbers(a: i16, b: i16, c: i16, d: i16) -> i16x16
 }
 
 /// Returns the rows of two subblocks side by side.
-fn side_by_side(left: [i16; 16], right: [i16; 16]) -> (i16x8, i16x8, i16x8, i16x8)
+pub(crate) fn side_by_side(left: [i16; 16], right: [i16; 16]) -> (i16x8, i16x8, i16x8, i16x8)
     ensures top { result.0 ≡ row_in left right 0 }
     ensures upper { result.1 ≡ row_in left right 1 }
     ensures lower { result.2 ≡ row_in left right 2 }

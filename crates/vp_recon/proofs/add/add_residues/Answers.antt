@@ -29,12 +29,12 @@ returns-then-is_none g c residue are =
     (λ k below. subst IsNothing (ap (residue_in c.args.residues.now) (let e : 0 + k ≡ k = omega arith in e) ∙ are k below) (c.tokens_in-tokens.ensures.none c.if-tokens-eq0.true none k below))
     (sub_below a r j rin jin) (subst (λ (s : Raster). get_or s.pixels ((y + r) * (plane_of p c.args.plane).width + (x + j)) 0 ≤ 255) c.plane-3.ensures (c.know_bytes.ensures ((y + r) * (plane_of p c.args.plane).width + (x + j))))))
 
-pub add_all_firsts-requires-clause-alone : goal.add_all_firsts-requires-clause-alone
-add_all_firsts-requires-clause-alone g c i below =
+pub add_strips-requires-clause-alone : goal.add_strips-requires-clause-alone
+add_strips-requires-clause-alone g c _ i below =
     subst (λ (n : ℕ). IsAlone c.args.residues.now n) (let e : 0 + i ≡ i = omega arith in e) (c.tokens_in-tokens.ensures.alone c.if-tokens-le1.true i below)
 
-pub add_all_firsts-requires-clause-room : goal.add_all_firsts-requires-clause-room
-add_all_firsts-requires-clause-room g c =
+pub add_strips-requires-clause-room : goal.add_strips-requires-clause-room
+add_strips-requires-clause-room g c =
     let q : Raster = plane_of c.args.picture.now c.args.plane in
     let wide : c.width-stride.result ≡ q.width = c.width-stride.ensures.value ∙ ap (λ (s : Raster). s.width) c.plane-2.ensures in
     let size : length c.pixels_mut.result.now ≡ q.height * c.width-stride.result = c.pixels_mut.ensures.len ∙ ap (λ (k : ℕ). q.height * k) (sym wide) in
@@ -50,12 +50,12 @@ returns-then-tokens-le1 g c residue are =
     let x : ℕ = c.args.x in
     let y : ℕ = c.args.y in
     let wide : c.width-stride.result ≡ q.width = c.width-stride.ensures.value ∙ ap (λ (s : Raster). s.width) c.plane-2.ensures in
-    ap (with_plane c.args.picture.now c.args.plane) (all_put q x y (4 * a) (4 * a) (block_sum a q x y residue) c.add_all_firsts.new.pixels
-    (c.add_all_firsts.ensures.value q x y residue are (lies q x y (4 * a) (4 * a) c.width-stride.result c.pixels_mut.result.now (rw (← c.plane.ensures) c.height-known.ensures.whole) wide c.pixels_mut.ensures.value c.requires.columns c.requires.rows))
-    (c.add_all_firsts.ensures.len ∙ ap length c.pixels_mut.ensures.value))
+    ap (with_plane c.args.picture.now c.args.plane) (all_put q x y (4 * a) (4 * a) (block_sum a q x y residue) c.add_strips.new.pixels
+    (c.add_strips.ensures.value q x y residue are (lies q x y (4 * a) (4 * a) c.width-stride.result c.pixels_mut.result.now (rw (← c.plane.ensures) c.height-known.ensures.whole) wide c.pixels_mut.ensures.value c.requires.columns c.requires.rows))
+    (c.add_strips.ensures.len ∙ ap length c.pixels_mut.ensures.value))
 
-pub add_strips-requires-clause-room : goal.add_strips-requires-clause-room
-add_strips-requires-clause-room g c =
+pub add_strips-requires-else-tokens-le1-clause-room : goal.add_strips-requires-else-tokens-le1-clause-room
+add_strips-requires-else-tokens-le1-clause-room g c =
     let q : Raster = plane_of c.args.picture.now c.args.plane in
     let wide : c.width-stride.result ≡ q.width = c.width-stride.ensures.value ∙ ap (λ (s : Raster). s.width) c.plane-2.ensures in
     let size : length c.pixels_mut-else-tokens-le1.result.now ≡ q.height * c.width-stride.result = c.pixels_mut-else-tokens-le1.ensures.len ∙ ap (λ (k : ℕ). q.height * k) (sym wide) in
@@ -71,6 +71,6 @@ returns-else-tokens-le1 g c residue are =
     let x : ℕ = c.args.x in
     let y : ℕ = c.args.y in
     let wide : c.width-stride.result ≡ q.width = c.width-stride.ensures.value ∙ ap (λ (s : Raster). s.width) c.plane-2.ensures in
-    ap (with_plane c.args.picture.now c.args.plane) (all_put q x y (4 * a) (4 * a) (block_sum a q x y residue) c.add_strips.new.pixels
-    (c.add_strips.ensures.value q x y residue are (lies q x y (4 * a) (4 * a) c.width-stride.result c.pixels_mut-else-tokens-le1.result.now (rw (← c.plane.ensures) c.height-known.ensures.whole) wide c.pixels_mut-else-tokens-le1.ensures.value c.requires.columns c.requires.rows))
-    (c.add_strips.ensures.len ∙ ap length c.pixels_mut-else-tokens-le1.ensures.value))
+    ap (with_plane c.args.picture.now c.args.plane) (all_put q x y (4 * a) (4 * a) (block_sum a q x y residue) c.add_strips-else-tokens-le1.new.pixels
+    (c.add_strips-else-tokens-le1.ensures.value q x y residue are (lies q x y (4 * a) (4 * a) c.width-stride.result c.pixels_mut-else-tokens-le1.result.now (rw (← c.plane.ensures) c.height-known.ensures.whole) wide c.pixels_mut-else-tokens-le1.ensures.value c.requires.columns c.requires.rows))
+    (c.add_strips-else-tokens-le1.ensures.len ∙ ap length c.pixels_mut-else-tokens-le1.ensures.value))

@@ -1,7 +1,11 @@
 use Rattle.std.proofs.Common.{◌∙◌, length, refl, arith}
 use Rattle.vp_recon.specs.Pairs.{block_sum}
 use Rattle.vp_recon.proofs.StripLemmas.{parts_none, strip_at, strip_room, strips_more, strips_all}
+use Rattle.vp_recon.proofs.add.add_strips.Goals.{then-this-ne0, else-this-ne0}
 use Rattle.vp_recon.proofs.add.add_strips.Goals as goal
+
+pub add_firsts-requires-clause-room : goal.add_firsts-requires-clause-room
+add_firsts-requires-clause-room g c = strip_room g.row.ACROSS c.loop-i.i c.args.at c.loop-i.start c.args.stride (length c.loop-i.pixels) (omega arith) (omega arith) c.loop-i.invariant.start
 
 pub add_strip-requires-clause-room : goal.add_strip-requires-clause-room
 add_strip-requires-clause-room g c = strip_room g.row.ACROSS c.loop-i.i c.args.at c.loop-i.start c.args.stride (length c.loop-i.pixels) (omega arith) (omega arith) c.loop-i.invariant.start
@@ -15,11 +19,15 @@ loop-i-init g c = record {
 
 pub loop-i-preserved : goal.loop-i-preserved
 loop-i-preserved g c = record {
-  size = c.add_strip.ensures.len ∙ c.loop-i.invariant.size;
+  size = c.if-this-ne0.auto.pixels ∙ c.loop-i.invariant.size;
   start = omega arith;
   pixels = λ p x y residue are lies.
-      strips_more p x y g.row.ACROSS c.args.residues.now residue c.loop-i.i c.args.pixels.now c.loop-i.pixels c.add_strip.new.pixels c.args.at c.args.stride c.loop-i.start are (omega arith) lies
-      (c.loop-i.invariant.pixels p x y residue are lies) c.loop-i.invariant.start c.add_strip.ensures.value;
+      strips_more p x y g.row.ACROSS c.args.residues.now residue c.loop-i.i c.args.pixels.now c.loop-i.pixels c.if-this-ne0.pixels c.args.at c.args.stride c.loop-i.start are (omega arith) lies
+      (c.loop-i.invariant.pixels p x y residue are lies) c.loop-i.invariant.start
+      (λ q u v here. elim c.if-this-ne0.branch [
+        | then-this-ne0 w ↦ w.pixels-is ∙ w.add_firsts.ensures.value q u v here
+        | else-this-ne0 w ↦ w.pixels-is ∙ w.add_strip.ensures.value q u v here
+      ]);
 }
 
 pub returns-clause-value : goal.returns-clause-value

@@ -31,8 +31,8 @@ loop-k-preserved c =
     let f : Factors = c.args.factors.now in
     let here : Place = block_place 4 c.args.place c.loop-k.k in
     let own = residue (block_of c.args.tokens.now (1 + c.loop-k.k)).levels f.y_dc f.y_ac in
-    let is : c.rebuild_subblock.new.picture ≡ with_plane now 0 (sub_step m c.args.place k now.luma) =
-    c.rebuild_subblock.ensures
+    let is : c.rebuild_sub.new.picture ≡ with_plane now 0 (sub_step m c.args.place k now.luma) =
+    c.rebuild_sub.ensures
     ∙ ap (λ (b : Block). with_plane now 0 (with_sub now.luma here (get_or c.modes.inside.subs k sub_is.Dc) (residue b.levels f.y_dc f.y_ac))) c.block_of-levels.ensures
     ∙ ap (λ (a : Modes). with_plane now 0 (with_sub now.luma here (get_or a.subs k sub_is.Dc) own)) c.modes.view_is
     ∙ ap (with_plane now 0) (sub_alone c.args.modes.now c.args.tokens.now f c.args.place now.luma k c.requires.subs) in

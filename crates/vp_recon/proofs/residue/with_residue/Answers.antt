@@ -1,18 +1,13 @@
-use Rattle.std.proofs.Common.{◌≡◌, ◌∙◌, ℕ, ◌+◌, ◌*◌, ◌<◌, ◌*ℤ◌, ℤ, pos, List, get_or, set, sym, ap, subst, refl, arith}
+use Rattle.std.proofs.Common.{◌≡◌, ◌∙◌, ℕ, ◌+◌, ◌*◌, ◌<◌, ℤ, pos, List, get_or, sym, ap, subst, refl, arith}
 use Rattle.std.proofs.lemmas.List.{get_or-replicate}
-use Rattle.vp_transform.specs.Transform.{idct}
-use Rattle.vp_transform.proofs.Words.{coded, read}
-use Rattle.vp_transform.proofs.Sizes.{fits-below}
 use Rattle.vp_tokens.specs.Block.{Block, IsBlock}
-use Rattle.vp_quant.specs.Quant.{dequantised}
 use Rattle.vp_transform.proofs.Eights.{passed16}
 use Rattle.vp_recon.specs.Residue.{residue}
 use Rattle.vp_recon.specs.Rebuilt.{summed}
-use Rattle.vp_recon.specs.Sums.{HasEqualSums}
 use Rattle.vp_lanes.proofs.Bytes.{byte_lane}
 use Rattle.vp_recon.proofs.SumLemmas.{nothing_added}
 use Rattle.vp_recon.proofs.PairLemmas.{low_handed}
-use Rattle.vp_recon.proofs.ResidueLemmas.{no_residue, own_first}
+use Rattle.vp_recon.proofs.ResidueLemmas.{no_residue}
 use Rattle.vp_recon.proofs.residue.with_residue.Goals as goal
 
 pub returns-then-block-eq0 : goal.returns-then-block-eq0
@@ -20,8 +15,8 @@ returns-then-block-eq0 c =
     let b : Block = c.args.block.now in
     let is : IsBlock c.args.block.now = subst IsBlock c.block.view_is c.block.invariant in
     let none : c.args.block.now.tokens ≡ 0 = ap (λ (b : Block). b.tokens) (sym c.block.view_is) ∙ c.if-block-eq0.true in
-    nothing_added c.args.prediction c.args.prediction (residue b.levels c.args.dc c.args.ac)
-    (λ i below. ap (λ (zs : List ℤ). get_or zs i (pos 0)) (no_residue b is c.args.dc c.args.ac none) ∙ get_or-replicate 16 i (pos 0) (pos 0) below)
+    nothing_added c.args.prediction c.args.prediction (residue b.levels c.args.factors.now.y_dc c.args.factors.now.y_ac)
+    (λ i below. ap (λ (zs : List ℤ). get_or zs i (pos 0)) (no_residue b is c.args.factors.now.y_dc c.args.factors.now.y_ac none) ∙ get_or-replicate 16 i (pos 0) (pos 0) below)
     refl (λ i below. let b = byte_lane c.args.prediction c.fits-prediction i below in omega arith)
 
 pub returns : goal.returns
@@ -30,19 +25,12 @@ returns c r j rin jin =
     let below : r * 4 + j < 16 = omega arith in
     let p : ℕ = get_or c.args.prediction (r * 4 + j) 0 in
     let byte : get_or c.args.prediction (r * 4 + j) 0 < 256 = byte_lane c.args.prediction c.fits-prediction (r * 4 + j) below in
-    let own : List ℤ = residue c.args.block.now.levels c.args.dc c.args.ac in
-    let kept : List ℤ = c.residue_with_first.result in
-    let first : ℤ = c.scaled_dc-first.result in
-    let exact : coded first ≡ first = read first (fits-below first (omega (arith, c.scaled_dc-first.ensures.within))) in
-    let is : HasEqualSums c.residue_with_first.result (residue c.args.block.now.levels c.args.dc c.args.ac) =
-    subst (λ (zs : List ℤ). HasEqualSums c.residue_with_first.result (idct zs))
-    (ap (λ (z : ℤ). set (dequantised c.args.block.now.levels 0 c.args.ac) 0 z)
-    (exact ∙ c.scaled_dc-first.ensures.value ∙ ap (λ (b : Block). get_or b.levels 0 (pos 0) *ℤ pos c.args.dc) c.block.view_is)
-    ∙ own_first c.args.block.now.levels c.args.dc c.args.ac) c.residue_with_first.ensures.value in
+    let f = c.args.factors.now in
+    let own : List ℤ = residue c.args.block.now.levels f.y_dc f.y_ac in
     c.added.ensures i below
-    ∙ ap (summed p) (passed16 kept i 8800 (omega arith) (c.residue_with_first.ensures.low i below))
-    ∙ is i below p (omega arith)
+    ∙ ap (summed p) (passed16 c.own_residue-numbers.result i 8800 (omega arith) (c.own_residue-numbers.ensures.low i below))
+    ∙ c.own_residue-numbers.ensures.value i below p (omega arith)
     ∙ ap (λ (n : ℕ). summed p (get_or own n (pos 0))) (let e : r * 4 + j ≡ 4 * r + j = omega arith in e)
 
 pub added-requires : goal.added-requires
-added-requires c = (omega arith, (omega arith, (omega arith, low_handed 16 c.residue_with_first.result c.residue_with_first.ensures.low)))
+added-requires c = (omega arith, (omega arith, (omega arith, low_handed 16 c.own_residue-numbers.result c.own_residue-numbers.ensures.low)))

@@ -13,7 +13,7 @@ returns-clause-value c =
     let r = c.args.self.now in
     let first : ℤ = c.first_coefficient.result in
     let exact : coded first ≡ first = read first (fits-below first (omega (arith, c.first_coefficient.ensures.within))) in
-    subst (λ (zs : List ℤ). HasEqualSums c.residue_with_first.result (idct zs))
+    subst (λ (zs : List ℤ). HasEqualSums c.large_residue.result (idct zs))
     (ap (λ (b : Block). set (dequantised b.levels 0 r.ac) 0 (coded first)) c.block_of-block.ensures
     ∙ ap (λ (z : ℤ). set (dequantised (block_of r.tokens.now (r.first + c.args.k)).levels 0 r.ac) 0 z) exact
-    ∙ c.first_coefficient.ensures.value) c.residue_with_first.ensures.value
+    ∙ c.first_coefficient.ensures.value) c.large_residue.ensures.value

@@ -7,7 +7,7 @@ use Rattle.vp_intra.specs.Sub.{sub_pixel}
 use Rattle.vp_intra.proofs.BlockLemmas.{read_block}
 use Rattle.vp_recon.specs.Residue.{residue}
 use Rattle.vp_recon.specs.Rebuilt.{summed}
-use Rattle.vp_recon.proofs.macroblock.rebuild_subblock.Goals as goal
+use Rattle.vp_recon.proofs.macroblock.rebuild_sub.Goals as goal
 
 pub returns : goal.returns
 returns c =
