@@ -670,18 +670,21 @@ def macroblock_read(h, p, m, s):
 def maps_read(h, m, s):
     for p in over(m.modes.columns, m.modes.rows): macroblock_read(h, p, m, s)
     return m
-# ---- vp_decode/specs/Frame.antt. The tokens of all macroblocks are read at once.
+# ---- vp_decode/specs/Frame.antt. The tokens of all macroblocks are looked up in what is read once.
 def predictor_at(f, p):
     modes = entry(f.maps.modes, p)
     if f.references is None or is_intra(modes.reference): return R(modes=modes)
     reference = reference_picture(f.references, modes.reference)
     return R(motion=entry(f.maps.motion, p), reference=reference, version=f.version)
-def tokens_read(f, p, seen_, s):
-    skipped = entry(f.maps.modes, p).skip
-    return macroblock(f.header.probabilities.coefficients, seen_, p, has_y2(predictor_at(f, p)), skipped, s)
-def tokens_of(f, partitions):
+def tokens_read(f, p, g, s):
+    coded, skipped = f.header.probabilities.coefficients, entry(f.maps.modes, p).skip
+    with_entry(g, p, macroblock(coded, g, p, has_y2(predictor_at(f, p)), skipped, s))
+def token_row_read(f, row, g, partitions):
+    s = partitions[row % len(partitions)]
+    for column in range(f.maps.modes.columns): tokens_read(f, (column, row), g, s)
+def all_tokens_read(f, partitions):
     g = all_(f.maps.modes.columns, f.maps.modes.rows, NO_BLOCKS_READ)
-    for p in over(g.columns, g.rows): with_entry(g, p, tokens_read(f, p, g, partitions[p[1] % len(partitions)]))
+    for row in range(g.rows): token_row_read(f, row, g, partitions)
     return g
 def factors_of(h, segment): return factors(index_of(h, segment), h.quantiser)
 def inter_mode_class(mode): return mode if mode in ("Zero", "Split") else "Moved"
@@ -693,7 +696,7 @@ def level_at(f, p, tokens):
     kind = R(reference=modes.reference, prediction=mode_class_of(predictor_at(f, p)), coded=any_token(tokens))
     return filter_level(f.header, modes.segment, kind)
 def frame_of(f, partitions, width, height):
-    tokens, segment_factors = tokens_of(f, partitions), [factors_of(f.header, segment) for segment in range(4)]
+    tokens, segment_factors = all_tokens_read(f, partitions), [factors_of(f.header, segment) for segment in range(4)]
     factors_at = lambda p: segment_factors[entry(f.maps.modes, p).segment]
     return R(width=width, height=height, level=lambda p: level_at(f, p, entry(tokens, p)),
              macroblock=lambda p: R(source=predictor_at(f, p), tokens=entry(tokens, p), factors=factors_at(p)))

@@ -13,7 +13,9 @@ use Rattle.vp_head.specs.declared.fault.PacketFault.TheVariants.{FirstPartition}
 use Rattle.vp_head.specs.Tag.{tag_of}
 use Rattle.vp_head.specs.Header.{header}
 use Rattle.vp_tokens.specs.Partitions.{cut_of}
-use Rattle.vp_decode.specs.Frame.{FrameInfo, Readings, row_partition, token_row, nothing_read, readings}
+use Rattle.vp_decode.specs.Frame.{FrameInfo}
+use Rattle.vp_decode.specs.TokenRows.{Readings, row_partition, token_row, nothing_read, readings}
+use Rattle.vp_decode.proofs.TokenGrid.{rests_in_turn}
 use Rattle.vp_decode.specs.Step.{DecoderState, FrameContext, ParsedPacket, tag_length, first_part, count_of, ◌>>=◌, context_of, parsed_in_context, parsed, maps_before, frame_info_of}
 use Rattle.vp_decode.specs.Corrupt.{first_after, tokens_after, any_past, is_corrupt, corrupt_in, corrupt}
 use Rattle.vp_decode.specs.PastEnd.{IsPastEnd, IsWithin, HasPartPast, AreAllPartsWithin, token_part, token_reader}
@@ -128,7 +130,8 @@ row_on f bs row r h = read_on bs r.rests (row % length r.rests) _ h ((by_row_see
 token_runs : (f : FrameInfo) (bs : List (List ℕ)) → AreRuns bs (tokens_after f (map initial_state bs))
 unfolding readings
 token_runs f bs =
-    over-holds (λ (r : Readings). AreRuns bs r.rests) f.maps.modes.rows (token_row f) (nothing_read f (map initial_state bs)) (λ row below r. row_on f bs row r) (starts bs)
+    subst (AreRuns bs) (sym (rests_in_turn f (map initial_state bs)))
+    (over-holds (λ (r : Readings). AreRuns bs r.rests) f.maps.modes.rows (token_row f) (nothing_read f (map initial_state bs)) (λ row below r. row_on f bs row r) (starts bs))
 
 -- a partition that is read past its end
 record HasPast (bs : List (List ℕ)) (ts : List State) : Type 0 where

@@ -1,13 +1,13 @@
 -- How the tokens of a frame are read, macroblock after macroblock and row after row.
-use Rattle.std.proofs.Common.{◌≡◌, ◌≢◌, ◌∙◌, ℕ, zero, suc, ◌+◌, ◌%◌, ◌<◌, Bool, List, length, Some, refl, sym, ap, subst, arith, inl, inr, add-one}
+use Rattle.std.proofs.Common.{◌≡◌, ◌≢◌, ◌∙◌, ℕ, zero, suc, ◌+◌, ◌%◌, ◌<◌, Bool, List, length, Some, refl, sym, ap, subst, arith, inl, inr}
 use Rattle.std.specs.Prelude.{slice_set}
 use Rattle.std.proofs.lemmas.Bool.{cases_lt}
 use Rattle.vp_bool.specs.Bools.{State}
-use Rattle.vp_bool.specs.Reader.{bind, rows}
+use Rattle.vp_bool.specs.Reader.{bind}
 use Rattle.vp_base.specs.declared.place.Place.{Place}
 use Rattle.vp_base.specs.Grid.{Grid, Has, entry, with_entry}
 use Rattle.vp_base.specs.Over.{over}
-use Rattle.vp_base.proofs.OverLemmas.{over-none, over-more, over-next}
+use Rattle.vp_base.proofs.OverLemmas.{over-none, over-next, over-same}
 use Rattle.vp_tokens.specs.declared.contexts.Tokens.{Tokens}
 use Rattle.vp_tokens.specs.Blocks.{Blocks, blocks_of, macroblock}
 use Rattle.vp_tokens.specs.Levels.{Probabilities}
@@ -18,18 +18,12 @@ use Rattle.vp_recon.specs.Predictor.{Predictor, macroblock_of, has_y2}
 use Rattle.vp_loop.specs.declared.strength.Level.{Level}
 use Rattle.vp_recon.specs.Rebuilt.{rebuilt}
 use Rattle.vp_decode.specs.MacroblockInfo.{modes_in, place}
-use Rattle.vp_decode.specs.Frame.{FrameInfo, Readings, predictor_at, tokens_read, seen_read, row_seen, row_tokens, row_partition, token_row, nothing_read, readings, tokens_of, factors_at, macroblock_at, level_at}
+use Rattle.vp_decode.specs.Frame.{FrameInfo, predictor_at, tokens_of, factors_at, macroblock_at, level_at}
+use Rattle.vp_decode.specs.TokenRows.{tokens_at, seen_read, row_seen, row_tokens, Readings, row_partition, token_row, nothing_read, readings, tokens_when_read}
+use Rattle.vp_decode.proofs.TokenGrid.{row_seen-none, row_seen-more, readings-none, readings-more, tokens_in_turn}
 use Rattle.vp_decode.specs.FrameDecoder.{FrameDecoder, IsMacroblockStep, IsRow, IsAfterRows}
 
 -- ---- a row
-
-row_seen-none : (f : FrameInfo) (row : ℕ) (g : Grid Blocks) (s : State) → row_seen f row 0 g s ≡ (g, s)
-unfolding row_seen rows
-row_seen-none f row g s = refl
-
-row_seen-more : (f : FrameInfo) (row n : ℕ) (g : Grid Blocks) (s : State) → row_seen f row (n + 1) g s ≡ seen_read f (place row n) (row_seen f row n g s).0 (row_seen f row n g s).1
-unfolding row_seen rows bind
-row_seen-more f row n g s = rw add-one refl
 
 record IsSized (columns rows_ : ℕ) (g : Grid Blocks) : Type 0 where
   columns_are : g.columns ≡ columns
@@ -102,11 +96,11 @@ pub step_made : (f : FrameInfo) (p : Place) (g : Grid Blocks) (s t : State) (a b
     → b.picture ≡ rebuilt (macroblock_of source tokens factors) p a.picture
     → entry b.levels p ≡ Some (level_at f p tokens) → ((q : Place) → q ≢ p → entry b.levels q ≡ entry a.levels q)
     → IsMacroblockStep f p g s t a b
-unfolding seen_read tokens_read bind
+unfolding seen_read tokens_at bind
 step_made f p g s t a b source probabilities y2 skip tokens factors from coefficients has skips scaled value rest stands picture here elsewhere =
     let y2_is : y2 ≡ has_y2 (predictor_at f p) = has ∙ ap has_y2 from in
-    let read : macroblock probabilities g p y2 skip s ≡ tokens_read f p g s = (λ i. macroblock (coefficients i) g p (y2_is i) (skips i) s) in
-    let all : tokens ≡ (tokens_read f p g s).0 = value ∙ ap (λ (r : Tokens × State). r.0) read in
+    let read : macroblock probabilities g p y2 skip s ≡ tokens_at f p g s = (λ i. macroblock (coefficients i) g p (y2_is i) (skips i) s) in
+    let all : tokens ≡ (tokens_at f p g s).0 = value ∙ ap (λ (r : Tokens × State). r.0) read in
     record {
       contexts = subst (λ (z : Grid Blocks). AreContextsAt z (right p) b.contexts) (λ i. with_entry g p (blocks_of (y2_is i) (all i))) stands;
       rest = rest ∙ ap (λ (r : Tokens × State). r.1) read;
@@ -120,14 +114,6 @@ step_made f p g s t a b source probabilities y2 skip tokens factors from coeffic
 -- right of a row's last macroblock is as before the next row
 next_row : (g : Grid Blocks) (row n : ℕ) (c : Contexts) → n ≡ g.columns → AreContextsAt g (place row n) c → AreContextsAt g (place (row + 1) 0) c
 next_row g row n c all stands = row_begins g row c (subst (λ (k : ℕ). AreContextsAt g (place row k) c) all stands)
-
-readings-none : (f : FrameInfo) (ps : List State) → readings f ps 0 ≡ nothing_read f ps
-unfolding readings
-readings-none f ps = over-none _ _
-
-readings-more : (f : FrameInfo) (ps : List State) (row : ℕ) → readings f ps (row + 1) ≡ token_row f row (readings f ps row)
-unfolding readings
-readings-more f ps row = over-more row (token_row f) (nothing_read f ps)
 
 readings-sized : (f : FrameInfo) (ps : List State) (row : ℕ) → IsSized f.maps.modes.columns f.maps.modes.rows (readings f ps row).seen
 readings-sized f ps zero = subst (λ (r : Readings). IsSized f.maps.modes.columns f.maps.modes.rows r.seen) (sym (readings-none f ps)) (record { columns_are = refl; rows_are = refl })
@@ -152,10 +138,10 @@ rows_none f ps a stands = record {
 
 pub rows_next : (f : FrameInfo) (ps ds : List State) (row : ℕ) (s t : State) (a b : FrameDecoder) → IsAfterRows f ps row ds a
     → s ≡ row_partition row (readings f ps row)
-    → IsRow f row f.maps.modes.columns (readings f ps row).seen s t a b
+    → row < f.maps.modes.rows → IsRow f row f.maps.modes.columns (readings f ps row).seen s t a b
     → IsAfterRows f ps (row + 1) (slice_set ds (row % length ds) t) b
-unfolding tokens_of
-rows_next f ps ds row s t a b rows_ own made =
+unfolding tokens_when_read
+rows_next f ps ds row s t a b rows_ own below made =
     let r : Readings = readings f ps row in
     let row_made : IsRow f row f.maps.modes.columns r.seen (row_partition row r) t a b = subst (λ (z : State). IsRow f row f.maps.modes.columns r.seen z t a b) own made in
     let read : Grid Blocks × State = row_seen f row f.maps.modes.columns r.seen (row_partition row r) in
@@ -167,21 +153,27 @@ rows_next f ps ds row s t a b rows_ own made =
           ap (λ (z : List State). slice_set z (row % length z) t) rows_.rests
           ∙ ap (λ (z : State). slice_set r.rests (row % length r.rests) z) row_made.rest
           ∙ ap (λ (z : Readings). z.rests) (sym more);
-      levels = λ q below within. elim (cases_lt q.row row) [
+      levels = λ q above within. elim (cases_lt q.row row) [
         | inl earlier ↦ row_made.elsewhere q (λ e. absurd (omega arith)) ∙ rows_.levels q earlier within
         | inr late ↦
             let same : row ≡ q.row = omega arith in
-            let at_row : entry b.levels (place row q.column) ≡ Some (level_at f (place row q.column) (tokens_of f ps (place row q.column))) = row_made.here q.column within in
+            let at_row : entry b.levels (place row q.column) ≡ Some (level_at f (place row q.column) (tokens_of f ps (place row q.column))) =
+            row_made.here q.column within ∙ ap (λ (x : Tokens). Some (level_at f (place row q.column) x)) (sym (tokens_in_turn f ps (place row q.column) within below)) in
             subst (λ (k : ℕ). entry b.levels (place k q.column) ≡ Some (level_at f (place k q.column) (tokens_of f ps (place k q.column)))) same at_row
       ];
     }
 
 -- the picture of a row, by the tokens of the frame
-pub row_of_frame : (f : FrameInfo) (ps : List State) (row n : ℕ) (s t : State) (a b : FrameDecoder) → s ≡ row_partition row (readings f ps row)
-    → IsRow f row n (readings f ps row).seen s t a b
-    → b.picture ≡ over n (λ column. rebuilt (macroblock_at f (place row column) (tokens_of f ps (place row column))) (place row column)) a.picture
-unfolding tokens_of
-row_of_frame f ps row n s t a b own made = (subst (λ (z : State). IsRow f row n (readings f ps row).seen z t a b) own made).picture
+pub row_of_frame : (f : FrameInfo) (ps : List State) (row : ℕ) (s t : State) (a b : FrameDecoder) → s ≡ row_partition row (readings f ps row)
+    → row < f.maps.modes.rows → IsRow f row f.maps.modes.columns (readings f ps row).seen s t a b
+    → b.picture ≡ over f.maps.modes.columns (λ column. rebuilt (macroblock_at f (place row column) (tokens_of f ps (place row column))) (place row column)) a.picture
+unfolding tokens_when_read
+row_of_frame f ps row s t a b own below made =
+    let r : Readings = readings f ps row in
+    (subst (λ (z : State). IsRow f row f.maps.modes.columns r.seen z t a b) own made).picture
+    ∙ over-same f.maps.modes.columns (λ column. rebuilt (macroblock_at f (place row column) (row_tokens f row r.seen (row_partition row r) column)) (place row column))
+    (λ column. rebuilt (macroblock_at f (place row column) (tokens_of f ps (place row column))) (place row column)) a.picture
+    (λ column within p. ap (λ (x : Tokens). rebuilt (macroblock_at f (place row column) x) (place row column) p) (sym (tokens_in_turn f ps (place row column) within below)))
 
 -- what the filter leaves alone
 pub rows_kept : (f : FrameInfo) (ps ds : List State) (row : ℕ) (a b : FrameDecoder) → b.contexts ≡ a.contexts → b.levels ≡ a.levels → IsAfterRows f ps row ds a → IsAfterRows f ps row ds b

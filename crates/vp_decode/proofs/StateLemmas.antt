@@ -12,8 +12,8 @@ use Rattle.vp_refs.specs.References.{all_of}
 use Rattle.vp_tokens.specs.Partitions.{cut_of}
 use Rattle.vp_decode.specs.declared.decoded_frame.DecodedFrame.{DecodedFrame}
 use Rattle.vp_decode.specs.Frame.{picture_of}
-use Rattle.vp_decode.specs.State.{OpenPacket, with_header, state_from_frame, references_in}
-use Rattle.vp_decode.specs.Step.{DecoderState, FrameContext, key_context, inter_context, context_of, ParsedPacket, ◌>>=◌, count_of, parsed, frame_info_of, frame_of_packet, references_after, shown_after, state_after, answer, decoded, Decoder, shown_of, picture_in, after}
+use Rattle.vp_decode.specs.State.{OpenPacket, with_header, state_from_frame, references_in, shown_of}
+use Rattle.vp_decode.specs.Step.{DecoderState, FrameContext, key_context, inter_context, context_of, ParsedPacket, ◌>>=◌, count_of, parsed, frame_info_of, frame_of_packet, references_after, shown_after, state_after, answer, decoded, Decoder, picture_in, after}
 use Rattle.vp_decode.specs.Keeping.{state_kept, keeping}
 use Rattle.vp_decode.proofs.CutLemmas.{opened-is}
 

@@ -10,7 +10,8 @@ use Rattle.vp_tokens.specs.Levels.{Probabilities, bits, size, signed_level, toke
 use Rattle.vp_tokens.specs.Blocks.{Blocks, block_at, no_blocks, all_blocks, macroblock}
 use Rattle.vp_bool.specs.Reader.{rows}
 use Rattle.vp_decode.specs.MacroblockInfo.{place}
-use Rattle.vp_decode.specs.Frame.{FrameInfo, tokens_read, seen_read, row_seen}
+use Rattle.vp_decode.specs.Frame.{FrameInfo}
+use Rattle.vp_decode.specs.TokenRows.{tokens_at, seen_read, row_seen}
 use Rattle.vp_decode.proofs.RunLemmas.{ReadsBools, by_give, by_rows, by_parts}
 
 by_bits : (high : ℕ) (ps : List ℕ) → ReadsBools (bits high ps)
@@ -55,13 +56,13 @@ by_macroblock : (probabilities : Probabilities) (g : Grid Blocks) (p : Place) (h
 unfolding macroblock
 by_macroblock probabilities g p has_y2 skipped = search (by_parts, by_all_blocks)
 
-by_tokens_read : (f : FrameInfo) (p : Place) (seen : Grid Blocks) → ReadsBools (tokens_read f p seen)
-unfolding tokens_read
-by_tokens_read f p seen = search by_macroblock
+by_tokens_at : (f : FrameInfo) (p : Place) (seen : Grid Blocks) → ReadsBools (tokens_at f p seen)
+unfolding tokens_at
+by_tokens_at f p seen = search by_macroblock
 
 by_seen_read : (f : FrameInfo) (p : Place) (seen : Grid Blocks) → ReadsBools (seen_read f p seen)
 unfolding seen_read
-by_seen_read f p seen = search (by_parts, by_tokens_read)
+by_seen_read f p seen = search (by_parts, by_tokens_at)
 
 pub by_row_seen : (f : FrameInfo) (row n : ℕ) (seen : Grid Blocks) → ReadsBools (row_seen f row n seen)
 unfolding row_seen

@@ -6,7 +6,7 @@ use Rattle.vp_bool.specs.Bools.{State, initial_state}
 use Rattle.vp_base.specs.declared.limits.Limits.{Limits}
 use Rattle.vp_head.specs.declared.fault.PacketFault.{PacketFault}
 use Rattle.vp_decode.specs.MacroblockInfo.{maps_read}
-use Rattle.vp_decode.specs.Frame.{FrameInfo, readings}
+use Rattle.vp_decode.specs.Frame.{FrameInfo, all_tokens_read}
 use Rattle.vp_decode.specs.Step.{DecoderState, ParsedPacket, parsed, maps_before, frame_info_of}
 use Rattle.vp_decode.specs.declared.decoder.OnFault.{OnFault}
 use Rattle.vp_decode.specs.declared.decoder.OnFault.TheVariants as on_fault
@@ -19,7 +19,7 @@ first_after o = (maps_read o.header (maps_before o.context.modes) o.first).1
 
 -- the token partitions after the tokens of all rows
 abbrev pub tokens_after : FrameInfo → List State → List State
-tokens_after f partitions = (readings f partitions f.maps.modes.rows).rests
+tokens_after f partitions = (all_tokens_read f partitions).1
 
 -- whether any of these partitions is read past its end
 abbrev pub any_past : List State → Bool

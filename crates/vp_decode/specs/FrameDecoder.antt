@@ -14,8 +14,8 @@ use Rattle.vp_loop.specs.declared.strength.Level.{Level}
 use Rattle.vp_decode.specs.declared.frame_info.Macroblock.{Macroblock}
 use Rattle.vp_decode.specs.declared.frame_info.MacroblockRow.{MacroblockRow}
 use Rattle.vp_decode.specs.MacroblockInfo.{MacroblockInfo, modes_in, place}
-use Rattle.vp_decode.specs.Frame.{FrameInfo, predictor_at, tokens_read, seen_read, row_seen, row_tokens, readings}
-use Rattle.vp_decode.specs.Frame.{tokens_of, macroblock_at, level_at}
+use Rattle.vp_decode.specs.Frame.{FrameInfo, predictor_at, tokens_of, macroblock_at, level_at}
+use Rattle.vp_decode.specs.TokenRows.{tokens_at, seen_read, row_seen, row_tokens, readings}
 
 -- the frame's info, its token contexts, the picture so far and the filter levels so far
 pub record FrameDecoder : Type 0 where
@@ -52,8 +52,8 @@ pub record IsMacroblockStep (f : FrameInfo) (p : Place) (g : Grid Blocks) (s t :
     : Type 0 where
   pub contexts : AreContextsAt (seen_read f p g s).0 (right p) b.contexts
   pub rest : t ≡ (seen_read f p g s).1
-  pub picture : b.picture ≡ rebuilt (macroblock_at f p (tokens_read f p g s).0) p a.picture
-  pub here : entry b.levels p ≡ Some (level_at f p (tokens_read f p g s).0)
+  pub picture : b.picture ≡ rebuilt (macroblock_at f p (tokens_at f p g s).0) p a.picture
+  pub here : entry b.levels p ≡ Some (level_at f p (tokens_at f p g s).0)
   pub elsewhere : (q : Place) → q ≢ p → entry b.levels q ≡ entry a.levels q
 
 -- b is a after the first n macroblocks of a row

@@ -9,7 +9,7 @@ use Rattle.vp_head.specs.declared.fields.Reference.{Reference}
 use Rattle.vp_head.specs.Reference.{is_intra}
 use Rattle.vp_modes.specs.Entry.{Modes, plain}
 use Rattle.vp_modes.specs.Modes.{modes_at}
-use Rattle.vp_motion.specs.Vector.{MacroblockMotion, Motion}
+use Rattle.vp_motion.specs.Vector.{MacroblockMotion}
 use Rattle.vp_motion.specs.Map.{intra}
 use Rattle.vp_motion.specs.Motion.{motion_at}
 
@@ -34,17 +34,13 @@ place row column = record { column = column; row = row }
 abbrev pub with_modes : MacroblockInfo → Place → Modes → MacroblockInfo
 with_modes m p modes = record m { modes = with_entry m.modes p modes }
 
--- m with this motion at p
-abbrev pub with_motion : MacroblockInfo → Place → Reference → Motion → MacroblockInfo
-with_motion m p reference motion = record m {
-  motion = with_entry m.motion p (record { reference = reference; mode = motion.mode; vectors = motion.vectors });
-}
-
 -- reads the motion of an inter macroblock
 unfoldable pub motion_read : Header → Place → Reference → MacroblockInfo → Reader MacroblockInfo
 motion_read h p reference m = do
   motion ← motion_at h m.motion p reference
-  give (with_motion m p reference motion)
+  give (record m {
+    motion = with_entry m.motion p (record { reference = reference; mode = motion.mode; vectors = motion.vectors });
+  })
 
 -- reads a macroblock: its modes, then its motion if it is an inter macroblock
 unfoldable pub macroblock_read : Header → Place → MacroblockInfo → Reader MacroblockInfo

@@ -1,5 +1,5 @@
 -- Private to the crate: the state after a decoded frame, and the sizes in a frame's context.
-use Rattle.std.specs.Prelude.{◌≡◌, ℕ, List, Result, Ok, Err, Option, Some, None, IfSome, option_map}
+use Rattle.std.specs.Prelude.{◌≡◌, ℕ, Bool, true, false, List, Result, Ok, Err, Option, Some, None, IfSome, option_map}
 use Rattle.vp_base.specs.declared.limits.Dim.{Dim}
 use Rattle.vp_base.specs.Grid.{Grid, all}
 use Rattle.vp_base.specs.Image.{Image, macroblocks}
@@ -66,6 +66,12 @@ state_from_frame before header saved f = record {
   references = references_after before header f.picture.value;
   shown = option_map (λ p. p.value) f.shown;
 }
+
+-- the picture that the last packet showed, if it showed one
+abbrev pub shown_of : Bool → Option DecoderState → Option Image
+shown_of true (Some k) = k.shown
+shown_of true None = None
+shown_of false s = None
 
 -- the references of a state, if there is one
 abbrev pub references_in : Option DecoderState → Option References

@@ -1,19 +1,18 @@
 //! Decodes one frame, without changing the decoder's state yet.
 
-ghost use Rattle.std.specs.Prelude.{◌≡◌, ◌<◌, ◌≤◌, ◌||◌, length, map, IfOk, IfSome, None, option_map};
-ghost use Rattle.vp_base.specs.Image.{macroblocks};
+ghost use Rattle.std.specs.Prelude.{◌≡◌, ◌||◌, map, IfOk, IfSome, None, option_map};
 ghost use Rattle.vp_modes.specs.Map.{segments_of};
 ghost use Rattle.vp_bool.specs.Bools.{initial_state};
 ghost use Rattle.vp_decode.specs.Corrupt.{any_past, tokens_after, is_corrupt};
 ghost use Rattle.vp_decode.specs.Equation.{IsOneSize};
-ghost use Rattle.vp_decode.specs.Frame.{frame_of, picture_of};
+ghost use Rattle.vp_decode.specs.Frame.{picture_of};
 ghost use Rattle.vp_decode.specs.MacroblockInfo.{maps_read};
 ghost use Rattle.vp_decode.specs.RebuiltFrame.{IsRebuiltFrame};
 ghost use Rattle.vp_decode.specs.Step.{maps_before, frame_info_of, frame_of_packet, shown_after, state_after};
 
 use crate::frame_buffers::FrameBuffers;
 use crate::frame_context::FrameContext;
-use crate::frame_decoder::{DecodedPicture, FrameDecoder};
+use crate::frame_decoder::{DecodedPicture, decode_picture};
 use crate::frame_info::FrameInfo;
 use crate::macroblock_info::MacroblockInfo;
 use crate::parsed_packet::ParsedPacket;
@@ -21,13 +20,12 @@ use crate::rebuilt_frame::filter_rebuilt;
 use std::alloc::{AllocError, Global};
 use std::mem;
 use std::rc::Rc;
-use vp_base::{Dim, Grid, Picture};
+use vp_base::{Grid, Picture};
 use vp_bool::BoolDecoder;
 use vp_head::Header;
 use vp_loop::RowFilter;
 use vp_modes::Segment;
 use vp_recon::unfiltered_picture_solves_its_equation;
-use vp_tokens::{Partitions, Tokens};
 
 /// A decoded frame that is not yet part of the decoder's state.
 #[derive(Drop)]
@@ -38,31 +36,6 @@ pub(crate) struct DecodedFrame {
     pub shown: Option<Rc<Picture>>,
     /// Whether a partition was read past its end. If the tokens were not read, only the first partition counts.
     pub corrupt: bool,
-}
-
-/// Decodes a frame's picture from its 1 to 8 token partitions, and tells whether one is read past its end. It is not
-/// inlined: its memory then is not part of the stack while the header is read.
-#[inline(never)]
-fn decode_picture<F: RowFilter>(
-    alloc: Global,
-    buffers: &mut FrameBuffers,
-    info: &FrameInfo,
-    dim: Dim,
-    partitions: &Partitions,
-    filter: &mut F,
-) -> Result<DecodedPicture, AllocError>
-    requires columns { info.now.maps.modes.columns ≡ macroblocks dim.w }
-    requires rows { info.now.maps.modes.rows ≡ macroblocks dim.h }
-    requires some { 0 < length partitions.now }
-    requires few { length partitions.now ≤ 8 }
-    ensures picture { IfOk result (λ p. p.picture
-        ≡ picture_of (frame_of info.now (map initial_state partitions.now) dim.w dim.h)) }
-    ensures corrupt { IfOk result (λ p. p.corrupt
-        ≡ any_past (tokens_after info.now (map initial_state partitions.now))) }
-{
-    let mut tokens = Tokens::NONE;
-    let rebuilding = FrameDecoder::new(alloc, buffers, info, dim, &mut tokens)?;
-    Ok(rebuilding.picture(partitions, filter, buffers))
 }
 
 /// Returns the last shown picture: this one if `show` is set, else the one before it.
@@ -129,7 +102,7 @@ fn picture_of_packet<F: RowFilter>(
     unfiltered_picture_solves_its_equation();
     let context = &parsed.context;
     let version = parsed.tag.version;
-    let info = FrameInfo::new(parsed.header, version, context.references(), maps);
+    let info = FrameInfo::new(parsed.header, version, context.references, maps);
     match rebuilt {
         Some(rebuilt) => Ok(DecodedPicture {
             picture: filter_rebuilt(alloc, buffers, &info, rebuilt, filter)?,

@@ -1,6 +1,6 @@
 //! The context that a frame is decoded in: defaults for a key frame, the saved state for an inter frame.
 
-ghost use Rattle.std.specs.Prelude.{◌≡◌, ◌≤◌, Ok, Err, IfOk, MatchResult, option_map};
+ghost use Rattle.std.specs.Prelude.{◌≡◌, ◌≤◌, Ok, Err, IfOk, MatchResult};
 ghost use Rattle.vp_head.specs.Header.{header};
 ghost use Rattle.vp_decode.specs.Step.{current_state, context_of, maps_before};
 
@@ -101,13 +101,6 @@ impl<'a> FrameContext<'a> {
             return Header::read(&Saved::defaults(), tag, first);
         };
         Header::read(saved, tag, first)
-    }
-
-    /// Returns the reference frames; None for a key frame.
-    pub(crate) fn references(&self) -> Option<&Refs>
-        ensures { option_map (λ r. r.now) result ≡ self.now.references }
-    {
-        self.references
     }
 
     /// Returns the macroblock info before the frame, in the memory of `buffers`.

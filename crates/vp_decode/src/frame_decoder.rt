@@ -1,6 +1,6 @@
 //! Rebuilds and filters a frame's picture, row by row of macroblocks.
 
-ghost use Rattle.std.specs.Prelude.{◌≡◌, ℕ, ◌+◌, ◌<◌, ◌≤◌, IfOk, [], length, map, slice_index_or};
+ghost use Rattle.std.specs.Prelude.{◌≡◌, ℕ, ◌+◌, ◌<◌, ◌≤◌, IfOk, [], length, map, slice_index_or, take};
 ghost use Rattle.vp_base.specs.Grid.{Grid, Has, all};
 ghost use Rattle.vp_base.specs.Image.{macroblocks};
 ghost use Rattle.vp_bool.specs.Bools.{initial_state};
@@ -62,36 +62,6 @@ impl<'a> Model for FrameDecoder<'a> {
 }
 
 impl<'a> FrameDecoder<'a> {
-    /// Starts a frame of this size in the memory of `buffers`. The initial pixels and tokens don't matter.
-    pub(crate) fn new(
-        alloc: Global,
-        buffers: &mut FrameBuffers,
-        info: &'a FrameInfo<'a>,
-        dim: Dim,
-        tokens: &'a mut Tokens,
-    ) -> Result<FrameDecoder<'a>, AllocError>
-        requires columns { info.now.maps.modes.columns ≡ macroblocks dim.w }
-        requires rows { info.now.maps.modes.rows ≡ macroblocks dim.h }
-        ensures info { IfOk result (λ b. b.info ≡ info.now) }
-        ensures contexts { IfOk result (λ b. AreContextsAt
-            (all info.now.maps.modes.columns info.now.maps.modes.rows no_blocks_read) (place 0 0) b.contexts) }
-        ensures width { IfOk result (λ b. b.picture.width ≡ dim.w) }
-        ensures height { IfOk result (λ b. b.picture.height ≡ dim.h) }
-        ensures shaped { IfOk result (λ b. IsShaped b.picture.width b.picture.height b.picture) }
-    {
-        let columns = info.columns();
-        let picture = buffers.picture(alloc, dim)?;
-        let contexts = mem::replace(&mut buffers.contexts, Contexts::empty(alloc)).refill(columns)?;
-        let levels = buffers.levels(alloc, columns, info.rows())?;
-        Ok(FrameDecoder {
-            info,
-            contexts,
-            picture,
-            levels,
-            tokens,
-        })
-    }
-
     /// Decodes the macroblock at a place: reads its tokens, rebuilds it, and computes its filter level. Inlined, so that
     /// the compiler follows inter macroblocks by themselves.
     #[inline(always)]
@@ -200,46 +170,6 @@ impl<'a> FrameDecoder<'a> {
         }
         self.filter_before(rows, filter);
     }
-
-    /// Decodes the picture from its token partitions, and tells whether one of them is read past its end. The other
-    /// memory goes back into `buffers`.
-    pub(crate) fn picture<F: RowFilter>(
-        mut self,
-        parts: &Partitions,
-        filter: &mut F,
-        buffers: &mut FrameBuffers,
-    ) -> DecodedPicture
-        requires some { 0 < length parts.now }
-        requires few { length parts.now ≤ 8 }
-        requires contexts { AreContextsAt (all self.info.maps.modes.columns self.info.maps.modes.rows no_blocks_read)
-            (place 0 0) self.contexts }
-        requires shaped { IsShaped self.picture.width self.picture.height self.picture }
-        ensures picture { result.picture ≡ picture_of (frame_of self.entry.info
-            (map initial_state parts.now) self.entry.picture.width self.entry.picture.height) }
-        ensures corrupt { result.corrupt ≡ any_past
-            (tokens_after self.entry.info (map initial_state parts.now)) }
-    {
-        let mut decoders = [
-            BoolDecoder::new(part_or_none(parts, 0)),
-            BoolDecoder::new(part_or_none(parts, 1)),
-            BoolDecoder::new(part_or_none(parts, 2)),
-            BoolDecoder::new(part_or_none(parts, 3)),
-            BoolDecoder::new(part_or_none(parts, 4)),
-            BoolDecoder::new(part_or_none(parts, 5)),
-            BoolDecoder::new(part_or_none(parts, 6)),
-            BoolDecoder::new(part_or_none(parts, 7)),
-        ];
-        let count = parts.count();
-        let decoders = &mut decoders[..count];
-        self.rows(decoders, filter);
-        let corrupt = any_past_end(decoders);
-        buffers.contexts = self.contexts;
-        buffers.levels = self.levels;
-        DecodedPicture {
-            picture: self.picture,
-            corrupt,
-        }
-    }
 }
 
 /// Returns whether any of these decoders is past the end of its partition.
@@ -258,4 +188,63 @@ fn part_or_none<'a>(parts: &Partitions<'a>, i: usize) -> &'a [u8]
     } else {
         &[]
     }
+}
+
+/// Returns a decoder of each token partition, followed by decoders of no bytes.
+fn decoders_of<'a>(parts: &Partitions<'a>) -> [BoolDecoder<'a>; 8]
+    requires { length parts.now ≤ 8 }
+    ensures { take (length parts.now) result ≡ map initial_state parts.now }
+{
+    [
+        BoolDecoder::new(part_or_none(parts, 0)),
+        BoolDecoder::new(part_or_none(parts, 1)),
+        BoolDecoder::new(part_or_none(parts, 2)),
+        BoolDecoder::new(part_or_none(parts, 3)),
+        BoolDecoder::new(part_or_none(parts, 4)),
+        BoolDecoder::new(part_or_none(parts, 5)),
+        BoolDecoder::new(part_or_none(parts, 6)),
+        BoolDecoder::new(part_or_none(parts, 7)),
+    ]
+}
+
+/// Decodes a frame's picture from its 1 to 8 token partitions, and tells whether one is read past its end. Uses the
+/// memory of `buffers`. It is not inlined: its own memory then is not part of the stack while the header is read.
+#[inline(never)]
+pub(crate) fn decode_picture<F: RowFilter>(
+    alloc: Global,
+    buffers: &mut FrameBuffers,
+    info: &FrameInfo,
+    dim: Dim,
+    partitions: &Partitions,
+    filter: &mut F,
+) -> Result<DecodedPicture, AllocError>
+    requires columns { info.now.maps.modes.columns ≡ macroblocks dim.w }
+    requires rows { info.now.maps.modes.rows ≡ macroblocks dim.h }
+    requires some { 0 < length partitions.now }
+    requires few { length partitions.now ≤ 8 }
+    ensures picture { IfOk result (λ p. p.picture
+        ≡ picture_of (frame_of info.now (map initial_state partitions.now) dim.w dim.h)) }
+    ensures corrupt { IfOk result (λ p. p.corrupt
+        ≡ any_past (tokens_after info.now (map initial_state partitions.now))) }
+{
+    let columns = info.columns();
+    let picture = buffers.picture(alloc, dim)?;
+    let contexts = mem::replace(&mut buffers.contexts, Contexts::empty(alloc)).refill(columns)?;
+    let levels = buffers.levels(alloc, columns, info.rows())?;
+    let mut frame = FrameDecoder {
+        info,
+        contexts,
+        picture,
+        levels,
+        tokens: &mut Tokens::NONE,
+    };
+    let decoders = &mut decoders_of(partitions)[..partitions.count()];
+    frame.rows(decoders, filter);
+    let corrupt = any_past_end(decoders);
+    buffers.contexts = frame.contexts;
+    buffers.levels = frame.levels;
+    Ok(DecodedPicture {
+        picture: frame.picture,
+        corrupt,
+    })
 }

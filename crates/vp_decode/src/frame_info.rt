@@ -37,9 +37,9 @@ pub(crate) struct FrameInfo<'a> {
 }
 
 impl<'a> Model for FrameInfo<'a> {
-    ghost use Rattle.std.specs.Prelude.{◌≡◌, option_map};
+    ghost use Rattle.std.specs.Prelude.{◌≡◌, [], ◌∷◌, option_map};
     ghost use Rattle.vp_loop.specs.LevelTable.{AreFrameLevels};
-    ghost use Rattle.vp_decode.specs.Frame.{FrameInfo, segment_factors};
+    ghost use Rattle.vp_decode.specs.Frame.{FrameInfo, factors_of};
 
     ghost Value = { FrameInfo };
 
@@ -50,7 +50,8 @@ impl<'a> Model for FrameInfo<'a> {
       maps = f.maps.now;
     } };
 
-    ghost invariant = { λ f. (f.factors ≡ segment_factors f.header.now) × AreFrameLevels f.header.now f.levels };
+    ghost invariant = { λ f. (f.factors ≡ factors_of f.header.now 0 ∷ factors_of f.header.now 1
+        ∷ factors_of f.header.now 2 ∷ factors_of f.header.now 3 ∷ []) × AreFrameLevels f.header.now f.levels };
 }
 
 /// The modes and the motion of a row of macroblocks, from left to right.

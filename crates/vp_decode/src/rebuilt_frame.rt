@@ -40,28 +40,9 @@ fn set_levels(levels: &mut Grid<Level>, info: &FrameInfo, row: usize)
     }
 }
 
-/// Filters a picture, row by row of macroblocks. The levels of each row are computed first.
-fn filter_rows<F: RowFilter>(
-    picture: &mut Picture,
-    levels: &mut Grid<Level>,
-    info: &FrameInfo,
-    filter: &mut F,
-)
-    requires columns { info.now.maps.modes.columns ≡ macroblocks picture.old.width }
-    requires rows { info.now.maps.modes.rows ≡ macroblocks picture.old.height }
-    requires level_columns { levels.old.columns ≡ info.now.maps.modes.columns }
-    requires level_rows { levels.old.rows ≡ info.now.maps.modes.rows }
-    ensures { (tokens : Place → Tokens) → AreSkipsOf info.now tokens
-        → picture.new ≡ filtered (level_by info.now tokens) picture.old }
-{
-    for row in 0..info.rows() {
-        set_levels(levels, info, row);
-        filter.row(picture, levels.as_slice(), row);
-    }
-}
-
-/// Filters a frame's rebuilt picture, whose macroblocks have tokens unless they are skipped. The memory of the levels
-/// is that of `buffers`. It is not inlined: its memory then is not part of the stack of other frames.
+/// Filters a frame's rebuilt picture, row by row of macroblocks. The levels of each row are computed first: macroblocks
+/// have tokens unless they are skipped. Their memory is that of `buffers`. It is not inlined: its own memory then is
+/// not part of the stack of other frames.
 #[inline(never)]
 pub(crate) fn filter_rebuilt<F: RowFilter>(
     alloc: Global,
@@ -75,9 +56,13 @@ pub(crate) fn filter_rebuilt<F: RowFilter>(
     ensures { IfOk result (λ p. (tokens : Place → Tokens) → AreSkipsOf info.now tokens
         → p ≡ filtered (level_by info.now tokens) rebuilt) }
 {
-    let mut levels = buffers.levels(alloc, info.columns(), info.rows())?;
+    let rows = info.rows();
+    let mut levels = buffers.levels(alloc, info.columns(), rows)?;
     let mut picture = rebuilt;
-    filter_rows(&mut picture, &mut levels, info, filter);
+    for row in 0..rows {
+        set_levels(&mut levels, info, row);
+        filter.row(&mut picture, levels.as_slice(), row);
+    }
     buffers.levels = levels;
     Ok(picture)
 }

@@ -23,7 +23,9 @@ use Rattle.vp_tokens.specs.Blocks.{Blocks, blocks_of, macroblock}
 use Rattle.vp_tokens.specs.Contexts.{Contexts, AreContextsAt, right}
 use Rattle.vp_tokens.proofs.Steps.{row_begins}
 use Rattle.vp_decode.specs.MacroblockInfo.{place}
-use Rattle.vp_decode.specs.Frame.{FrameInfo, Readings, predictor_by, predictor_at, tokens_read, seen_read, row_seen, row_tokens, row_partition, token_row, nothing_read, readings, tokens_of}
+use Rattle.vp_decode.specs.Frame.{FrameInfo, predictor_by, predictor_at, tokens_of}
+use Rattle.vp_decode.specs.TokenRows.{tokens_at, seen_read, row_seen, row_tokens, Readings, row_partition, token_row, nothing_read, readings, tokens_when_read}
+use Rattle.vp_decode.proofs.TokenGrid.{tokens_in_turn, rests_in_turn}
 use Rattle.vp_choose.specs.declared.frame.Choice.{Choice}
 use Rattle.vp_encode.specs.declared.coded_frame.CodedFrame.{CodedFrame}
 use Rattle.vp_encode.specs.CodedFrame.{nothing, coded_choice, saved_motion, choice_has_y2}
@@ -56,8 +58,8 @@ plan_y2 c f p plan inside =
     ∙ source_y2 f.references f.version (coded_choice c p) (λ none. plan.own none p inside)
 
 plan_tokens : (c : CodedFrame) (f : FrameInfo) (p : Place) (g : Grid Blocks) → IsPlanOf c f → Has c.macroblocks p
-    → macroblock c.header.probabilities.coefficients g p (choice_has_y2 (coded_choice c p)) (coded_choice c p).modes.skip ≡ tokens_read f p g
-unfolding tokens_read
+    → macroblock c.header.probabilities.coefficients g p (choice_has_y2 (coded_choice c p)) (coded_choice c p).modes.skip ≡ tokens_at f p g
+unfolding tokens_at
 plan_tokens c f p g plan inside =
     let y2 = plan_y2 c f p plan inside in
     sym (λ i. macroblock (plan.header i).probabilities.coefficients g p (y2 i) (plan.maps.modes p inside i).skip)
@@ -68,7 +70,7 @@ row_seen-more : (f : FrameInfo) (row n : ℕ) (g : Grid Blocks) (s : State) → 
 unfolding row_seen rows bind
 row_seen-more f row n g s = rw add-one refl
 
-row_given : (f : FrameInfo) (row n : ℕ) (g k : Grid Blocks) (s t u : State) (x : Tokens) → row_seen f row n g s ≡ (k, t) → tokens_read f (place row n) k t ≡ (x, u)
+row_given : (f : FrameInfo) (row n : ℕ) (g k : Grid Blocks) (s t u : State) (x : Tokens) → row_seen f row n g s ≡ (k, t) → tokens_at f (place row n) k t ≡ (x, u)
     → row_seen f row (n + 1) g s ≡ (with_entry k (place row n) (blocks_of (source_has_y2 (predictor_at f (place row n))) x), u)
 unfolding seen_read bind
 row_given f row n g k s t u x before here =
@@ -76,11 +78,11 @@ row_given f row n g k s t u x before here =
     ∙ ap (λ (r : Grid Blocks × State). seen_read f (place row n) r.0 r.1) before
     ∙ ap (λ (r : Tokens × State). (with_entry k (place row n) (blocks_of (source_has_y2 (predictor_at f (place row n))) r.0), r.1)) here
 
-tokens_given : (f : FrameInfo) (row n : ℕ) (g k : Grid Blocks) (s t u : State) (x : Tokens) → row_seen f row n g s ≡ (k, t) → tokens_read f (place row n) k t ≡ (x, u)
+tokens_given : (f : FrameInfo) (row n : ℕ) (g k : Grid Blocks) (s t u : State) (x : Tokens) → row_seen f row n g s ≡ (k, t) → tokens_at f (place row n) k t ≡ (x, u)
     → row_tokens f row g s n ≡ x
 unfolding row_tokens
 tokens_given f row n g k s t u x before here =
-    ap (λ (r : Grid Blocks × State). (tokens_read f (place row n) r.0 r.1).0) before ∙ ap (λ (r : Tokens × State). r.0) here
+    ap (λ (r : Grid Blocks × State). (tokens_at f (place row n) r.0 r.1).0) before ∙ ap (λ (r : Tokens × State). r.0) here
 
 pub token_row_none : (f : FrameInfo) (c : CodedFrame) (row : ℕ) (g : Grid Blocks) (contexts : Contexts) (e : Interval) → AreContextsAt g (place row 0) contexts → IsTokenRow f c row 0 g contexts e e
 unfolding write_all row_seen rows
@@ -105,11 +107,11 @@ token_row_next f c row n g x y2 skip tokens contexts after {old = old} {mid = mi
     let there : Has c.macroblocks p = record { column = column; row = inside } in
     let same : coded_choice c p ≡ x = ap (λ o. unwrap_or o nothing) is in
     let y2_is : source_has_y2 (predictor_at f p) ≡ y2 = plan_y2 c f p plan there ∙ ap choice_has_y2 same ∙ sym kind in
-    let reader : macroblock c.header.probabilities.coefficients made.seen p y2 skip ≡ tokens_read f p made.seen =
+    let reader : macroblock c.header.probabilities.coefficients made.seen p y2 skip ≡ tokens_at f p made.seen =
     (λ i. macroblock c.header.probabilities.coefficients made.seen p (kind i) (skip_is i))
     ∙ ap (λ (z : Choice). macroblock c.header.probabilities.coefficients made.seen p (choice_has_y2 z) z.modes.skip) (sym same)
     ∙ plan_tokens c f p made.seen plan there in
-    let w : Writes (tokens_read f p made.seen) mid new tokens = subst (λ r. Writes r mid new tokens) reader (writes made.seen made.stands) in
+    let w : Writes (tokens_at f p made.seen) mid new tokens = subst (λ r. Writes r mid new tokens) reader (writes made.seen made.stands) in
     let bs = made.written.bools in
     let seen : Grid Blocks = with_entry made.seen p (blocks_of (source_has_y2 (predictor_at f p)) tokens) in
     record {
@@ -209,8 +211,8 @@ row_left f row n k g h ts t u wide at here read =
 
 -- the tokens of a row, by the place
 row_tokens_of : (f : FrameInfo) (ss ts : List State) (p : Place) (k : ℕ) (g : Grid Blocks) (t : State) (x : Tokens) → readings f ss p.row ≡ record { seen = g; rests = ts }
-    → p.row % length ts ≡ k → left ts k ≡ t → row_tokens f p.row g t p.column ≡ x → tokens_of f ss p ≡ x
-unfolding tokens_of
+    → p.row % length ts ≡ k → left ts k ≡ t → row_tokens f p.row g t p.column ≡ x → tokens_when_read f ss p ≡ x
+unfolding tokens_when_read
 row_tokens_of f ss ts p k g t x before at here read =
     ap (λ (r : Readings). row_tokens f p.row r.seen (row_partition p.row r) p.column) before
     ∙ ap (λ (j : ℕ). row_tokens f p.row g (left ts j) p.column) at
@@ -266,7 +268,7 @@ frame_next f c row k before after es e new plan at within own made last =
                 let same : row ≡ p.row = omega arith in
                 let q : Place = place row p.column in
                 let there : q ≡ p = λ i. record { column = p.column; row = same i } in
-                subst (λ (z : Place). tokens_of f ss z ≡ (coded_choice c z).tokens) there
+                subst (λ (z : Place). tokens_when_read f ss z ≡ (coded_choice c z).tokens) there
                 (row_tokens_of f ss ts q k made.seen h.0 (coded_choice c q).tokens (made.taken ss ts h.1) (ap (λ (n : ℕ). row % n) long ∙ at) here (last.tokens h.0 (left us k) h.2 p.column column))
           ];
     }
@@ -296,14 +298,16 @@ same_partitions (bs ∷ bss) (e ∷ es) same written =
     let more = same_partitions bss es (omega arith) (λ i below. written (suc i) (omega arith)) in
     λ i. finished (first i) ∷ more i
 
-pub frame_written : (f : FrameInfo) (c : CodedFrame) (contexts : Contexts) (es : List Interval) (parts : List (List ℕ)) → AreTokenRows f c c.macroblocks.rows contexts es
+pub frame_written : (f : FrameInfo) (c : CodedFrame) (contexts : Contexts) (es : List Interval) (parts : List (List ℕ)) → IsPlanOf c f → AreTokenRows f c c.macroblocks.rows contexts es
     → parts ≡ map finished es → (bools : List (List (Bool × ℕ))) × AreTokens f c bools × (parts ≡ map partition_of_bools bools)
-frame_written f c contexts es parts made are = (
+frame_written f c contexts es parts plan made are = (
   made.bools,
   record {
     probabilities = made.probabilities;
-    tokens = λ ss ts reads p inside. made.tokens ss ts reads p inside.row inside.column;
-    rests = λ ss ts reads. ap (λ (r : Readings). r.rests) (made.taken ss ts reads);
+    tokens = λ ss ts reads p inside.
+        tokens_in_turn f ss p (omega (arith, plan.maps.columns, inside.column)) (omega (arith, plan.maps.rows, inside.row))
+        ∙ made.tokens ss ts reads p inside.row inside.column;
+    rests = λ ss ts reads. rests_in_turn f ss ∙ ap (λ (n : ℕ). (readings f ss n).rests) plan.maps.rows ∙ ap (λ (r : Readings). r.rests) (made.taken ss ts reads);
   },
   are ∙ same_partitions made.bools es made.count made.written,
 )

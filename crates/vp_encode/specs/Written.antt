@@ -24,7 +24,8 @@ use Rattle.vp_tokens.specs.Blocks.{Blocks, no_blocks_read}
 use Rattle.vp_tokens.specs.Contexts.{Contexts, AreContextsAt}
 use Rattle.vp_tokens.specs.Partitions.{cut_of}
 use Rattle.vp_decode.specs.MacroblockInfo.{MacroblockInfo, modes_in, motion_in, place, maps_read}
-use Rattle.vp_decode.specs.Frame.{FrameInfo, row_seen, row_tokens, readings, tokens_of}
+use Rattle.vp_decode.specs.Frame.{FrameInfo, all_tokens_read, tokens_of}
+use Rattle.vp_decode.specs.TokenRows.{row_seen, row_tokens, readings, tokens_when_read}
 use Rattle.vp_decode.specs.Step.{count_of}
 use Rattle.vp_encode.specs.declared.coded_frame.CodedFrame.{CodedFrame}
 use Rattle.vp_encode.specs.CodedFrame.{coded_choice}
@@ -116,14 +117,15 @@ pub record AreTokenRows (f : FrameInfo) (c : CodedFrame) (row : ℕ) (contexts :
   pub written : (i : ℕ) → i < length es → HasWritten (slice_index_or bools i []) (slice_index_or es i whole_interval)
   pub taken : (ss ts : List State) → AllRead bools ss ts → readings f ss row ≡ record { seen = seen; rests = ts }
   pub tokens : (ss ts : List State) → AllRead bools ss ts
-      → (p : Place) → p.row < row → p.column < c.macroblocks.columns → tokens_of f ss p ≡ (coded_choice c p).tokens
+      → (p : Place) → p.row < row → p.column < c.macroblocks.columns
+      → tokens_when_read f ss p ≡ (coded_choice c p).tokens
 
 -- from these bools, one list for each partition, exactly the tokens of the frame are read
 pub record AreTokens (f : FrameInfo) (c : CodedFrame) (bools : List (List (Bool × ℕ))) : Type 0 where
   pub probabilities : (i : ℕ) → AreProbabilities (slice_index_or bools i [])
   pub tokens : (ss ts : List State) → AllRead bools ss ts → (p : Place) → Has c.macroblocks p
       → tokens_of f ss p ≡ (coded_choice c p).tokens
-  pub rests : (ss ts : List State) → AllRead bools ss ts → (readings f ss c.macroblocks.rows).rests ≡ ts
+  pub rests : (ss ts : List State) → AllRead bools ss ts → (all_tokens_read f ss).1 ≡ ts
 
 -- the token partitions of the frame
 pub record AreTokenPartitions (c : CodedFrame) (parts : List (List ℕ)) : Type 0 where

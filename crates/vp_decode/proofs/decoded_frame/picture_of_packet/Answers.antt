@@ -21,7 +21,7 @@ filter_rebuilt-requires-clause-columns g c =
     let o : ParsedPacket = record { tag = c.parsed.inside.tag; context = c.parsed.inside.context; header = c.parsed.inside.header.now; saved = c.parsed.inside.saved.now; first = c.parsed.inside.first; partitions = c.parsed.inside.partitions } in
     let law = c.unfiltered_picture_solves_its_equation.ensures in
     (rebuilt_covered (record { size = law.size; aligned = law.aligned; whole = law.whole }) o c.new-info.result c.in-Some.rebuilt
-    (planned o c.new-info.result _ _ c.new-info.ensures c.references.ensures (c.requires.maps ∙ ap (λ (z : ParsedPacket). (maps_read z.header (maps_before z.context.modes) z.first).0) (sym c.parsed.view_is))) c.parsed.invariant.0
+    (planned o c.new-info.result _ _ c.new-info.ensures (ap (λ (b : FrameContext). b.references) c.context.view_is) (c.requires.maps ∙ ap (λ (z : ParsedPacket). (maps_read z.header (maps_before z.context.modes) z.first).0) (sym c.parsed.view_is))) c.parsed.invariant.0
     (rebuilt_given o c.args.parsed.now c.args.rebuilt c.in-Some.rebuilt (sym c.parsed.view_is) c.in-Some.is c.requires.given)).columns
 
 pub filter_rebuilt-requires-clause-rows : goal.filter_rebuilt-requires-clause-rows
@@ -29,13 +29,13 @@ filter_rebuilt-requires-clause-rows g c =
     let o : ParsedPacket = record { tag = c.parsed.inside.tag; context = c.parsed.inside.context; header = c.parsed.inside.header.now; saved = c.parsed.inside.saved.now; first = c.parsed.inside.first; partitions = c.parsed.inside.partitions } in
     let law = c.unfiltered_picture_solves_its_equation.ensures in
     (rebuilt_covered (record { size = law.size; aligned = law.aligned; whole = law.whole }) o c.new-info.result c.in-Some.rebuilt
-    (planned o c.new-info.result _ _ c.new-info.ensures c.references.ensures (c.requires.maps ∙ ap (λ (z : ParsedPacket). (maps_read z.header (maps_before z.context.modes) z.first).0) (sym c.parsed.view_is))) c.parsed.invariant.0
+    (planned o c.new-info.result _ _ c.new-info.ensures (ap (λ (b : FrameContext). b.references) c.context.view_is) (c.requires.maps ∙ ap (λ (z : ParsedPacket). (maps_read z.header (maps_before z.context.modes) z.first).0) (sym c.parsed.view_is))) c.parsed.invariant.0
     (rebuilt_given o c.args.parsed.now c.args.rebuilt c.in-Some.rebuilt (sym c.parsed.view_is) c.in-Some.is c.requires.given)).rows
 
 pub returns-in_ok-filter_rebuilt-in-Some-clause-picture : goal.returns-in_ok-filter_rebuilt-in-Some-clause-picture
 returns-in_ok-filter_rebuilt-in-Some-clause-picture g c =
     let o : ParsedPacket = record { tag = c.parsed.inside.tag; context = c.parsed.inside.context; header = c.parsed.inside.header.now; saved = c.parsed.inside.saved.now; first = c.parsed.inside.first; partitions = c.parsed.inside.partitions } in
-    let info : c.new-info.result ≡ frame_info_of o = planned o c.new-info.result _ _ c.new-info.ensures c.references.ensures (c.requires.maps ∙ ap (λ (z : ParsedPacket). (maps_read z.header (maps_before z.context.modes) z.first).0) (sym c.parsed.view_is)) in
+    let info : c.new-info.result ≡ frame_info_of o = planned o c.new-info.result _ _ c.new-info.ensures (ap (λ (b : FrameContext). b.references) c.context.view_is) (c.requires.maps ∙ ap (λ (z : ParsedPacket). (maps_read z.header (maps_before z.context.modes) z.first).0) (sym c.parsed.view_is)) in
     rebuilt_picture o c.new-info.result c.in-Some.rebuilt _ info
     (rebuilt_given o c.args.parsed.now c.args.rebuilt c.in-Some.rebuilt (sym c.parsed.view_is) c.in-Some.is c.requires.given) c.in_ok-filter_rebuilt-in-Some.ensures
     ∙ ap (λ (z : ParsedPacket). picture_of (frame_of_packet z)) c.parsed.view_is
@@ -43,7 +43,7 @@ returns-in_ok-filter_rebuilt-in-Some-clause-picture g c =
 pub returns-in-None-clause-picture : goal.returns-in-None-clause-picture
 returns-in-None-clause-picture g c =
     let o : ParsedPacket = record { tag = c.parsed.inside.tag; context = c.parsed.inside.context; header = c.parsed.inside.header.now; saved = c.parsed.inside.saved.now; first = c.parsed.inside.first; partitions = c.parsed.inside.partitions } in
-    let info : c.new-info.result ≡ frame_info_of o = planned o c.new-info.result _ _ c.new-info.ensures c.references.ensures (c.requires.maps ∙ ap (λ (z : ParsedPacket). (maps_read z.header (maps_before z.context.modes) z.first).0) (sym c.parsed.view_is)) in
+    let info : c.new-info.result ≡ frame_info_of o = planned o c.new-info.result _ _ c.new-info.ensures (ap (λ (b : FrameContext). b.references) c.context.view_is) (c.requires.maps ∙ ap (λ (z : ParsedPacket). (maps_read z.header (maps_before z.context.modes) z.first).0) (sym c.parsed.view_is)) in
     let size : frame_of (frame_info_of o) (map initial_state o.partitions) c.context.inside.dim.w c.context.inside.dim.h ≡ frame_of_packet o =
     ap (λ (b : FrameContext). frame_of (frame_info_of o) (map initial_state o.partitions) b.width b.height) c.context.view_is in
     subst (λ (p : Image). IfOk c.decode_picture.result (λ d. d.picture ≡ p))
@@ -54,7 +54,7 @@ returns-in-None-clause-picture g c =
 pub returns-in-None-clause-corrupt : goal.returns-in-None-clause-corrupt
 returns-in-None-clause-corrupt g c = λ given.
     let o : ParsedPacket = record { tag = c.parsed.inside.tag; context = c.parsed.inside.context; header = c.parsed.inside.header.now; saved = c.parsed.inside.saved.now; first = c.parsed.inside.first; partitions = c.parsed.inside.partitions } in
-    let info : c.new-info.result ≡ frame_info_of o = planned o c.new-info.result _ _ c.new-info.ensures c.references.ensures (c.requires.maps ∙ ap (λ (z : ParsedPacket). (maps_read z.header (maps_before z.context.modes) z.first).0) (sym c.parsed.view_is)) in
+    let info : c.new-info.result ≡ frame_info_of o = planned o c.new-info.result _ _ c.new-info.ensures (ap (λ (b : FrameContext). b.references) c.context.view_is) (c.requires.maps ∙ ap (λ (z : ParsedPacket). (maps_read z.header (maps_before z.context.modes) z.first).0) (sym c.parsed.view_is)) in
     subst (λ (b : Bool). IfOk c.decode_picture.result (λ d. d.corrupt ≡ b))
     (ap (λ (f : FrameInfo). any_past (tokens_after f (map initial_state o.partitions))) info
     ∙ ap (λ (z : ParsedPacket). any_past (tokens_after (frame_info_of z) (map initial_state z.partitions))) c.parsed.view_is)

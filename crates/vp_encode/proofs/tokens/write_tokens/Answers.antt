@@ -15,7 +15,7 @@ returns c =
     let count : length (lists parts) ≡ c.partition_count.result = ap length are ∙ length-map es finished ∙ sym long ∙ c.in_ok-encoders.encoders.ok.0 ∙ c.in_ok-encoders.ensures.count in
     let listed : length (lists parts) ≡ length parts = length-map parts (λ v. v.items) in
     record {
-      parts = record { count = count ∙ c.partition_count.ensures.value; each = λ f plan. frame_written f c.args.coded.now c.write_rows.new.contexts es (lists parts) (c.in_ok-write_rows.ensures f plan) are };
+      parts = record { count = count ∙ c.partition_count.ensures.value; each = λ f plan. frame_written f c.args.coded.now c.write_rows.new.contexts es (lists parts) plan (c.in_ok-write_rows.ensures f plan) are };
       some = omega arith;
       few = omega arith;
     }

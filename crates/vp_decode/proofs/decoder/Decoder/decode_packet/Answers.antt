@@ -1,6 +1,7 @@
 use Rattle.std.proofs.Common.{◌∙◌, Bool, Some, sym, ap, subst}
 use Rattle.vp_decode.specs.Equation.{IsOneSize}
-use Rattle.vp_decode.specs.Step.{ParsedPacket, Decoder, parsed, decoded, shown_of, after}
+use Rattle.vp_decode.specs.Step.{ParsedPacket, Decoder, parsed, decoded, after}
+use Rattle.vp_decode.specs.State.{shown_of}
 use Rattle.vp_decode.specs.Keeping.{keeping}
 use Rattle.vp_decode.specs.FrameFacts.{facts_in, facts_with}
 use Rattle.vp_decode.proofs.StateLemmas.{kept_left, after_left}

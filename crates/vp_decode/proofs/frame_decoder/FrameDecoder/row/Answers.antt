@@ -1,7 +1,8 @@
 use Rattle.std.proofs.Common.{◌≡◌, ◌∙◌, ℕ, ◌<◌, refl, ap, subst, arith}
 use Rattle.vp_base.specs.Grid.{Grid}
 use Rattle.vp_tokens.specs.Blocks.{Blocks}
-use Rattle.vp_decode.specs.Frame.{FrameInfo, row_seen}
+use Rattle.vp_decode.specs.Frame.{FrameInfo}
+use Rattle.vp_decode.specs.TokenRows.{row_seen}
 use Rattle.vp_decode.specs.MacroblockInfo.{place}
 use Rattle.vp_decode.specs.FrameDecoder.{FrameDecoder, IsMacroblockStep, IsRow}
 use Rattle.vp_decode.proofs.ReadingLemmas.{row_none, row_next, row_has}

@@ -8,8 +8,10 @@ use Rattle.vp_base.proofs.OverLemmas.{over-none}
 use Rattle.vp_recon.specs.Rebuilt.{rebuilt}
 use Rattle.vp_tokens.specs.Blocks.{Blocks}
 use Rattle.vp_decode.specs.MacroblockInfo.{place}
-use Rattle.vp_decode.specs.Frame.{FrameInfo, frame_of, readings, row_partition, tokens_of, macroblock_at}
+use Rattle.vp_decode.specs.Frame.{FrameInfo, frame_of, tokens_of, macroblock_at}
+use Rattle.vp_decode.specs.TokenRows.{readings, row_partition}
 use Rattle.vp_decode.specs.FrameDecoder.{FrameDecoder, IsRow, IsOneFrame, IsAfterRows}
+use Rattle.vp_decode.proofs.TokenGrid.{rests_in_turn}
 use Rattle.vp_decode.proofs.ReadingLemmas.{rows_none, rows_next, rows_kept, row_of_frame, seen_columns, seen_rows}
 use Rattle.vp_decode.proofs.FilterLemmas.{filter_is_above}
 use Rattle.vp_decode.proofs.BandLemmas.{window_next, window_end}
@@ -66,6 +68,7 @@ loop-row-preserved g c =
     let rows_are = one.rows in
     let end : c.rows-rows.result ≡ f.maps.modes.rows = c.rows-rows.ensures.value ∙ ap (λ (b : FrameDecoder). b.info.maps.modes.rows) c.self.view_is in
     let within : row < macroblocks p.height = omega (arith, c.loop-row-test.true) in
+    let here : row < f.maps.modes.rows = omega (arith, c.loop-row-test.true) in
     let state : State = slice_index_or ds at c.index-decoders-at.result in
     let own : state ≡ row_partition row (readings f ps row) =
     read_any ds at c.index-decoders-at.result (initial_state []) (omega (arith, c.requires.some, c.loop-row.invariant.some))
@@ -76,7 +79,7 @@ loop-row-preserved g c =
     let made_by : IsRow c.loop-row.self.info row c.loop-row.self.info.maps.modes.columns seen state c.row.new.d c.loop-row.self c.row.new.self = c.row.ensures.row seen wide inside before.contexts in
     let made : IsRow f row f.maps.modes.columns seen state c.row.new.d c.loop-row.self c.row.new.self =
     subst (λ (z : FrameInfo). IsRow z row z.maps.modes.columns seen state c.row.new.d c.loop-row.self c.row.new.self) c.loop-row.invariant.info made_by in
-    let next : IsAfterRows f ps (row + 1) _ c.row.new.self = rows_next f ps ds row state c.row.new.d c.loop-row.self c.row.new.self before own made in
+    let next : IsAfterRows f ps (row + 1) _ c.row.new.self = rows_next f ps ds row state c.row.new.d c.loop-row.self c.row.new.self before own here made in
     let level_columns : c.row.new.self.levels.columns ≡ macroblocks p.width = c.row.ensures.columns ∙ c.loop-row.invariant.columns ∙ one.level_columns in
     let size : c.row.new.self.picture.width ≡ p.width = c.row.ensures.width ∙ c.loop-row.invariant.width in
     record {
@@ -93,7 +96,7 @@ loop-row-preserved g c =
           (λ k below q shaped. row_keeps_shape laws p.width p.height k (frame_of f ps 0 0).macroblock q shaped)
           c.requires.shaped within
           c.loop-row.invariant.picture
-          (row_of_frame f ps row f.maps.modes.columns state c.row.new.d c.loop-row.self c.row.new.self own made
+          (row_of_frame f ps row state c.row.new.d c.loop-row.self c.row.new.self own here made
           ∙ ap (λ (n : ℕ). over n (λ column. rebuilt (macroblock_at f (place row column) (tokens_of f ps (place row column))) (place row column)) c.loop-row.self.picture) columns)
           c.filter_before.ensures.none
           (λ k e. c.filter_before.ensures.one k e
@@ -131,4 +134,4 @@ returns-clause-rests g c =
     let end : c.rows-rows.result ≡ f.maps.modes.rows = c.rows-rows.ensures.value ∙ ap (λ (b : FrameDecoder). b.info.maps.modes.rows) c.self.view_is in
     let all : c.loop-row.row ≡ f.maps.modes.rows = omega arith in
     let made : IsAfterRows f ps c.loop-row.row c.loop-row.decoders c.loop-row.self = c.loop-row.invariant.rows in
-    made.rests ∙ ap (λ (n : ℕ). (readings f ps n).rests) all
+    made.rests ∙ ap (λ (n : ℕ). (readings f ps n).rests) all ∙ sym (rests_in_turn f ps)

@@ -1,9 +1,6 @@
 use Rattle.std.proofs.Common.{◌≡◌, ◌∙◌, ℕ, ◌≤◌, List, [], ◌∷◌, length, take, map, get_or, refl, ap, arith}
 use Rattle.vp_bool.specs.Bools.{State, initial_state}
-use Rattle.vp_decode.specs.Frame.{frame_of, picture_of}
-use Rattle.vp_decode.specs.FrameDecoder.{FrameDecoder}
-use Rattle.vp_decode.specs.Corrupt.{any_past, tokens_after}
-use Rattle.vp_decode.proofs.frame_decoder.FrameDecoder.picture.Goals as goal
+use Rattle.vp_decode.proofs.frame_decoder.decoders_of.Goals as goal
 
 abbrev nth : List (List ℕ) → ℕ → State
 nth ps i = initial_state (get_or ps i [])
@@ -28,22 +25,10 @@ same : (ps : List (List ℕ)) (n : ℕ) (s t u v w x y z : State) → n ≡ leng
 same ps n s t u v w x y z count few a b c d e f g h =
     (λ i. take (count i) (a i ∷ b i ∷ c i ∷ d i ∷ e i ∷ f i ∷ g i ∷ h i ∷ [])) ∙ eight_of ps few
 
-pub returns-clause-picture : goal.returns-clause-picture
-returns-clause-picture g c =
-    let all = same c.args.parts.now c.count-count.result _ _ _ _ _ _ _ _ c.count-count.ensures c.requires.few
+pub returns : goal.returns
+returns c =
+    same c.args.parts.now _ _ _ _ _ _ _ _ _ refl c.requires
     (c.new.ensures.value ∙ ap initial_state c.part_or_none.ensures) (c.new-2.ensures.value ∙ ap initial_state c.part_or_none-2.ensures)
     (c.new-3.ensures.value ∙ ap initial_state c.part_or_none-3.ensures) (c.new-4.ensures.value ∙ ap initial_state c.part_or_none-4.ensures)
     (c.new-5.ensures.value ∙ ap initial_state c.part_or_none-5.ensures) (c.new-6.ensures.value ∙ ap initial_state c.part_or_none-6.ensures)
-    (c.new-7.ensures.value ∙ ap initial_state c.part_or_none-7.ensures) (c.new-8.ensures.value ∙ ap initial_state c.part_or_none-8.ensures) in
-    ap (λ (b : FrameDecoder). b.picture) c.self.view_is
-    ∙ c.rows.ensures.picture
-    ∙ ap (λ (ps : List State). picture_of (frame_of c.args.self.info ps c.args.self.picture.width c.args.self.picture.height)) all
-
-pub returns-clause-corrupt : goal.returns-clause-corrupt
-returns-clause-corrupt g c =
-    let all = same c.args.parts.now c.count-count.result _ _ _ _ _ _ _ _ c.count-count.ensures c.requires.few
-    (c.new.ensures.value ∙ ap initial_state c.part_or_none.ensures) (c.new-2.ensures.value ∙ ap initial_state c.part_or_none-2.ensures)
-    (c.new-3.ensures.value ∙ ap initial_state c.part_or_none-3.ensures) (c.new-4.ensures.value ∙ ap initial_state c.part_or_none-4.ensures)
-    (c.new-5.ensures.value ∙ ap initial_state c.part_or_none-5.ensures) (c.new-6.ensures.value ∙ ap initial_state c.part_or_none-6.ensures)
-    (c.new-7.ensures.value ∙ ap initial_state c.part_or_none-7.ensures) (c.new-8.ensures.value ∙ ap initial_state c.part_or_none-8.ensures) in
-    c.any_past_end-corrupt.ensures ∙ ap any_past (c.rows.ensures.rests ∙ ap (λ (ps : List State). tokens_after c.args.self.info ps) all)
+    (c.new-7.ensures.value ∙ ap initial_state c.part_or_none-7.ensures) (c.new-8.ensures.value ∙ ap initial_state c.part_or_none-8.ensures)
