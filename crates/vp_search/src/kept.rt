@@ -21,9 +21,7 @@ pub(crate) struct Kept {
 impl Kept {
     /// No sums.
     pub(crate) fn none(place: Place) -> Kept
-        ensures place { result.place ≡ place }
-        ensures columns { result.columns ≡ 0 }
-        ensures start { result.start ≡ 0 }
+        ensures { result ≡ record { place = place; columns = 0; start = 0 } }
     {
         Kept {
             place,

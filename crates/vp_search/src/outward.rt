@@ -6,8 +6,11 @@ ghost use Rattle.vp_search.specs.Search.{IsFound, IsBestInRow, IsBestBelow};
 
 use crate::candidate::is_best_beyond;
 use crate::search_window::SearchWindow;
-use crate::unbounded::{Progress, Unbounded};
+use crate::sums::bounds_at;
+use crate::unbounded::{HALF, Progress, Unbounded, below_best};
+use crate::unbounded_row::LEAST_PAIRED_RANGE;
 use crate::vector::Found;
+use crate::window::WINDOW_WIDTH;
 
 impl<'a, 's> SearchWindow<'a, 's> {
     /// The best of a known vector and all others of the window. If it has sums, rows are searched by their bounds, or
@@ -34,29 +37,33 @@ impl<'a, 's> SearchWindow<'a, 's> {
         progress
     }
 
-    /// The best of a known vector and those of a row: by their bounds, or without. After the last of the rows without, a
-    /// sample of it decides whether more follow. Inlined at each of its calls: with one call, or with the sample taken
-    /// in `row_without_bounds`, a search takes some 3 % more instructions.
+    /// The best of a known vector and those of a row: by their bounds, or without. After the last of the rows without,
+    /// the eight bounds that begin at its middle decide whether more follow: they do if most are below the best cost.
+    /// Inlined at each of its calls: with one call a search takes some 3 % more instructions.
     #[inline(always)]
     fn best_of_row(&self, progress: Progress, row: usize) -> Progress
         requires row { row ≤ 2 * self.now.range }
         ensures { IsBestInRow self.now row 0 (2 * self.now.range + 1) progress.best result.best }
     {
         let Progress { best, unbounded } = progress;
-        match self.sums {
-            Some(sums) if unbounded.left == 0 => self.row_by_bounds(sums, best, row),
-            Some(sums) if unbounded.left == 1 => {
-                let best = self.row_without_bounds(best, row, unbounded.early);
-                let pass = self.most_pass(sums, best.cost, row);
-                Progress {
-                    best,
-                    unbounded: self.unbounded_after(best.cost, row, pass),
-                }
-            }
-            _ => Progress {
-                best: self.row_without_bounds(best, row, unbounded.early),
-                unbounded: unbounded.next(),
-            },
+        if let (Some(sums), 0) = (self.sums, unbounded.left) {
+            return self.row_by_bounds(sums, best, row);
         }
+        let best = if !unbounded.early {
+            self.best_of_each::<false>(best, row)
+        } else if self.range < LEAST_PAIRED_RANGE {
+            self.best_of_each::<true>(best, row)
+        } else {
+            self.best_of_pairs(best, row)
+        };
+        let unbounded = match self.sums {
+            Some(sums) if unbounded.left == 1 => {
+                let middle = row * WINDOW_WIDTH + usize::from(self.range);
+                let below = below_best(bounds_at(sums.block, sums.window, middle), best.cost);
+                self.unbounded_after(best.cost, row, below > HALF)
+            }
+            _ => unbounded.next(),
+        };
+        Progress { best, unbounded }
     }
 }

@@ -10,7 +10,7 @@ ghost use Rattle.vp_search.specs.Refined.{IsRefined};
 use crate::block::macroblock;
 use crate::difference::sad16;
 use crate::refinement::refine_found;
-use crate::searcher::search_alone;
+use crate::searcher::Searcher;
 use crate::vector::{Found, QuarterVector, Refined, WholeVector, quarters};
 use vp_base::{Place, Plane};
 use vp_inter::{luma_vector, predict_block16};
@@ -26,7 +26,8 @@ pub fn search_block(block: &[u8; 256], reference: &Plane, place: Place, range: u
     ensures least { IsLeast range (whole_cost (block16 block.now) reference.now place) result.vector }
     ensures predicted { result.cost ≡ quarter_cost (block16 block.now) reference.now place (quarters result.vector) }
 {
-    search_alone(block, reference, place, range, u32::MAX)
+    let mut searcher = Searcher::without_sums(reference, range);
+    searcher.search(block, place, u32::MAX).unwrap()
 }
 
 /// Searches as `search_block` does, for the source macroblock at `place`. Both planes are luma planes of whole

@@ -32,8 +32,8 @@ impl<'a, 's> SearchWindow<'a, 's> {
     ghost use Rattle.vp_search.specs.Bounds.{IsSummed};
     ghost use Rattle.vp_search.specs.Coarse.{AreCoarse};
 
-    /// The same window with sums: those of its squares that are made and, if there are any, its coarse sums. Not
-    /// inlined: else their places are computed anew for each group of vectors.
+    /// This window with sums: those of its squares that are made and, if there are any, its coarse sums. Not inlined:
+    /// else their places are computed anew for each group of vectors.
     #[inline(never)]
     pub(crate) fn with_sums<'b>(&self, window: &'b [u16], coarse: &'b [u8]) -> SearchWindow<'a, 'b>
         requires room { (2 * self.now.range + 16) * WINDOW_WIDTH ≤ length window.now }

@@ -1,6 +1,6 @@
 //! Searches of the macroblocks of a frame.
 
-ghost use Rattle.std.specs.Prelude.{◌≡◌, ◌+◌, ◌*◌, ◌<◌, ◌≤◌, IfSome, IsSome, None};
+ghost use Rattle.std.specs.Prelude.{◌≡◌, ℕ, ◌+◌, ◌*◌, ◌<◌, ◌≤◌, IfSome, IsSome, None};
 ghost use Rattle.vp_search.specs.declared.vector.WholeVector.{WholeVector};
 ghost use Rattle.vp_search.specs.Vectors.{quarters, IsNear};
 ghost use Rattle.vp_search.specs.Differences.{block16};
@@ -8,11 +8,12 @@ ghost use Rattle.vp_search.specs.Blocks.{whole_cost, quarter_cost};
 ghost use Rattle.vp_search.specs.Least.{IsLeast};
 ghost use Rattle.vp_search.specs.Chosen.{IsChosen};
 
+use crate::difference::sad_up_to;
 use crate::kept_sums::KeptSums;
 use crate::rows::Block;
 use crate::search_window::SearchWindow;
 use crate::unbounded::Unbounded;
-use crate::vector::Found;
+use crate::vector::{Found, WholeVector};
 use crate::window::{GREATEST_RANGE, WINDOW_WIDTH, cut_window};
 use std::alloc::Global;
 use std::marker::Model;
@@ -28,19 +29,20 @@ pub struct Searcher<'a> {
     reference: &'a Plane,
     range: u8,
     /// The sums that its searches keep; none if they are independent.
-    sums: Option<KeptSums<'a>>,
+    sums: Option<KeptSums>,
 }
 
 impl<'a> Model for Searcher<'a> {
     ghost use Rattle.std.specs.Prelude.{◌≡◌, ◌<◌, ◌≤◌, IfSome};
     ghost use Rattle.vp_search.specs.Searcher.{Searcher};
+    ghost use Rattle.vp_search.specs.Kept.{IsReady};
 
     ghost Value = { Searcher };
 
     ghost view = { λ s. record { reference = s.reference.now; range = s.range } };
 
     ghost invariant = { λ s. (s.range ≤ 64) × (0 < s.reference.now.width) × (0 < s.reference.now.height)
-        × IfSome s.sums (λ k. k ≡ record { reference = s.reference.now; range = s.range }) };
+        × IfSome s.sums (IsReady s.reference.now s.range) };
 }
 
 impl<'a> Searcher<'a> {
@@ -57,7 +59,7 @@ impl<'a> Searcher<'a> {
         let sums = if range < LEAST_BOUNDED_RANGE {
             None
         } else {
-            KeptSums::new(alloc, reference, range).ok()
+            KeptSums::new(alloc, range).ok()
         };
         Searcher {
             reference,
@@ -66,7 +68,7 @@ impl<'a> Searcher<'a> {
         }
     }
 
-    /// The same searches without sums, each independent of those before it.
+    /// Starts searches that use no memory and no sums: each is independent of those before it.
     pub fn without_sums(reference: &'a Plane, range: u8) -> Searcher<'a>
         requires wide { 0 < reference.now.width }
         requires high { 0 < reference.now.height }
@@ -98,9 +100,23 @@ impl<'a> Searcher<'a> {
             → limit ≤ quarter_cost (block16 block.now) self.old.reference place (quarters v) }
         ensures all { 65280 < limit → IsSome result }
     {
-        let found = match &mut self.sums {
-            Some(sums) => sums.search(block, place, limit),
-            None => search_alone(block, self.reference, place, self.range, limit),
+        // Nothing costs less than 0.
+        if limit == 0 {
+            return None;
+        }
+        if let Some(found) = still(block, self.reference, place) {
+            return Some(found);
+        }
+        let (reference, range) = (self.reference, self.range);
+        let area = (16 + 2 * usize::from(range)) * WINDOW_WIDTH;
+        let found = if let Some(sums) = &mut self.sums {
+            sums.search(&Block::of(block), reference, place, range, limit)
+        } else if area <= LEAST_WINDOW {
+            search_in::<LEAST_WINDOW>(block, reference, place, range, limit)
+        } else if area <= SMALL_WINDOW {
+            search_in::<SMALL_WINDOW>(block, reference, place, range, limit)
+        } else {
+            search_in::<WHOLE_WINDOW>(block, reference, place, range, limit)
         };
         if found.cost < limit {
             Some(found)
@@ -110,48 +126,45 @@ impl<'a> Searcher<'a> {
     }
 }
 
-/// The greatest range for which the small window is used, so that less memory has to be cleared.
-const SMALL_RANGE: u8 = 16;
+/// The zero vector, if it leads to the very pixels of the block: it costs nothing, and no vector is shorter. A picture
+/// that does not move needs no window so. In one that moves, most blocks are left after twelve rows.
+fn still(block: &[u8; 256], reference: &Plane, place: Place) -> Option<Found>
+    requires columns { 16 * place.column ≤ 16384 }
+    requires rows { 16 * place.row ≤ 16384 }
+    ensures free { IfSome result (λ f. f.cost ≡ 0) }
+    ensures cost { IfSome result (λ f. f.cost ≡ whole_cost (block16 block.now) reference.now place f.vector) }
+    ensures least { IfSome result (λ f. (range : ℕ) → IsLeast range (whole_cost
+        (block16 block.now) reference.now place) f.vector) }
+    ensures predicted { IfSome result (λ f. f.cost ≡ quarter_cost
+        (block16 block.now) reference.now place (quarters f.vector)) }
+{
+    let [x, y] = [16 * place.column, 16 * place.row];
+    let (width, height) = (reference.width(), reference.height());
+    if x + 16 > width || y + 16 > height {
+        return None;
+    }
+    let (pixels, at) = (reference.pixels(), y * width + x);
+    let cost = sad_up_to(&Block::of(block), pixels, at, width, 0);
+    if cost > 0 {
+        return None;
+    }
+    Some(Found {
+        vector: WholeVector { row: 0, column: 0 },
+        cost,
+    })
+}
 
-/// The greatest range for which the smallest window is used.
-const LEAST_RANGE: u8 = 8;
+/// The number of pixels in the window of a search of range 16 or less, so that less memory has to be cleared.
+const SMALL_WINDOW: usize = (16 + 2 * 16) * WINDOW_WIDTH;
 
-/// The number of pixels in the window of a search of the small range.
-const SMALL_WINDOW: usize = (16 + 2 * SMALL_RANGE as usize) * WINDOW_WIDTH;
-
-/// The number of pixels in the window of a search of the least range.
-const LEAST_WINDOW: usize = (16 + 2 * LEAST_RANGE as usize) * WINDOW_WIDTH;
+/// The number of pixels in the window of a search of range 8 or less.
+const LEAST_WINDOW: usize = (16 + 2 * 8) * WINDOW_WIDTH;
 
 /// The number of pixels in the window of a search of the greatest range.
 const WHOLE_WINDOW: usize = (16 + 2 * GREATEST_RANGE) * WINDOW_WIDTH;
 
-/// Searches for the best vector that costs less than `limit` without sums: for one macroblock, these cost more than
-/// they save on many textures, and take too much of a small stack.
-pub(crate) fn search_alone(
-    block: &[u8; 256],
-    reference: &Plane,
-    place: Place,
-    range: u8,
-    limit: u32,
-) -> Found
-    requires columns { 16 * place.column ≤ 16384 }
-    requires rows { 16 * place.row ≤ 16384 }
-    requires wide { 0 < reference.now.width }
-    requires high { 0 < reference.now.height }
-    requires range { range ≤ 64 }
-    ensures chosen { IsChosen (block16 block.now) reference.now place range limit result }
-    ensures bound { result.cost ≤ 16 * 16 * 255 }
-{
-    if range <= LEAST_RANGE {
-        search_in::<LEAST_WINDOW>(block, reference, place, range, limit)
-    } else if range <= SMALL_RANGE {
-        search_in::<SMALL_WINDOW>(block, reference, place, range, limit)
-    } else {
-        search_in::<WHOLE_WINDOW>(block, reference, place, range, limit)
-    }
-}
-
-/// Searches as `search_alone` does, with a window of `AREA` pixels.
+/// Searches for the best vector that costs less than `limit` without sums, with a window of `AREA` pixels: for one
+/// macroblock, sums cost more than they save on many textures, and take too much of a small stack.
 #[inline(never)]
 fn search_in<const AREA: usize>(
     block: &[u8; 256],

@@ -1,13 +1,10 @@
 //! How many rows, or macroblocks, are searched without bounds. They are if bounds exclude less than half of the
 //! vectors, as in noise and in fine texture.
 
-ghost use Rattle.std.specs.Prelude.{◌≡◌, ◌*◌, ◌≤◌, Some};
+ghost use Rattle.std.specs.Prelude.{◌*◌, ◌≤◌};
 
 use crate::search_window::SearchWindow;
-use crate::summed::SquareSums;
-use crate::sums::bounds_at;
 use crate::vector::{Found, Spot};
-use crate::window::WINDOW_WIDTH;
 use std::simd::prelude::*;
 
 /// The number of rows that are searched without bounds once most bounds of a row are below the best cost. After these,
@@ -75,15 +72,6 @@ pub(crate) fn below_best(bounds: u16x8, cost: u32) -> usize
 }
 
 impl<'a, 's> SearchWindow<'a, 's> {
-    /// Whether most bounds of row `i` are below the best cost, by the eight that begin at its middle.
-    pub(crate) fn most_pass(&self, sums: SquareSums, cost: u32, i: usize) -> bool
-        requires i { i ≤ 2 * self.now.range }
-        requires sums { self.now.sums ≡ Some sums }
-    {
-        let middle = i * WINDOW_WIDTH + usize::from(self.range);
-        below_best(bounds_at(sums.block, sums.window, middle), cost) > HALF
-    }
-
     /// Whether at least half of the vectors of row `i` cost more than `limit` by their first four rows of pixels, by
     /// the eight that begin at its middle. If fewer do, as in noise, comparing there costs more than it saves.
     fn half_leave_early(&self, limit: u32, i: usize) -> bool
@@ -103,8 +91,7 @@ impl<'a, 's> SearchWindow<'a, 's> {
         count >= HALF
     }
 
-    /// The rows that are searched without bounds after row `i`: some if most of its bounds are below `cost`, which `pass`
-    /// says.
+    /// The rows without bounds after row `i`: some if `pass` says that most of its bounds are below `cost`.
     pub(crate) fn unbounded_after(&self, cost: u32, i: usize, pass: bool) -> Unbounded
         requires { i ≤ 2 * self.now.range }
     {

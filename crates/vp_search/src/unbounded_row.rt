@@ -11,7 +11,7 @@ use crate::vector::{Found, Spot};
 use crate::window::WINDOW_WIDTH;
 
 /// The least range within which vectors are compared in pairs: in a short row pairs do not pay.
-const LEAST_PAIRED_RANGE: u8 = 8;
+pub(crate) const LEAST_PAIRED_RANGE: u8 = 8;
 
 /// A vector of a row: its column, and its cost.
 #[derive(Clone, Copy)]
@@ -30,25 +30,10 @@ struct Pair {
 }
 
 impl<'a, 's> SearchWindow<'a, 's> {
-    /// The best of a known vector and those of a row. With `early` they are compared with the best after four rows of
-    /// pixels too.
-    pub(crate) fn row_without_bounds(&self, best: Found, row: usize, early: bool) -> Found
-        requires row { row ≤ 2 * self.now.range }
-        ensures { IsBestInRow self.now row 0 (2 * self.now.range + 1) best result }
-    {
-        if !early {
-            return self.best_of_each::<false>(best, row);
-        }
-        if self.range < LEAST_PAIRED_RANGE {
-            return self.best_of_each::<true>(best, row);
-        }
-        self.best_of_pairs(best, row)
-    }
-
     /// The best of a known vector and those of a row, one by one; with `EARLY` they are compared with the best after
     /// four rows of pixels too. Not inlined, so that there is one copy.
     #[inline(never)]
-    fn best_of_each<const EARLY: bool>(&self, best: Found, row: usize) -> Found
+    pub(crate) fn best_of_each<const EARLY: bool>(&self, best: Found, row: usize) -> Found
         requires row { row ≤ 2 * self.now.range }
         ensures { IsBestInRow self.now row 0 (2 * self.now.range + 1) best result }
     {
@@ -96,7 +81,7 @@ impl<'a, 's> SearchWindow<'a, 's> {
     /// The best of a known vector and those of a row, most of which differ by more than the best costs by their first
     /// four rows of pixels.
     #[inline(never)]
-    fn best_of_pairs(&self, best: Found, row: usize) -> Found
+    pub(crate) fn best_of_pairs(&self, best: Found, row: usize) -> Found
         requires row { row ≤ 2 * self.now.range }
         ensures { IsBestInRow self.now row 0 (2 * self.now.range + 1) best result }
     {

@@ -2,20 +2,17 @@ use Rattle.std.proofs.Common.{arith, rules}
 use Rattle.vp_search.proofs.CoarseLemmas.{none_coarse}
 use Rattle.vp_search.proofs.kept_sums.KeptSums.new.Goals as goal
 
-pub invariant_of-result : goal.invariant_of-result
-invariant_of-result c = (
-  c.requires.range,
-  c.requires.wide,
-  c.requires.high,
-  search rules,
-  record {
+pub returns : goal.returns
+returns c p = record {
+  room = search rules;
+  sums = rw c.none.ensures (record {
     few = omega arith;
     room = omega arith;
     size = search rules;
     are = λ y x h k. absurd (omega arith);
     coarse_size = search rules;
     coarse_are = λ some. rw (c.in_ok-sums.ensures.items_if_clones_equal (λ y e. e), c.in_ok-coarse.ensures.items_if_clones_equal (λ y e. e)) (none_coarse _ _ _);
-  },
-  omega arith,
-  omega arith,
-)
+  });
+  row = search rules;
+  column = search rules;
+}
