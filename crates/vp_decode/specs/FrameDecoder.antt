@@ -46,27 +46,28 @@ pub record IsMacroblockRow (m : MacroblockInfo) (row : ℕ) (r : MacroblockRow) 
   pub modes_length : length r.modes.now ≡ m.modes.columns
   pub motion_length : length r.motion.now ≡ m.modes.columns
 
--- b is a after the macroblock at p is rebuilt and its level is computed. g has the blocks before p. s and t are the
--- states of the partition before and after.
-pub record IsMacroblockStep (f : FrameInfo) (p : Place) (g : Grid Blocks) (s t : State) (a b : FrameDecoder)
+-- what changes while the macroblock at p is rebuilt and its level is computed. g has the blocks before p. s and t are
+-- the states of the partition before and after.
+pub record IsMacroblockStep (f : FrameInfo) (p : Place) (g : Grid Blocks) (s t : State) (before after : FrameDecoder)
     : Type 0 where
-  pub contexts : AreContextsAt (seen_read f p g s).0 (right p) b.contexts
+  pub contexts : AreContextsAt (seen_read f p g s).0 (right p) after.contexts
   pub rest : t ≡ (seen_read f p g s).1
-  pub picture : b.picture ≡ rebuilt (macroblock_at f p (tokens_at f p g s).0) p a.picture
-  pub here : entry b.levels p ≡ Some (level_at f p (tokens_at f p g s).0)
-  pub elsewhere : (q : Place) → q ≢ p → entry b.levels q ≡ entry a.levels q
+  pub picture : after.picture ≡ rebuilt (macroblock_at f p (tokens_at f p g s).0) p before.picture
+  pub here : entry after.levels p ≡ Some (level_at f p (tokens_at f p g s).0)
+  pub elsewhere : (q : Place) → q ≢ p → entry after.levels q ≡ entry before.levels q
 
--- b is a after the first n macroblocks of a row
-pub record IsRow (f : FrameInfo) (row n : ℕ) (g : Grid Blocks) (s t : State) (a b : FrameDecoder) : Type 0 where
-  pub contexts : AreContextsAt (row_seen f row n g s).0 (place row n) b.contexts
+-- what changes during the first n macroblocks of a row
+pub record IsRow (f : FrameInfo) (row n : ℕ) (g : Grid Blocks) (s t : State) (before after : FrameDecoder) : Type 0 where
+  pub contexts : AreContextsAt (row_seen f row n g s).0 (place row n) after.contexts
   pub rest : t ≡ (row_seen f row n g s).1
-  pub picture : b.picture ≡ over n (λ column. rebuilt (macroblock_at f (place row column) (row_tokens f row g s column))
-      (place row column)) a.picture
-  pub here : (column : ℕ) → column < n → entry b.levels (place row column)
+  pub picture : after.picture ≡ over n (λ column. rebuilt (macroblock_at f (place row column) (row_tokens f row g s column))
+      (place row column)) before.picture
+  pub here : (column : ℕ) → column < n → entry after.levels (place row column)
       ≡ Some (level_at f (place row column) (row_tokens f row g s column))
-  pub elsewhere : (q : Place) → q.row ≢ row → entry b.levels q ≡ entry a.levels q
+  pub elsewhere : (q : Place) → q.row ≢ row → entry after.levels q ≡ entry before.levels q
 
--- the state after the rows above `row`: the token contexts, the states ds of the partitions, and the filter levels
+-- the state after the rows above `row`, but for the picture: the token contexts, the states ds of the partitions, and
+-- the filter levels
 pub record IsAfterRows (f : FrameInfo) (partitions : List State) (row : ℕ) (ds : List State) (b : FrameDecoder)
     : Type 0 where
   pub contexts : AreContextsAt (readings f partitions row).seen (place row 0) b.contexts

@@ -63,7 +63,7 @@ impl<'a> Model for FrameDecoder<'a> {
 
 impl<'a> FrameDecoder<'a> {
     /// Decodes the macroblock at a place: reads its tokens, rebuilds it, and computes its filter level. Inlined, so that
-    /// the compiler follows inter macroblocks by themselves.
+    /// the compiler sees where the predictor comes from.
     #[inline(always)]
     fn decode(&mut self, macroblock: &Macroblock, place: Place, d: &mut BoolDecoder)
         requires place { Has self.old.info.maps.modes place }
@@ -80,7 +80,7 @@ impl<'a> FrameDecoder<'a> {
         let predictor = &macroblock.predictor;
         let has_y2 = predictor.has_y2();
         let coded = if modes.skip && !predictor.has_sub_modes() {
-            // It is its prediction: there are no tokens to clear, and no residue to add.
+            // There are no tokens to clear, and no residue to add to the prediction.
             pass_macroblock(&mut self.contexts, place, has_y2);
             predict_macroblock(&mut self.picture, place, predictor);
             false

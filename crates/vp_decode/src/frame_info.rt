@@ -1,4 +1,5 @@
-//! The frame header, the modes and the motion of a frame: all that its first partition holds.
+//! What is known of a frame once its first partition is read: header, version, references, modes and motion; and what
+//! follows from its header: the factors and the filter levels.
 
 ghost use Rattle.std.specs.Prelude.{◌≡◌, ◌<◌, ◌≤◌, Some, length, option_map, slice_get};
 ghost use Rattle.vp_base.specs.declared.place.Place.{Place};
