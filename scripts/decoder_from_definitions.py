@@ -212,11 +212,13 @@ def tag_of(limits, packet):
     return R(version=bit_field(1, 3, word), show=bit_field(4, 1, word), first_partition=bit_field(5, 19, word), key=key)
 
 # ---- vp_modes/specs/Entry.antt
+def unread(segment, skip_, reference):
+    return R(segment=segment, skip=skip_, reference=reference, luma="Dc", subs=["Dc"] * 16, chroma="Dc")
 def plain_of(segment): return unread(segment, False, "Intra")
 # ---- vp_modes/specs/Map.antt
 def segments_of(g): return mapped(lambda m: m.segment, g)
 def of_segments(g): return mapped(plain_of, g)
-def implied_submode(luma): return {"Dc": "Dc", "V": "Ve", "H": "He", "Tm": "Tm"}[luma]
+def implied_submode(luma): return {"V": "Ve", "H": "He", "Tm": "Tm"}.get(luma, "Dc")
 def sub_of(m, k): return m.subs[k] if is_by_subblocks(m.luma) else implied_submode(m.luma)
 def context_above(g, p, found, k): return value(sub_of, "Dc", g, found, seen(4, above, p, k))
 def context_left(g, p, found, k): return value(sub_of, "Dc", g, found, seen(4, left, p, k))
@@ -236,21 +238,18 @@ def chroma_mode(h, s):
 def sub_probabilities(h, g, p, found, k):
     if not h.key: return T.SUB_PROBABILITIES
     return key_sub_probabilities(context_above(g, p, found, k), context_left(g, p, found, k))
-def sub_mode(probabilities, s): return walk_from(T.SUB_TREE, probabilities, 0, s)
 def sub_modes(h, g, p, s):
     found = ["Dc"] * 16
-    for k in range(16): found[k] = sub_mode(sub_probabilities(h, g, p, found, k), s)
+    for k in range(16): found[k] = walk_from(T.SUB_TREE, sub_probabilities(h, g, p, found, k), 0, s)
     return found
 def intra_modes(h, g, p, m, s):
     luma = luma_mode(h, s)
     return but(m, luma=luma, subs=sub_modes(h, g, p, s) if is_by_subblocks(luma) else m.subs, chroma=chroma_mode(h, s))
-def prediction(h, g, p, m, s): return intra_modes(h, g, p, m, s) if is_intra(m.reference) else m
-def unread(segment, skip_, reference):
-    return R(segment=segment, skip=skip_, reference=reference, luma="Dc", subs=["Dc"] * 16, chroma="Dc")
 def modes_at(h, g, p, s):
     segment = segment_of(h, entry(g, p).segment, s)
     skip_ = skip_by(h.skip, s)
-    return prediction(h, g, p, unread(segment, skip_, reference_of(h, s)), s)
+    m = unread(segment, skip_, reference_of(h, s))
+    return intra_modes(h, g, p, m, s) if is_intra(m.reference) else m
 
 # ---- vp_motion/specs/Vector.antt. A vector is a pair (row, column).
 ZERO_VECTOR = 0, 0
@@ -261,20 +260,15 @@ def block_vector(e, b): return ZERO_VECTOR if is_intra(e.reference) else e.vecto
 def above_block(g, p, found, b): return value(block_vector, ZERO_VECTOR, g, found, seen(4, above, p, b))
 def left_block(g, p, found, b): return value(block_vector, ZERO_VECTOR, g, found, seen(4, left, p, b))
 # ---- vp_motion/specs/Near.antt. A weighted vector is a pair (vector, weight).
-def bias_of(reference, b): return {"Intra": False, "Last": False, "Golden": b.golden, "Alt": b.alt}[reference]
+def bias_of(reference, b): return {"Golden": b.golden, "Alt": b.alt}.get(reference, False)
 def bias_corrected(r, b, e): return tuple(n if bias_of(e.reference, b) == bias_of(r, b) else -n for n in own(e))
 def weighted_neighbour(r, b, weight, e): return [] if is_intra(e.reference) else [(bias_corrected(r, b, e), weight)]
 WEIGHTS = (above, 2), (left, 2), (corner, 1)
 def neighbours(g, p, r, b):
     return [w for next_, n in WEIGHTS for w in weighted_neighbour(r, b, n, look(INTRA, g, next_(p)))]
-def still_weight(ws): return sum(weight for v, weight in ws if v == ZERO_VECTOR)
-def moving(ws): return [w for w in ws if w[0] != ZERO_VECTOR]
-def onto(w, es): return [(w[0], w[1] + es[0][1])] + es[1:] if es and w[0] == es[0][0] else [w] + es
-def runs(ws): return onto(ws[0], runs(ws[1:])) if ws else []
-def weighted_at(es, k): return es[k] if k < len(es) else (ZERO_VECTOR, 0)
-def first_candidate(es):
-    v, weight = weighted_at(es, 0)
-    return v, weight + (len(es) > 2 and es[2][0] == v)
+def weight_of(v, ws): return sum(weight for u, weight in ws if u == v)
+def without(v, ws): return [w for w in ws if w[0] != v]
+def first_vector(ws): return (ws[0][0], weight_of(ws[0][0], ws)) if ws else (ZERO_VECTOR, 0)
 def splits(e): return not is_intra(e.reference) and is_split(e.mode)
 def split_count(g, p): return sum(weight * splits(look(INTRA, g, next_(p))) for next_, weight in WEIGHTS)
 def clamped(low, high, z): return low if z < low else high if high < z else z
@@ -285,43 +279,42 @@ def from_two(clamp, zeros, splits_, nearest_, near):
     best = nearest_[0] if zeros <= nearest_[1] else ZERO_VECTOR
     counts = [zeros, nearest_[1], near[1], splits_]
     return R(counts=counts, best=clamp(best), nearest=clamp(nearest_[0]), near=clamp(near[0]))
-def from_entries(clamp, zeros, splits_, es):
-    first_, second = first_candidate(es), weighted_at(es, 1)
-    if first_[1] < second[1]: return from_two(clamp, zeros, splits_, second, first_)
-    return from_two(clamp, zeros, splits_, first_, second)
 def candidates(g, p, r, b):
     ws = neighbours(g, p, r, b)
-    return from_entries(lambda v: clamped_vector(g, p, v), still_weight(ws), split_count(g, p), runs(moving(ws)))
+    moving = without(ZERO_VECTOR, ws)
+    first_ = first_vector(moving)
+    second = first_vector(without(first_[0], moving))
+    by = lambda u, v: from_two(lambda w: clamped_vector(g, p, w), weight_of(ZERO_VECTOR, ws), split_count(g, p), u, v)
+    return by(second, first_) if first_[1] < second[1] else by(first_, second)
 # ---- vp_motion/specs/Motion.antt
-def bit(probabilities, i, s): return read(probabilities[9 + i], s) << i
+def with_bit(probabilities, i, n, s): return n + 2 ** i if read(probabilities[9 + i], s) else n
 def long_size(probabilities, s):
-    size_ = sum(bit(probabilities, i, s) for i in (0, 1, 2, 9, 8, 7, 6, 5, 4))
-    return size_ + (bit(probabilities, 3, s) if size_ > 15 else 8)
-def short_size(probabilities, s): return int(walk_from(T.SHORT_VECTOR_TREE, probabilities[2:9], 0, s))
+    n = functools.reduce(lambda n, i: with_bit(probabilities, i, n, s), (0, 1, 2, 9, 8, 7, 6, 5, 4), 0)
+    return with_bit(probabilities, 3, n, s) if n > 15 else n + 8
+def component_magnitude(probabilities, s):
+    if read(probabilities[0], s): return long_size(probabilities, s)
+    return int(walk_from(T.SHORT_VECTOR_TREE, probabilities[2:9], 0, s))
 def component(probabilities, s):
-    n = long_size(probabilities, s) if read(probabilities[0], s) else short_size(probabilities, s)
+    n = component_magnitude(probabilities, s)
     return -n if n != 0 and read(probabilities[1], s) else n
 def vector(probabilities, s): return component(probabilities[0], s), component(probabilities[1], s)
 def new_vector(probabilities, best, s): return tuple(map(sum, zip(best, vector(probabilities, s))))
 PARTS = {"TopBottom": 2, "LeftRight": 2, "Quarters": 4, "Sixteenths": 16}
 def part_of(kind, b):
     return {"TopBottom": b // 8, "LeftRight": b % 4 // 2, "Quarters": b // 8 * 2 + b % 4 // 2, "Sixteenths": b}[kind]
-def first_block(kind, k):
-    return {"TopBottom": 8 * k, "LeftRight": 2 * k, "Quarters": k // 2 * 8 + k % 2 * 2, "Sixteenths": k}[kind]
+def first_block(kind, k): return next(b for b in range(16) if part_of(kind, b) == k)
 def with_part(kind, k, v, found): return [v if part_of(kind, b) == k else found[b] for b in range(16)]
 def split_context(l, a):
     if l == a: return 4 if l == ZERO_VECTOR else 3
     return 2 if a == ZERO_VECTOR else 1 if l == ZERO_VECTOR else 0
-def part_mode(l, a, s): return walk_from(T.PART_TREE, T.PART_PROBABILITIES[split_context(l, a)], 0, s)
 def part_vector(probabilities, best, l, a, s):
-    mode = part_mode(l, a, s)
+    mode = walk_from(T.PART_TREE, T.PART_PROBABILITIES[split_context(l, a)], 0, s)
     return new_vector(probabilities, best, s) if mode == "New" else {"Left": l, "Above": a, "Zero": ZERO_VECTOR}[mode]
 def part_row(probabilities, g, p, best, kind, k, found, s):
     l, a = left_block(g, p, found, first_block(kind, k)), above_block(g, p, found, first_block(kind, k))
     return with_part(kind, k, part_vector(probabilities, best, l, a, s), found)
-def split_kind(s): return walk_from(T.SPLIT_TREE, T.SPLIT_PROBABILITIES, 0, s)
 def split_vectors(probabilities, g, p, best, s):
-    kind, found = split_kind(s), [ZERO_VECTOR] * 16
+    kind, found = walk_from(T.SPLIT_TREE, T.SPLIT_PROBABILITIES, 0, s), [ZERO_VECTOR] * 16
     for k in range(PARTS[kind]): found = part_row(probabilities, g, p, best, kind, k, found, s)
     return found
 def mode_probabilities(counts): return [T.VECTOR_MODE_PROBABILITIES[counts[i]][i] for i in range(4)]
@@ -345,8 +338,6 @@ def bits(high, ps, s): return functools.reduce(lambda high, p: 2 * high + read(p
 def size(token_, s): return LEAST_SIZE[token_] + bits(0, EXTRA_PROBABILITIES.get(token_, []), s)
 def signed_level(n, s): return -n if n != 0 and read(128, s) else n
 def token(bands, i, context_, from_, s): return walk_from(T.TOKEN_TREE, bands[T.BANDS[i]][context_], from_, s)
-def context_after(n): return min(n, 2)
-def pair_after(n): return 2 if n == 0 else 0
 def levels(bands, i, context_, from_, s):
     found = []
     for position in range(i, 16):
@@ -354,7 +345,7 @@ def levels(bands, i, context_, from_, s):
         if t == "EndOfBlock": break
         n = size(t, s)
         found.append(signed_level(n, s))
-        context_, from_ = context_after(n), pair_after(n)
+        context_, from_ = min(n, 2), 2 if n == 0 else 0
     return found
 def block_with(first_, xs):
     if not xs: return NO_TOKENS
@@ -363,9 +354,9 @@ def coefficient_block(probabilities, kind, context_, s):
     return block_with(first_of(kind), levels(bands_of(probabilities, kind), first_of(kind), context_, 0, s))
 # ---- vp_tokens/specs/Blocks.antt. `Tokens` and `Blocks` are one record.
 NO_BLOCKS_READ = R(has_y2=False, had=[False] * 25)
-LUMA, CHROMA_U, CHROMA_V = R(first=1, side=4), R(first=17, side=2), R(first=21, side=2)
+PLANES = R(first=1, side=4), R(first=17, side=2), R(first=21, side=2)  # Y, U, V
 def any_token(t): return True in t.had
-def block_plane(k): return LUMA if k < 17 else CHROMA_U if k < 21 else CHROMA_V
+def block_plane(k): return PLANES[0 if k < 17 else 1 if k < 21 else 2]
 def next_had(plane, next_, g, p, found, k):
     near = seen(plane.side, next_, p, k - plane.first)
     return near is not None and (found if near[0] is None else entry(g, near[0]).had)[plane.first + near[1]]

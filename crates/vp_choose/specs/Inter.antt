@@ -9,7 +9,7 @@ use Rattle.vp_tables.specs.declared.modes.VectorMode.{VectorMode}
 use Rattle.vp_tables.specs.declared.modes.VectorMode.TheVariants as vector_is
 use Rattle.vp_head.specs.declared.fields.Reference.{Reference}
 use Rattle.vp_head.specs.declared.fields.Reference.TheVariants as reference_is
-use Rattle.vp_modes.specs.Modes.{unread}
+use Rattle.vp_modes.specs.Entry.{unread}
 use Rattle.vp_motion.specs.Vector.{Vector, MacroblockMotion, Candidates, zero_vector}
 use Rattle.vp_motion.specs.Near.{candidates}
 use Rattle.vp_quant.specs.declared.factors.Factors.{Factors}

@@ -7,7 +7,7 @@ use Rattle.vp_tables.specs.declared.modes.Token.{Token}
 use Rattle.vp_tokens.specs.declared.block.BlockKind.{BlockKind}
 use Rattle.vp_tokens.specs.Block.{Block}
 use Rattle.vp_tokens.specs.Levels.{Probabilities, bits, size, signed_level, token, levels, coefficient_block}
-use Rattle.vp_tokens.specs.Blocks.{Blocks, block_at, no_blocks, all_blocks, macroblock}
+use Rattle.vp_tokens.specs.Blocks.{Blocks, block_at, no_blocks, macroblock}
 use Rattle.vp_bool.specs.Reader.{rows}
 use Rattle.vp_decode.specs.MacroblockInfo.{place}
 use Rattle.vp_decode.specs.Frame.{FrameInfo}
@@ -48,13 +48,9 @@ by_block_at probabilities has_y2 context k blocks = search (by_parts, by_coeffic
 by_blocks : (probabilities : Probabilities) (has_y2 : Bool) (context : List Bool → ℕ → ℕ) → ReadsBools (rows 25 (block_at probabilities has_y2 context) no_blocks)
 by_blocks probabilities has_y2 context = by_rows 25 (block_at probabilities has_y2 context) no_blocks (by_block_at probabilities has_y2 context)
 
-by_all_blocks : (probabilities : Probabilities) (has_y2 skipped : Bool) (context : List Bool → ℕ → ℕ) → ReadsBools (all_blocks probabilities has_y2 skipped context)
-unfolding all_blocks
-by_all_blocks probabilities has_y2 skipped context = search (by_parts, by_blocks)
-
 by_macroblock : (probabilities : Probabilities) (g : Grid Blocks) (p : Place) (has_y2 skipped : Bool) → ReadsBools (macroblock probabilities g p has_y2 skipped)
 unfolding macroblock
-by_macroblock probabilities g p has_y2 skipped = search (by_parts, by_all_blocks)
+by_macroblock probabilities g p has_y2 skipped = search (by_parts, by_blocks)
 
 by_tokens_at : (f : FrameInfo) (p : Place) (seen : Grid Blocks) → ReadsBools (tokens_at f p seen)
 unfolding tokens_at

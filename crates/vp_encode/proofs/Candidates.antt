@@ -1,5 +1,5 @@
 -- The motion of the macroblocks before a place; candidates look at that of those above and to the left alone.
-use Rattle.std.proofs.Common.{◌≡◌, ◌≢◌, ◌∙◌, ℕ, zero, suc, ◌+◌, ◌*◌, ◌<◌, ◌++◌, replicate, refl, sym, ap, subst, arith, inl, inr}
+use Rattle.std.proofs.Common.{◌≡◌, ◌≢◌, ◌∙◌, ℕ, zero, suc, ◌+◌, ◌*◌, ◌<◌, ◌++◌, replicate, cond, refl, sym, ap, subst, arith, inl, inr}
 use Rattle.std.specs.Prelude.{Option, Some, None, option_map, unwrap_or, nat_lt, slice_get, neg_ℤ, pos, ◌-◌}
 use Rattle.std.proofs.lemmas.Bool.{cases_Bool}
 use Rattle.std.proofs.lemmas.Option.{slice_get-map}
@@ -12,9 +12,9 @@ use Rattle.vp_base.proofs.NearLemmas.{above-some, left-some}
 use Rattle.vp_head.specs.declared.fields.Reference.{Reference}
 use Rattle.vp_head.specs.declared.fields.SignBiases.{SignBiases}
 use Rattle.vp_modes.specs.Entry.{plain}
-use Rattle.vp_motion.specs.Vector.{MacroblockMotion}
+use Rattle.vp_motion.specs.Vector.{MacroblockMotion, Vector, zero_vector}
 use Rattle.vp_motion.specs.Map.{intra}
-use Rattle.vp_motion.specs.Near.{neighbours, weighted_neighbour, split_count, splits, clamped_vector, clamped, candidates, from_entries, still_weight, moving, runs}
+use Rattle.vp_motion.specs.Near.{neighbours, weighted_neighbour, split_count, splits, clamped_vector, clamped, candidates, first_vector, from_two, weight_of, without}
 use Rattle.vp_decode.specs.MacroblockInfo.{place}
 use Rattle.vp_choose.specs.declared.frame.Choice.{Choice}
 use Rattle.vp_encode.specs.CodedFrame.{nothing, choice_at, saved_motion, saved_motions}
@@ -43,12 +43,16 @@ candidates-same g h p r b columns rows inside same =
     same q (omega arith) (record { row = omega arith; column = λ level. absurd (omega arith) })) in
     λ i.
     let ws = weighted_neighbour r b 2 (up i) ++ (weighted_neighbour r b 2 (back i) ++ weighted_neighbour r b 1 (across i)) in
-    from_entries
-    (λ v. record {
+    let clamp : Vector → Vector = λ v. record {
       row = clamped (neg_ℤ (pos (64 * (p.row + 1)))) (pos (64 * (rows i - p.row))) v.row;
       column = clamped (neg_ℤ (pos (64 * (p.column + 1)))) (pos (64 * (columns i - p.column))) v.column;
-    })
-    (still_weight ws) (2 * from_bool (splits (up i)) + 2 * from_bool (splits (back i)) + from_bool (splits (across i))) (runs (moving ws))
+    } in
+    let split = 2 * from_bool (splits (up i)) + 2 * from_bool (splits (back i)) + from_bool (splits (across i)) in
+    let moving = without zero_vector ws in
+    let first = first_vector moving in
+    let second = first_vector (without first.vector moving) in
+    let by = from_two clamp (weight_of zero_vector ws) split in
+    cond (nat_lt first.weight second.weight) (by second first) (by first second)
 
 -- ---- grids that are mapped, or have one entry throughout
 

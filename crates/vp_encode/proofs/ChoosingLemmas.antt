@@ -17,14 +17,13 @@ use Rattle.vp_head.specs.declared.fields.Reference.TheVariants as reference_is
 use Rattle.vp_head.specs.Reference.{is_intra}
 use Rattle.vp_head.specs.Saved.{defaults}
 use Rattle.vp_head.specs.Spelled as head
-use Rattle.vp_modes.specs.Entry.{Modes, plain, plain_of}
+use Rattle.vp_modes.specs.Entry.{Modes, plain, plain_of, unread}
 use Rattle.vp_modes.specs.Map.{of_segments}
-use Rattle.vp_modes.specs.Modes.{unread}
 use Rattle.vp_motion.specs.Vector.{MacroblockMotion, Vector, Candidates, IsWithin, last_of, zero_vector}
 use Rattle.vp_tokens.specs.Blocks.{any_token}
 use Rattle.vp_tokens.specs.Spelled.{AreSpelled}
 use Rattle.vp_quant.specs.declared.factors.Factors.{Factors}
-use Rattle.vp_recon.specs.Predictor.{has_y2 as source_has_y2, Intra, Macroblock}
+use Rattle.vp_recon.specs.Predictor.{has_y2 as source_has_y2, Macroblock}
 use Rattle.vp_choose.specs.declared.frame.Choice.{Choice}
 use Rattle.vp_choose.specs.Frame.{FrameSearch, Search, source_by, no_biases, choice_motion}
 use Rattle.vp_choose.specs.Inter.{IsInter, IsFirstGiving, vector_of}

@@ -10,7 +10,8 @@ use Rattle.vp_head.specs.declared.fields.Header.{Header}
 use Rattle.vp_head.specs.declared.fields.Reference.TheVariants as reference_is
 use Rattle.vp_head.specs.Reference.{is_intra}
 use Rattle.vp_modes.specs.Entry.{Modes, plain}
-use Rattle.vp_modes.specs.Modes.{segment_of, skip_by, reference_of, intra_modes, prediction, unread, modes_at}
+use Rattle.vp_modes.specs.Entry.{unread}
+use Rattle.vp_modes.specs.Modes.{segment_of, skip_by, reference_of, intra_modes, modes_at}
 use Rattle.vp_modes.specs.Spelled.{AreWritableModes}
 
 -- what isn't asked for is as it stands without
@@ -41,7 +42,7 @@ kept h g p m s true e d = record { segment = refl; skip = refl; reference = refl
 kept h g p m s false e d = record { segment = refl; skip = refl; reference = refl; inter = λ i. refl; subs = λ n. d }
 
 pub spelled : (h : Header) (g : Grid Modes) (p : Place) (s : State) → AreWritableModes h g p (modes_at h g p s).0
-unfolding modes_at segment_of prediction bind
+unfolding modes_at segment_of bind
 spelled h g p s =
     let a = segment_of h (at plain g p).segment s in
     let b = skip_by h.skip a.1 in

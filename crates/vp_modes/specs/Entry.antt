@@ -19,16 +19,20 @@ pub record Modes : Type 0 where
   pub subs : List SubMode
   pub chroma : ChromaMode
 
--- the default modes: intra, not skipped, segment 0, DC
-unfoldable pub plain : Modes
-plain = record {
-  segment = 0;
-  skip = false;
-  reference = reference_is.Intra;
+-- the header of a macroblock whose modes aren't read: they are DC
+abbrev pub unread : ℕ → Bool → Reference → Modes
+unread segment skip reference = record {
+  segment = segment;
+  skip = skip;
+  reference = reference;
   luma = luma_is.Dc;
   subs = replicate 16 sub_is.Dc;
   chroma = chroma_is.Dc;
 }
+
+-- the default modes: intra, not skipped, segment 0, DC
+unfoldable pub plain : Modes
+plain = unread 0 false reference_is.Intra
 
 -- the default modes, with this segment
 abbrev pub plain_of : ℕ → Modes

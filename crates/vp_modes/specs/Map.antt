@@ -23,11 +23,10 @@ of_segments g = mapped plain_of g
 
 -- the subblock mode that a whole-block luma mode counts as (chapter 11.3)
 abbrev pub implied_submode : LumaMode → SubMode
-implied_submode luma_is.Dc = sub_is.Dc
 implied_submode luma_is.V = sub_is.Ve
 implied_submode luma_is.H = sub_is.He
 implied_submode luma_is.Tm = sub_is.Tm
-implied_submode luma_is.B = sub_is.Dc
+implied_submode _ = sub_is.Dc
 
 -- the mode of subblock k of a macroblock
 unfoldable pub sub_of : Modes → ℕ → SubMode

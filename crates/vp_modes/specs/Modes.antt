@@ -22,17 +22,13 @@ use Rattle.vp_head.specs.declared.fields.Reference.{Reference}
 use Rattle.vp_head.specs.declared.fields.Reference.TheVariants as reference_is
 use Rattle.vp_head.specs.declared.fields.ReferenceProbabilities.{ReferenceProbabilities}
 use Rattle.vp_head.specs.Reference.{is_intra}
-use Rattle.vp_modes.specs.Entry.{Modes, plain}
+use Rattle.vp_modes.specs.Entry.{Modes, plain, unread}
 use Rattle.vp_modes.specs.Map.{context_above, context_left}
 
--- a segment id by the segment tree (chapter 10)
-unfoldable pub segment_id : List ℕ → Reader ℕ
-segment_id probabilities = walk_from 0 SEGMENT_TREE probabilities 0
-
--- The segment (`segment_id`) is read if the map is updated. Otherwise it is 0 in a key frame, and unchanged in an inter
--- frame.
+-- The segment is read, by the segment tree (chapter 10), if the map is updated. Otherwise it is 0 in a key frame, and
+-- unchanged in an inter frame.
 unfoldable pub segment_of : Header → ℕ → Reader ℕ
-segment_of h kept = when h.segmentation.update_map (segment_id h.segmentation.tree_probabilities)
+segment_of h kept = when h.segmentation.update_map (walk_from 0 SEGMENT_TREE h.segmentation.tree_probabilities 0)
     (if h.key then 0 else kept)
 
 -- whether the macroblock has no tokens (`mb_skip_coeff`, chapter 11.1)
@@ -40,17 +36,12 @@ abbrev pub skip_by : Option ℕ → Reader Bool
 skip_by (Some p) = read p
 skip_by None = give false
 
--- golden or altref (`mb_ref_frame_sel2`)
-abbrev pub far_reference : ReferenceProbabilities → Reader Reference
-far_reference p = do
-  alt ← read p.golden
-  give (if alt then reference_is.Alt else reference_is.Golden)
-
--- the reference frame of an inter macroblock: last, golden or altref (`mb_ref_frame_sel1`, chapter 16.2)
+-- the reference frame of an inter macroblock: last (`mb_ref_frame_sel1`), golden or altref (`mb_ref_frame_sel2`, chapter
+-- 16.2)
 unfoldable pub inter_reference : ReferenceProbabilities → Reader Reference
 inter_reference p = do
   far ← read p.last
-  when far (far_reference p) reference_is.Last
+  when far (read p.golden >>= λ alt. give (if alt then reference_is.Alt else reference_is.Golden)) reference_is.Last
 
 -- the reference frame (`is_inter_mb`); in a key frame it is intra
 unfoldable pub reference_of : Header → Reader Reference
@@ -74,14 +65,10 @@ unfoldable pub sub_probabilities : Header → Grid Modes → Place → List SubM
 sub_probabilities h g p found k =
     if h.key then key_sub_probabilities (context_above g p found k) (context_left g p found k) else SUB_PROBABILITIES
 
--- a subblock mode with these probabilities
-unfoldable pub sub_mode : List ℕ → Reader SubMode
-sub_mode probabilities = walk_from sub_is.Dc SUB_TREE probabilities 0
-
 -- the mode of subblock k, added to those of the subblocks before it
 unfoldable pub sub_row : Header → Grid Modes → Place → ℕ → List SubMode → Reader (List SubMode)
 sub_row h g p k found = do
-  mode ← sub_mode (sub_probabilities h g p found k)
+  mode ← walk_from sub_is.Dc SUB_TREE (sub_probabilities h g p found k) 0
   give (slice_set found k mode)
 
 -- the sixteen subblock modes of the macroblock at p
@@ -96,26 +83,11 @@ intra_modes h g p m = do
   chroma ← chroma_mode h
   give (record m { luma = luma; subs = subs; chroma = chroma })
 
--- the modes of an intra macroblock; an inter macroblock's mode is read with its motion vectors
-unfoldable pub prediction : Header → Grid Modes → Place → Modes → Reader Modes
-prediction h g p m = when (is_intra m.reference) (intra_modes h g p m) m
-
--- the header of a macroblock whose modes aren't read: they are DC
-abbrev pub unread : ℕ → Bool → Reference → Modes
-unread segment skip reference = record {
-  segment = segment;
-  skip = skip;
-  reference = reference;
-  luma = luma_is.Dc;
-  subs = replicate 16 sub_is.Dc;
-  chroma = chroma_is.Dc;
-}
-
 -- the header of the macroblock at p; g contains the modes of this frame's earlier macroblocks, and at p those of the
--- previous frame, of which the segment alone is used
+-- previous frame, of which the segment alone is used; an inter macroblock's mode is read with its motion vectors
 unfoldable pub modes_at : Header → Grid Modes → Place → Reader Modes
 modes_at h g p = do
   segment ← segment_of h (at plain g p).segment
   skip ← skip_by h.skip
   reference ← reference_of h
-  prediction h g p (unread segment skip reference)
+  let m = unread segment skip reference in when (is_intra reference) (intra_modes h g p m) m

@@ -9,8 +9,8 @@ use Rattle.vp_tables.specs.Modes.{is_by_subblocks}
 use Rattle.vp_head.specs.declared.fields.Header.{Header}
 use Rattle.vp_head.specs.declared.fields.Reference.TheVariants as reference_is
 use Rattle.vp_head.specs.Reference.{is_intra}
-use Rattle.vp_modes.specs.Entry.{Modes, plain}
-use Rattle.vp_modes.specs.Modes.{unread, modes_at}
+use Rattle.vp_modes.specs.Entry.{Modes, plain, unread}
+use Rattle.vp_modes.specs.Modes.{modes_at}
 
 -- the modes m can be written at p; g contains at p the modes of the previous frame
 pub record AreWritableModes (h : Header) (g : Grid Modes) (p : Place) (m : Modes) : Type 0 where

@@ -4,8 +4,10 @@ ghost use Rattle.std.specs.Prelude.{◌≡◌, ◌<◌, replicate};
 ghost use Rattle.vp_base.specs.Grid.{Has, with_entry};
 ghost use Rattle.vp_bool.specs.Reader.{when};
 ghost use Rattle.vp_tables.specs.Modes.{is_by_subblocks};
-ghost use Rattle.vp_modes.specs.Modes.{segment_id, segment_of, skip_by, inter_reference, reference_of, luma_mode};
-ghost use Rattle.vp_modes.specs.Modes.{chroma_mode, sub_mode, sub_probabilities, sub_modes, intra_modes, prediction};
+ghost use Rattle.vp_modes.specs.Modes.{segment_of, skip_by, inter_reference, reference_of, luma_mode};
+ghost use Rattle.vp_modes.specs.Pieces.{segment_id};
+ghost use Rattle.vp_modes.specs.Modes.{chroma_mode, sub_probabilities, sub_modes, intra_modes};
+ghost use Rattle.vp_modes.specs.Pieces.{sub_mode, prediction};
 ghost use Rattle.vp_modes.specs.Modes.{modes_at};
 
 use crate::contexts::{mode_above, mode_left};
@@ -22,7 +24,6 @@ use vp_tables::{
 use vp_tree::read_tree;
 
 /// Reads a segment id by the segment tree.
-#[tactic(auto, unfolding(crate::specs::Modes::segment_id))]
 fn read_segment_id(probabilities: &[u8; 3], d: &mut BoolDecoder) -> u8
     ensures value { result ≡ (segment_id probabilities.now d.old).0 }
     ensures rest { d.new ≡ (segment_id probabilities.now d.old).1 }
@@ -138,7 +139,6 @@ pub(crate) fn probabilities_of(
     }
 }
 
-#[tactic(auto, unfolding(crate::specs::Modes::sub_mode))]
 fn read_sub(probabilities: &[u8; 9], d: &mut BoolDecoder) -> SubMode
     ensures value { result ≡ (sub_mode probabilities.now d.old).0 }
     ensures rest { d.new ≡ (sub_mode probabilities.now d.old).1 }
@@ -206,7 +206,6 @@ fn read_intra(
 }
 
 /// Reads the modes of the macroblock at `place` if it is intra.
-#[tactic(auto, unfolding(crate::specs::Modes::prediction))]
 fn read_prediction(
     header: &Header,
     map: &ModeMap,
@@ -248,8 +247,8 @@ fn read_before_modes(header: &Header, map: &ModeMap, place: Place, d: &mut BoolD
 }
 
 /// Reads the header of the macroblock at `place`, without motion vectors: tests call it, and the decoder
-/// `read_modes_into`. The map contains the modes of this frame's earlier macroblocks. At `place` it contains those of the
-/// previous frame, whose segment may be kept.
+/// `read_modes_into`. The map contains the modes of this frame's earlier macroblocks, and at `place` the segment of the
+/// previous frame, which may be kept.
 pub fn read_modes(header: &Header, map: &ModeMap, place: Place, d: &mut BoolDecoder) -> Modes
     requires { Has map.now place }
     ensures value { result ≡ (modes_at header.now map.now place d.old).0 }
@@ -261,7 +260,6 @@ pub fn read_modes(header: &Header, map: &ModeMap, place: Place, d: &mut BoolDeco
 
 /// Reads the header of the macroblock at `place` and stores it in the map: `read_modes` and `ModeMap::set`. Returns its
 /// reference frame. An inter macroblock's modes are written once: they aren't joined with those of an intra macroblock.
-#[tactic(auto, unfolding(crate::specs::Modes::prediction))]
 pub fn read_modes_into(
     header: &Header,
     map: &mut ModeMap,

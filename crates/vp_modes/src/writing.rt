@@ -7,8 +7,11 @@ ghost use Rattle.vp_bool.specs.Writing.{Writes};
 ghost use Rattle.vp_tree.specs.Tree.{walk_from};
 ghost use Rattle.vp_tables.specs.Modes.{is_by_subblocks};
 ghost use Rattle.vp_head.specs.Reference.{is_intra};
-ghost use Rattle.vp_modes.specs.Modes.{segment_id, segment_of, skip_by, inter_reference, reference_of, luma_mode};
-ghost use Rattle.vp_modes.specs.Modes.{chroma_mode, sub_mode, sub_modes, intra_modes, prediction, unread, modes_at};
+ghost use Rattle.vp_modes.specs.Modes.{segment_of, skip_by, inter_reference, reference_of, luma_mode};
+ghost use Rattle.vp_modes.specs.Pieces.{segment_id};
+ghost use Rattle.vp_modes.specs.Entry.{unread};
+ghost use Rattle.vp_modes.specs.Modes.{chroma_mode, sub_modes, intra_modes, modes_at};
+ghost use Rattle.vp_modes.specs.Pieces.{sub_mode, prediction};
 ghost use Rattle.vp_modes.specs.Spelled.{AreWritableModes};
 
 use crate::entry::Modes;

@@ -1,24 +1,25 @@
 -- The count of a macroblock's neighbours.
-use Rattle.std.proofs.Common.{◌≡◌, ◌∙◌, ℕ, ◌+◌, ◌<◌, ◌≤◌, true, false, List, [], ◌∷◌, refl, ap, arith, inl, inr, ℤ, pos, negsuc, add_assoc}
+use Rattle.std.proofs.Common.{◌≡◌, ◌∙◌, ℕ, ◌+◌, ◌<◌, ◌≤◌, true, false, cond, List, [], ◌∷◌, refl, sym, ap, arith, inl, inr, add_assoc}
 use Rattle.std.specs.Prelude.{nat_lt}
-use Rattle.std.proofs.lemmas.Bool.{cases_Bool, and_parts, eqb-true, false≢true, lt-ltb, le-ltb}
+use Rattle.std.proofs.lemmas.Bool.{cases_Bool, and_parts, lt-ltb, le-ltb}
+use Rattle.std.proofs.lemmas.Bool.Decides.{Decides-int_eq}
+use Rattle.std.proofs.lemmas.List.Sums.{sum_by-cons}
+use Rattle.std.specs.Ordering.{int_eq}
 use Rattle.vp_motion.specs.declared.vector.Nearby.{Nearby}
 use Rattle.vp_motion.specs.declared.vector.Weighted.{Weighted}
 use Rattle.vp_motion.specs.Vector.{Vector, zero_vector}
-use Rattle.vp_motion.specs.Near.{from_entries, first_candidate, same, same_number, still_weight, moving, onto, runs, nobody}
-use Rattle.vp_motion.specs.Counting.{Counts}
-
-same_number-true : (m n : ℤ) → same_number m n ≡ true → m ≡ n
-same_number-true (pos m) (pos n) h = ap pos (eqb-true m n h)
-same_number-true (pos m) (negsuc n) h = absurd (false≢true h)
-same_number-true (negsuc m) (pos n) h = absurd (false≢true h)
-same_number-true (negsuc m) (negsuc n) h = ap negsuc (eqb-true m n h)
+use Rattle.vp_motion.specs.Near.{same, weight_of, without}
+use Rattle.vp_motion.specs.Counting.{from_entries, first_candidate, still_weight, moving, onto, runs, nobody, Counts}
 
 pub same-true : (u v : Vector) → same u v ≡ true → u ≡ v
 unfolding same
 same-true u v h =
-    let p = and_parts (same_number u.row v.row) (same_number u.column v.column) h in
-    λ i. record { row = same_number-true u.row v.row p.0 i; column = same_number-true u.column v.column p.1 i }
+    let p = and_parts (int_eq u.row v.row) (int_eq u.column v.column) h in
+    λ i. record { row = (Decides-int_eq u.row v.row).0 p.0 i; column = (Decides-int_eq u.column v.column).0 p.1 i }
+
+pub same-same : (v : Vector) → same v v ≡ true
+unfolding same
+same-same v = rw ((Decides-int_eq v.row v.row).1 refl, (Decides-int_eq v.column v.column).1 refl) refl
 
 pub recount : (n : Nearby) (y z : ℕ) (es fs : List Weighted) → Counts n y es → y ≡ z → es ≡ fs → Counts n z fs
 recount n y z es fs h p q clamp splits = h clamp splits ∙ (λ i. from_entries clamp (p i) splits (q i))
@@ -54,25 +55,27 @@ module _ (u v w : Vector) where
   unfolding from_entries first_candidate
   counts-three-grown h clamp splits = rw h refl
 
+pub weight_of-cons : (v : Vector) (w : Weighted) (ws : List Weighted) → weight_of v (w ∷ ws) ≡ cond (same w.vector v) w.weight 0 + weight_of v ws
+unfolding weight_of
+weight_of-cons v w ws = sum_by-cons (λ (x : Weighted). cond (same x.vector v) x.weight 0) w ws
+
 -- the vector v with weight k, before the neighbours ws
 module _ (v : Vector) (k : ℕ) (ws : List Weighted) where
   abbrev w : Weighted
   w = record { vector = v; weight = k }
 
   pub still-still : same v zero_vector ≡ true → k + still_weight ws ≡ still_weight (w ∷ ws)
-  unfolding still_weight
-  still-still h = rw h refl
+  still-still h = sym (weight_of-cons zero_vector w ws ∙ rw h refl)
 
   pub still-moving : same v zero_vector ≡ false → still_weight ws ≡ still_weight (w ∷ ws)
-  unfolding still_weight
-  still-moving h = rw h (omega arith)
+  still-moving h = sym (weight_of-cons zero_vector w ws ∙ rw h (omega arith))
 
   pub runs-still : same v zero_vector ≡ true → runs (moving ws) ≡ runs (moving (w ∷ ws))
-  unfolding moving
+  unfolding without
   runs-still h = rw h refl
 
   pub runs-moving : same v zero_vector ≡ false → onto w (runs (moving ws)) ≡ runs (moving (w ∷ ws))
-  unfolding moving runs
+  unfolding without runs
   runs-moving h = rw h refl
 
 pub onto-same : (a b : Weighted) → same a.vector b.vector ≡ true → record { vector = a.vector; weight = a.weight + b.weight } ∷ [] ≡ onto a (b ∷ [])

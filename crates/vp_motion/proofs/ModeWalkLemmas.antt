@@ -9,7 +9,8 @@ use Rattle.vp_tree.specs.Tree.{walk, walk_from, next}
 use Rattle.vp_tables.specs.declared.modes.VectorMode.{VectorMode}
 use Rattle.vp_tables.specs.declared.modes.VectorMode.TheVariants as vector_is
 use Rattle.vp_tables.specs.declared.trees.TheConstants.{VECTOR_MODE_TREE}
-use Rattle.vp_motion.specs.Motion.{mode_probability, mode_probabilities, vector_mode}
+use Rattle.vp_motion.specs.Motion.{mode_probabilities, vector_mode}
+use Rattle.vp_motion.specs.ModeWalk.{mode_probability}
 use Rattle.vp_motion.specs.ModeWalk.{any_mode, above_zero, above_nearest, above_near}
 
 module _ (counts : List ℕ) where

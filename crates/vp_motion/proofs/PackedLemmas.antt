@@ -1,11 +1,11 @@
 -- A vector in one word.
-use Rattle.std.proofs.Common.{◌≡◌, ◌∙◌, ℕ, ◌+◌, ◌*◌, ◌%◌, ◌/◌, ◌<◌, ◌^◌, Bool, true, false, nat_eq, ℤ, pos, negsuc, ap, refl, sym, arith, inl, inr, to_z, of_z, w32}
+use Rattle.std.proofs.Common.{◌≡◌, ◌∙◌, ℕ, ◌+◌, ◌*◌, ◌%◌, ◌/◌, ◌<◌, nat_eq, ap, sym, arith, inl, inr, to_z, of_z, w32}
 use Rattle.std.proofs.lemmas.Int.{ints, of_z-to_z}
-use Rattle.std.proofs.lemmas.Bool.{cases_Bool, eq-eqb, eqb-true, eqb-false}
+use Rattle.std.proofs.lemmas.Bool.{cases_Bool, eqb-true, eqb-false}
 use Rattle.vp_motion.specs.Vector.{Vector, IsSmall}
-use Rattle.vp_motion.specs.Near.{same, same_number}
+use Rattle.vp_motion.specs.Near.{same}
 use Rattle.vp_motion.specs.Packed.{unpacked}
-use Rattle.vp_motion.proofs.Counts.{same-true}
+use Rattle.vp_motion.proofs.Counts.{same-same, same-true}
 
 abbrev packed : Vector → ℕ
 packed v = of_z w32 v.row + of_z w32 v.column * 4294967296
@@ -32,14 +32,6 @@ unpacked-is v m n b r s =
     let low : (m + n * 4294967296) % 4294967296 ≡ m = omega (arith, p, x) in
     let high : (m + n * 4294967296) / 4294967296 ≡ n = omega (arith, p, x) in
     λ i. record { row = (ap (to_z w32) (low ∙ p) ∙ row) i; column = (ap (to_z w32) (high ∙ q) ∙ column) i }
-
-same_number-same : (z : ℤ) → same_number z z ≡ true
-same_number-same (pos n) = eq-eqb n n refl
-same_number-same (negsuc n) = eq-eqb n n refl
-
-pub same-same : (v : Vector) → same v v ≡ true
-unfolding same
-same-same v = rw (same_number-same v.row, same_number-same v.column) refl
 
 -- Two vectors are the same if their bits are.
 pub same-bits : (m n : ℕ) → m < 18446744073709551616 → n < 18446744073709551616 → nat_eq m n ≡ same (unpacked m) (unpacked n)

@@ -1,6 +1,7 @@
 -- How long vectors are: those that are read, and those near a macroblock.
-use Rattle.std.proofs.Common.{◌≡◌, ℕ, zero, suc, ◌+◌, ◌*◌, ◌<◌, ◌≤◌, ◌^◌, Bool, true, false, cond, T, List, [], ◌∷◌, ◌++◌, refl, sym, subst, arith, leb, nat_lt, ℤ, pos, neg_ℤ, ◌≤ℤ◌, ◌<ℤ◌, ◌-ℤ◌, ◌+ℤ◌, Option, Some, None}
+use Rattle.std.proofs.Common.{◌≡◌, ℕ, zero, suc, ◌+◌, ◌*◌, ◌<◌, ◌≤◌, ◌^◌, Bool, true, false, cond, not, T, List, [], ◌∷◌, ◌++◌, refl, sym, subst, arith, leb, nat_lt, ℤ, pos, neg_ℤ, ◌≤ℤ◌, ◌<ℤ◌, ◌-ℤ◌, ◌+ℤ◌, Option, Some, None}
 use Rattle.std.specs.Prelude.{replicate, slice_get, slice_index, slice_index_or, slice_set}
+use Rattle.std.specs.Bool.{beq}
 use Rattle.std.specs.Option.{unwrap_or}
 use Rattle.std.specs.Int.Signed.{lt_z, lt_z_yes}
 use Rattle.std.specs.List.{slice_range}
@@ -24,8 +25,10 @@ use Rattle.vp_tables.specs.Modes.{is_split}
 use Rattle.vp_motion.specs.declared.vector.Weighted.{Weighted}
 use Rattle.vp_motion.specs.Vector.{Vector, Candidates, MacroblockMotion, IsWithin, last_of, zero_vector}
 use Rattle.vp_motion.specs.Map.{AreWithin, intra, own}
-use Rattle.vp_motion.specs.Motion.{all_new, bit, component, long_size, motion_at, motion_by, new_vector, short_size, component_magnitude, sum_of, vector, vectors_by}
-use Rattle.vp_motion.specs.Near.{bias_of, candidates, clamped, weighted_neighbour, weighted_at, first_candidate, from_entries, from_two, moving, negated, neighbours, onto, runs, same, same_bool, bias_corrected, clamped_vector}
+use Rattle.vp_motion.specs.Motion.{component, motion_at, motion_by, new_vector, component_magnitude, sum_of, vector, vectors_by, long_size}
+use Rattle.vp_motion.specs.Pieces.{bit, long_bits, short_size}
+use Rattle.vp_motion.proofs.LongSizes.{long_size_bits}
+use Rattle.vp_motion.specs.Near.{bias_of, candidates, clamped, first_vector, weighted_neighbour, from_two, negated, neighbours, same, without, bias_corrected, clamped_vector}
 use Rattle.vp_motion.specs.Spelled.{CanBeWritten, GivesVector, difference_of}
 
 -- ---- What is read
@@ -46,20 +49,19 @@ ten : (b0 b1 b2 b9 b8 b7 b6 b5 b4 b3 : ℕ) → b0 ≤ 1 → b1 ≤ 2 → b2 ≤
     → b0 + b1 + b2 + b9 + b8 + b7 + b6 + b5 + b4 + b3 ≤ 1023
 ten b0 b1 b2 b9 b8 b7 b6 b5 b4 b3 h0 h1 h2 h9 h8 h7 h6 h5 h4 h3 = omega arith
 
-long_size-small : (ps : List ℕ) (s : State) → (long_size ps s).0 ≤ 1023
-unfolding long_size bind
-long_size-small ps s =
+long_bits-small : (ps : List ℕ) (s : State) → (long_bits ps s).0 ≤ 1023
+unfolding long_bits bind
+long_bits-small ps s =
     ten _ _ _ _ _ _ _ _ _ _ (bit-small ps 0 _) (bit-small ps 1 _) (bit-small ps 2 _) (bit-small ps 9 _) (bit-small ps 8 _) (bit-small ps 7 _) (bit-small ps 6 _) (bit-small ps 5 _) (bit-small ps 4 _)
     (bit_3-small _ ps _)
 
 short_size-small : (ps : List ℕ) (s : State) → (short_size ps s).0 < 8
-unfolding short_size
 short_size-small ps s =
     let qs = slice_range ps 2 9 in
     ltb-true _ 8 (leads_passes SHORT_VECTOR_TREE qs 0 s _ _ (walk_leads 0 SHORT_VECTOR_TREE qs 0 s refl (omega arith)) (λ n. nat_lt n 8) refl)
 
 size_by : (long : Bool) (ps : List ℕ) (s : State) → (cond long (long_size ps) (short_size ps) s).0 ≤ 1023
-size_by true ps s = long_size-small ps s
+size_by true ps s = rw (long_size_bits ps s) (long_bits-small ps s)
 size_by false ps s = let h = short_size-small ps s in omega arith
 
 size-small : (ps : List ℕ) (s : State) → (component_magnitude ps s).0 ≤ 1023
@@ -94,7 +96,7 @@ difference_of-sum u v = λ i. record { row = taken_back u.row v.row i; column = 
 
 given-spelled : (ps : List (List ℕ)) (g : Grid MacroblockMotion) (p : Place) (c : Candidates) (mode : VectorMode) (s : State) → is_split mode ≡ false
     → GivesVector c mode (last_of (vectors_by ps g p c mode s).0)
-unfolding all_new new_vector bind
+unfolding new_vector bind
 given-spelled ps g p c vector_is.Zero s h = refl
 given-spelled ps g p c vector_is.Nearest s h = refl
 given-spelled ps g p c vector_is.Near s h = refl
@@ -128,48 +130,25 @@ counted_by false n w h = (h, tt)
 
 counted-short : (n : ℕ) (r : Reference) (b : SignBiases) (weight : ℕ) (e : MacroblockMotion) → IsWithin n (own e) → AreShort n (weighted_neighbour r b weight e)
 unfolding weighted_neighbour bias_corrected
-counted-short n r b weight e h = counted_by (is_intra e.reference) n _ (turned-short (same_bool (bias_of e.reference b) (bias_of r b)) n (own e) h)
+counted-short n r b weight e h = counted_by (is_intra e.reference) n _ (turned-short (beq (bias_of e.reference b) (bias_of r b)) n (own e) h)
 
 append-short : (n : ℕ) (ws vs : List Weighted) → AreShort n ws → AreShort n vs → AreShort n (ws ++ vs)
 append-short n [] vs h k = k
 append-short n (w ∷ ws) vs h k = (h.0, append-short n ws vs h.1 k)
 
-moving_by : (zero_vector : Bool) (n : ℕ) (w : Weighted) (ws : List Weighted) → IsWithin n w.vector → AreShort n ws → AreShort n (cond zero_vector ws (w ∷ ws))
-moving_by true n w ws h k = k
-moving_by false n w ws h k = (h, k)
+without_by : (stays : Bool) (n : ℕ) (w : Weighted) (ws : List Weighted) → IsWithin n w.vector → AreShort n ws → AreShort n (cond stays (w ∷ ws) ws)
+without_by true n w ws h k = (h, k)
+without_by false n w ws h k = k
 
-moving-short : (n : ℕ) (ws : List Weighted) → AreShort n ws → AreShort n (moving ws)
-unfolding moving
-moving-short n [] h = tt
-moving-short n (w ∷ ws) h = moving_by (same w.vector zero_vector) n w (moving ws) h.0 (moving-short n ws h.1)
+without-short : (n : ℕ) (v : Vector) (ws : List Weighted) → AreShort n ws → AreShort n (without v ws)
+unfolding without
+without-short n v [] h = tt
+without-short n v (w ∷ ws) h = without_by (not (same w.vector v)) n w _ h.0 (without-short n v ws h.1)
 
-onto_by : (joins : Bool) (n : ℕ) (w e : Weighted) (es : List Weighted) (k : ℕ) → IsWithin n w.vector → AreShort n (e ∷ es)
-    → AreShort n (cond joins (record { vector = w.vector; weight = k } ∷ es) (w ∷ (e ∷ es)))
-onto_by true n w e es k h t = (h, t.1)
-onto_by false n w e es k h t = (h, t)
-
-onto-short : (n : ℕ) (w : Weighted) (es : List Weighted) → IsWithin n w.vector → AreShort n es → AreShort n (onto w es)
-unfolding onto
-onto-short n w [] h t = (h, tt)
-onto-short n w (e ∷ es) h t = onto_by (same w.vector e.vector) n w e es (w.weight + e.weight) h t
-
-runs-short : (n : ℕ) (ws : List Weighted) → AreShort n ws → AreShort n (runs ws)
-unfolding runs
-runs-short n [] h = tt
-runs-short n (w ∷ ws) h = onto-short n w (runs ws) h.0 (runs-short n ws h.1)
-
-entry-short : (n : ℕ) (es : List Weighted) (k : ℕ) → AreShort n es → IsWithin n (weighted_at es k).vector
-entry-short n [] k h = still-short n
-entry-short n (e ∷ es) zero h = h.0
-entry-short n (e ∷ es) (suc k) h = entry-short n es k h.1
-
-first_by : (more : Bool) (n : ℕ) (w : Weighted) (k : ℕ) → IsWithin n w.vector → IsWithin n (cond more (record { vector = w.vector; weight = k }) w).vector
-first_by true n w k h = h
-first_by false n w k h = h
-
-first-short : (n : ℕ) (es : List Weighted) → AreShort n es → IsWithin n (first_candidate es).vector
-unfolding first_candidate
-first-short n es h = first_by _ n (weighted_at es 0) _ (entry-short n es 0 h)
+first-short : (n : ℕ) (ws : List Weighted) → AreShort n ws → IsWithin n (first_vector ws).vector
+unfolding first_vector
+first-short n [] h = still-short n
+first-short n (w ∷ ws) h = h.0
 
 -- ---- Clamping lengthens none, since it is done between a number below 0 and one above it.
 
@@ -209,16 +188,9 @@ two-short n g p zeros splits nearest near h k = record {
   near = within-short n g p _ k;
 }
 
-entries_by : (swaps : Bool) (n : ℕ) (a b : Candidates) → AreCandidatesWithin n a → AreCandidatesWithin n b → AreCandidatesWithin n (cond swaps a b)
-entries_by true n a b h k = h
-entries_by false n a b h k = k
-
-entries-short : (n : ℕ) (g : Grid MacroblockMotion) (p : Place) (zeros splits : ℕ) (es : List Weighted) → AreShort n es → AreCandidatesWithin n (from_entries (clamped_vector g p) zeros splits es)
-unfolding from_entries
-entries-short n g p zeros splits es h =
-    let first = first-short n es h in
-    let second = entry-short n es 1 h in
-    entries_by _ n _ _ (two-short n g p zeros splits _ _ second first) (two-short n g p zeros splits _ _ first second)
+swapped_by : (swaps : Bool) (n : ℕ) (a b : Candidates) → AreCandidatesWithin n a → AreCandidatesWithin n b → AreCandidatesWithin n (cond swaps a b)
+swapped_by true n a b h k = h
+swapped_by false n a b h k = k
 
 look-short : (n : ℕ) (g : Grid MacroblockMotion) (o : Option Place) → AreWithin n g → IsWithin n (own (look intra g o))
 unfolding intra own
@@ -233,7 +205,11 @@ neighbours-short n g p r b h =
 
 pub candidates-short : (n : ℕ) (g : Grid MacroblockMotion) (p : Place) (r : Reference) (b : SignBiases) → AreWithin n g → AreCandidatesWithin n (candidates g p r b)
 unfolding candidates
-candidates-short n g p r b h = entries-short n g p _ _ _ (runs-short n _ (moving-short n _ (neighbours-short n g p r b h)))
+candidates-short n g p r b h =
+    let moving = without-short n zero_vector _ (neighbours-short n g p r b h) in
+    let first = first-short n _ moving in
+    let second = first-short n _ (without-short n _ _ moving) in
+    swapped_by _ n _ _ (two-short n g p _ _ _ _ second first) (two-short n g p _ _ _ _ first second)
 
 pub new-short : (v u : Vector) → IsWithin 511 v → IsWithin 511 u → IsWithin 1023 (difference_of v u)
 new-short v u h k = record {

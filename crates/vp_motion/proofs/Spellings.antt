@@ -1,6 +1,6 @@
 -- What a mode gives.
 use Rattle.std.proofs.Common.{◌≡◌, ◌∙◌, ℕ, ◌≤◌, true, false, Bool, List, refl, ap, sym, subst, arith, leb, get_or, replicate, ℤ, pos, negsuc, neg_ℤ, ◌≤ℤ◌, ◌-ℤ◌, ◌+ℤ◌}
-use Rattle.std.proofs.lemmas.Bool.{eq-eqb, leb-true, le-leb}
+use Rattle.std.proofs.lemmas.Bool.{leb-true, le-leb}
 use Rattle.std.proofs.lemmas.Int.{ints}
 use Rattle.std.specs.Prelude.{unsigned_abs}
 use Rattle.vp_base.specs.Grid.{Grid}
@@ -11,19 +11,14 @@ use Rattle.vp_bool.proofs.WritingLemmas.{Writes-then, Continues-none, Continues-
 use Rattle.vp_tables.specs.declared.modes.VectorMode.{VectorMode}
 use Rattle.vp_tables.specs.declared.modes.VectorMode.TheVariants as vector_is
 use Rattle.vp_motion.specs.Vector.{Vector, Candidates, MacroblockMotion, AreOne, IsWithin}
-use Rattle.vp_motion.specs.Near.{same, same_number}
-use Rattle.vp_motion.specs.Motion.{all_new, new_vector, vectors_by, sum_of}
+use Rattle.vp_motion.specs.Near.{same}
+use Rattle.vp_motion.specs.Motion.{new_vector, vectors_by, sum_of}
 use Rattle.vp_tables.specs.Modes.{is_split}
-use Rattle.vp_motion.proofs.Counts.{same-true}
+use Rattle.vp_motion.proofs.Counts.{same-same, same-true}
 use Rattle.vp_motion.specs.Spelled.{GivesVector, difference_of}
 
-same_number-itself : (z : ℤ) → same_number z z ≡ true
-same_number-itself (pos n) = eq-eqb n n refl
-same_number-itself (negsuc n) = eq-eqb n n refl
-
 same-itself : (u v : Vector) → u ≡ v → same u v ≡ true
-unfolding same
-same-itself u v e = rw e (rw (same_number-itself v.row, same_number-itself v.column) refl)
+same-itself u v e = rw e (same-same v)
 
 -- two vectors are equal where the code says so
 pub told_same : (u v : Vector) (b : Bool) → b ≡ same u v → (b ≡ true → u ≡ v) × (u ≡ v → b ≡ true)
@@ -62,7 +57,6 @@ sum_of-difference v u = λ i. record { row = added_back v.row u.row i; column = 
 
 pub new_given : (ps : List (List ℕ)) (g : Grid MacroblockMotion) (p : Place) (c : Candidates) (mode : VectorMode) (v : Vector) (old new : Interval) → mode ≡ vector_is.New
     → Writes (new_vector ps c.best) old new v → Writes (vectors_by ps g p c mode) old new (replicate 16 v)
-unfolding all_new
 new_given ps g p c mode v old new e w = rw e (Writes-then _ w (Continues-none _ _))
 
 pub others_given : (ps : List (List ℕ)) (g : Grid MacroblockMotion) (p : Place) (c : Candidates) (mode : VectorMode) (v : Vector) (e : Interval) → ¬ (mode ≡ vector_is.New)

@@ -1,10 +1,14 @@
 -- Private to the crate: the walk of the tree of vector modes, unrolled pair by pair.
-use Rattle.std.specs.Prelude.{ℕ, List, if◌then◌else◌}
+use Rattle.std.specs.Prelude.{ℕ, List, [], slice_index, slice_index_or, if◌then◌else◌}
 use Rattle.vp_bool.specs.Bools.{read}
 use Rattle.vp_bool.specs.Reader.{Reader, ◌>>=◌, give}
 use Rattle.vp_tables.specs.declared.modes.VectorMode.{VectorMode}
 use Rattle.vp_tables.specs.declared.modes.VectorMode.TheVariants as vector_is
-use Rattle.vp_motion.specs.Motion.{mode_probability}
+use Rattle.vp_tables.specs.declared.mode_probabilities.TheConstants.{VECTOR_MODE_PROBABILITIES}
+
+-- probability i of the vector mode
+abbrev pub mode_probability : List ℕ → ℕ → ℕ
+mode_probability counts i = slice_index (slice_index_or VECTOR_MODE_PROBABILITIES (slice_index counts i) []) i
 
 -- the walk from the pair at index 6
 unfoldable pub above_near : List ℕ → Reader VectorMode

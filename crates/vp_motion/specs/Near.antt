@@ -1,14 +1,14 @@
 -- The candidate vectors of a macroblock: best, nearest and near, with their weights, sign biases and clamping (RFC
 -- 6386, chapter 16.3). Pinned by the law `near_of_three_neighbours`, the test `vectors_by_their_neighbours`, and
 -- streams of other encoders in the gate.
-use Rattle.std.specs.Prelude.{ℕ, ◌+◌, ◌-◌, ◌*◌, ◌&&◌, Bool, true, false, not, nat_lt, nat_le, eqb, List, []}
-use Rattle.std.specs.Prelude.{◌∷◌, ◌++◌, length, slice_index_or, ℤ, pos, negsuc, neg_ℤ}
-use Rattle.std.specs.Prelude.{int_lt, if◌then◌else◌}
+use Rattle.std.specs.Prelude.{ℕ, ◌+◌, ◌-◌, ◌*◌, ◌&&◌, Bool, false, not, nat_lt, nat_le, List, [], ◌∷◌, ◌++◌, filter}
+use Rattle.std.specs.Prelude.{sum_by, ℤ, pos, neg_ℤ, int_lt, if◌then◌else◌}
+use Rattle.std.specs.Bool.{beq}
 use Rattle.std.specs.Int.{from_bool}
+use Rattle.std.specs.Ordering.{int_eq}
 use Rattle.vp_head.specs.declared.fields.Reference.{Reference}
 use Rattle.vp_head.specs.declared.fields.Reference.TheVariants as reference_is
 use Rattle.vp_head.specs.declared.fields.SignBiases.{SignBiases}
-use Rattle.vp_tables.specs.declared.modes.VectorMode.TheVariants as vector_is
 use Rattle.vp_tables.specs.Modes.{is_split}
 use Rattle.vp_head.specs.Reference.{is_intra}
 use Rattle.vp_base.specs.declared.place.Place.{Place}
@@ -22,37 +22,22 @@ use Rattle.vp_motion.specs.Map.{intra, own}
 
 -- the sign bias of a reference frame
 abbrev pub bias_of : Reference → SignBiases → Bool
-bias_of reference_is.Intra b = false
-bias_of reference_is.Last b = false
 bias_of reference_is.Golden b = b.golden
 bias_of reference_is.Alt b = b.alt
-
-abbrev pub same_bool : Bool → Bool → Bool
-same_bool true b = b
-same_bool false b = not b
+bias_of _ b = false
 
 abbrev pub negated : Vector → Vector
 negated v = record { row = neg_ℤ v.row; column = neg_ℤ v.column }
 
-abbrev pub same_number : ℤ → ℤ → Bool
-same_number (pos m) (pos n) = eqb m n
-same_number (pos m) (negsuc n) = false
-same_number (negsuc m) (pos n) = false
-same_number (negsuc m) (negsuc n) = eqb m n
-
-unfoldable pub same : Vector → Vector → Bool
-same u v = same_number u.row v.row && same_number u.column v.column
-
 -- a neighbour's vector, negated if the sign biases of the two reference frames differ
 unfoldable pub bias_corrected : Reference → SignBiases → MacroblockMotion → Vector
-bias_corrected r b e = if same_bool (bias_of e.reference b) (bias_of r b) then own e else negated (own e)
+bias_corrected r b e = if beq (bias_of e.reference b) (bias_of r b) then own e else negated (own e)
 
 -- a neighbour's vector and its weight; an intra neighbour doesn't count
 unfoldable pub weighted_neighbour : Reference → SignBiases → ℕ → MacroblockMotion → List Weighted
-weighted_neighbour r b weight e = if is_intra e.reference then [] else record {
-  vector = bias_corrected r b e;
-  weight = weight;
-} ∷ []
+weighted_neighbour r b weight e =
+    if is_intra e.reference then []
+    else record { vector = bias_corrected r b e; weight = weight } ∷ []
 
 -- the neighbours above, to the left, and above left; outside the frame there is none
 unfoldable pub neighbours : Grid MacroblockMotion → Place → Reference → SignBiases → List Weighted
@@ -61,41 +46,21 @@ neighbours g p r b = weighted_neighbour r b 2 (look intra g (above p))
 
 -- ---- Vectors and their weights
 
--- the sum of the weights of zero vectors
-unfoldable pub still_weight : List Weighted → ℕ
-still_weight [] = 0
-still_weight (w ∷ ws) = (if same w.vector zero_vector then w.weight else 0) + still_weight ws
+unfoldable pub same : Vector → Vector → Bool
+same u v = int_eq u.row v.row && int_eq u.column v.column
 
--- the nonzero vectors
-unfoldable pub moving : List Weighted → List Weighted
-moving [] = []
-moving (w ∷ ws) = if same w.vector zero_vector then moving ws else w ∷ moving ws
+-- the weight of a vector: the sum of the weights of the neighbours that have it
+unfoldable pub weight_of : Vector → List Weighted → ℕ
+weight_of v ws = sum_by (λ w. if same w.vector v then w.weight else 0) ws
 
--- consecutive equal vectors become one entry, and their weights are added
-unfoldable pub onto : Weighted → List Weighted → List Weighted
-onto w [] = w ∷ []
-onto w (e ∷ es) = if same w.vector e.vector then record { vector = w.vector; weight = w.weight + e.weight } ∷ es else w
-    ∷ (e ∷ es)
+-- the neighbours that have another vector
+unfoldable pub without : Vector → List Weighted → List Weighted
+without v ws = filter (λ w. not (same w.vector v)) ws
 
--- the entries of a list of vectors
-unfoldable pub runs : List Weighted → List Weighted
-runs [] = []
-runs (w ∷ ws) = onto w (runs ws)
-
--- an entry of the zero vector with weight 0
-abbrev pub nobody : Weighted
-nobody = record { vector = zero_vector; weight = 0 }
-
--- entry k; past the end the zero vector with weight 0
-abbrev pub weighted_at : List Weighted → ℕ → Weighted
-weighted_at es k = slice_index_or es k nobody
-
--- the first entry; its weight grows by 1 if there are three entries and the third equals it
-unfoldable pub first_candidate : List Weighted → Weighted
-first_candidate es =
-    if nat_lt 2 (length es) && same (weighted_at es 2).vector (weighted_at es 0).vector
-    then record { vector = (weighted_at es 0).vector; weight = (weighted_at es 0).weight + 1 }
-    else weighted_at es 0
+-- the first neighbour's vector with its weight; the zero vector with weight 0 if there is no neighbour
+unfoldable pub first_vector : List Weighted → Weighted
+first_vector [] = record { vector = zero_vector; weight = 0 }
+first_vector (w ∷ ws) = record { vector = w.vector; weight = weight_of w.vector (w ∷ ws) }
 
 -- whether a neighbour has split vectors
 unfoldable pub splits : MacroblockMotion → Bool
@@ -118,7 +83,7 @@ clamped_vector g p v = record {
   column = clamped (neg_ℤ (pos (64 * (p.column + 1)))) (pos (64 * (g.columns - p.column))) v.column;
 }
 
--- the candidates, given the heavier and the lighter of the first two entries
+-- the candidates, given the heavier and the lighter of two vectors; best is the heavier one unless zero is heavier
 abbrev pub from_two : (Vector → Vector) → ℕ → ℕ → Weighted → Weighted → Candidates
 from_two clamp zeros splits nearest near = record {
   counts = zeros ∷ nearest.weight ∷ near.weight ∷ splits ∷ [];
@@ -127,15 +92,14 @@ from_two clamp zeros splits nearest near = record {
   near = clamp near.vector;
 }
 
--- the candidates, from the zero weight, the split weight and the entries
-unfoldable pub from_entries : (Vector → Vector) → ℕ → ℕ → List Weighted → Candidates
-from_entries clamp zeros splits es =
-    if nat_lt (first_candidate es).weight (weighted_at es 1).weight
-    then from_two clamp zeros splits (weighted_at es 1) (first_candidate es)
-    else from_two clamp zeros splits (first_candidate es) (weighted_at es 1)
-
--- the candidates of the macroblock at p with reference frame r
+-- The candidates of the macroblock at p with reference frame r. Nearest and near are the first two different vectors
+-- of its neighbours that aren't zero, the heavier one first. (The standard's own program compares the third vector with
+-- the second, and then with the first, which is the same.)
 unfoldable pub candidates : Grid MacroblockMotion → Place → Reference → SignBiases → Candidates
 candidates g p r b =
     let ws = neighbours g p r b in
-    from_entries (clamped_vector g p) (still_weight ws) (split_count g p) (runs (moving ws))
+    let moving = without zero_vector ws in
+    let first = first_vector moving in
+    let second = first_vector (without first.vector moving) in
+    let by = from_two (clamped_vector g p) (weight_of zero_vector ws) (split_count g p) in
+    if nat_lt first.weight second.weight then by second first else by first second

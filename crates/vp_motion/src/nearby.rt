@@ -4,8 +4,8 @@
 //! are. So the entries stay in registers, and none is looked up. A neighbour has no vector if it is intra.
 
 ghost use Rattle.std.specs.Prelude.{◌≡◌, ◌+◌, ◌≤◌, ◌++◌, [], ◌∷◌, false};
-ghost use Rattle.vp_motion.specs.Near.{still_weight, moving, onto, runs, same, nobody};
-ghost use Rattle.vp_motion.specs.Counting.{weighted_vector, Counts, AreLight};
+ghost use Rattle.vp_motion.specs.Near.{same};
+ghost use Rattle.vp_motion.specs.Counting.{still_weight, moving, onto, runs, nobody, weighted_vector, Counts, AreLight};
 
 use crate::packed::PackedVector;
 use crate::vector::{Nearby, Weighted};

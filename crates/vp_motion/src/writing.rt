@@ -4,7 +4,8 @@ ghost use Rattle.std.specs.Prelude.{◌<◌, ◌≤◌, nat_lt, pos, neg_ℤ, �
 ghost use Rattle.vp_bool.specs.Reader.{when};
 ghost use Rattle.vp_bool.specs.Writing.{Writes};
 ghost use Rattle.vp_motion.specs.Vector.{IsWithin};
-ghost use Rattle.vp_motion.specs.Motion.{bit, component, long_size, short_size, component_magnitude, vector};
+ghost use Rattle.vp_motion.specs.Motion.{component, component_magnitude, vector};
+ghost use Rattle.vp_motion.specs.Pieces.{bit, short_size, long_bits};
 ghost use Rattle.vp_motion.specs.Spelled.{bit_of};
 
 use crate::vector::Vector;
@@ -52,7 +53,7 @@ fn write_long(
 ) -> Result<(), AllocError>
     requires least { 8 ≤ magnitude }
     requires most { magnitude ≤ 1023 }
-    ensures { OnOk result (Writes (long_size probabilities.now) e.old e.new magnitude) }
+    ensures { OnOk result (Writes (long_bits probabilities.now) e.old e.new magnitude) }
 {
     write_bit(probabilities, magnitude, 0, e)?;
     write_bit(probabilities, magnitude, 1, e)?;

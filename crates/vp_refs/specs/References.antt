@@ -5,7 +5,7 @@ use Rattle.vp_base.specs.Image.{Image}
 use Rattle.vp_head.specs.declared.fields.Header.{Header}
 use Rattle.vp_head.specs.declared.fields.ReferenceUpdates.{ReferenceUpdates}
 use Rattle.vp_head.specs.declared.fields.ReferenceCopy.{ReferenceCopy}
-use Rattle.vp_head.specs.declared.fields.ReferenceCopy.TheVariants.{Nothing, Last, Other, Unused}
+use Rattle.vp_head.specs.declared.fields.ReferenceCopy.TheVariants.{Last, Other}
 use Rattle.vp_head.specs.declared.fields.Reference.{Reference}
 use Rattle.vp_head.specs.declared.fields.Reference.TheVariants as reference
 
@@ -26,17 +26,15 @@ all_of p = record { last = p; golden = p; alt = p; newest = p }
 
 -- the picture of a reference frame; for intra, which has none and does not use it, the last frame
 abbrev pub reference_picture : References → Reference → Image
-reference_picture refs reference.Intra = refs.last
-reference_picture refs reference.Last = refs.last
 reference_picture refs reference.Golden = refs.golden
 reference_picture refs reference.Alt = refs.alt
+reference_picture refs _ = refs.last
 
 -- the picture of golden or altref after a copy: own is its picture before, other that of altref or golden
 abbrev pub copied_by : ReferenceCopy → Image → Image → Image → Image
-copied_by Nothing last other own = own
 copied_by Last last other own = last
 copied_by Other last other own = other
-copied_by Unused last other own = own
+copied_by _ last other own = own
 
 -- Copies precede refreshes. The copy to altref precedes the copy to golden, which uses the new altref; the standard
 -- leaves their order open.

@@ -8,8 +8,8 @@ use Rattle.vp_base.specs.declared.near.Near.TheVariants.{Here, There}
 use Rattle.vp_base.specs.Place.{above, left}
 use Rattle.vp_base.specs.Grid.{Grid, look}
 use Rattle.vp_base.specs.Near.{is_same, seen_from}
-use Rattle.vp_tokens.specs.Blocks.{Blocks, no_blocks_read, flag_at, Plane, luma, chroma_u, chroma_v, near_had, nearest_y2, token_above, token_left}
-use Rattle.vp_tokens.specs.Contexts.{above_flags, left_flags}
+use Rattle.vp_tokens.specs.Blocks.{Blocks, no_blocks_read, Plane, near_had, nearest_y2, token_above, token_left}
+use Rattle.vp_tokens.specs.Contexts.{flag_at, above_flags, left_flags}
 use Rattle.vp_tokens.specs.Flagged.{above_flag, left_flag}
 
 -- a block by its column and row in the macroblock at p
@@ -53,6 +53,15 @@ each_block P p0 p1 p2 p3 p4 p5 p6 p7 p8 p9 p10 p11 p12 p13 p14 p15 p16 p17 p18 p
     next P 15 p15 (next P 16 p16 (next P 17 p17 (next P 18 p18 (next P 19 p19 (
     next P 20 p20 (next P 21 p21 (next P 22 p22 (next P 23 p23 (next P 24 p24 (
     λ j low high. absurd (omega arith)))))))))))))))))))))))))) k (omega arith) b
+
+abbrev pub luma : Plane
+luma = record { first = 1; side = 4 }
+
+abbrev pub chroma_u : Plane
+chroma_u = record { first = 17; side = 2 }
+
+abbrev pub chroma_v : Plane
+chroma_v = record { first = 21; side = 2 }
 
 module _ (g : Grid Blocks) (p : Place) (found : List Bool) where
   -- a neighbour in the same macroblock

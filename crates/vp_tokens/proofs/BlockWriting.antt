@@ -11,7 +11,8 @@ use Rattle.vp_tables.specs.declared.trees.TheConstants.{TOKEN_TREE}
 use Rattle.vp_tree.specs.Tree.{walk_from}
 use Rattle.vp_tokens.specs.Block.{Block, IsBlock, level_of, no_tokens}
 use Rattle.vp_tokens.specs.declared.block.BlockKind.{BlockKind}
-use Rattle.vp_tokens.specs.Levels.{Probabilities, token, row, context_after, pair_after, coefficient_block, bands_of, first_of}
+use Rattle.vp_tokens.specs.Levels.{Probabilities, token, row, coefficient_block, bands_of, first_of}
+use Rattle.vp_tokens.specs.Pieces.{context_after, pair_after}
 use Rattle.vp_tokens.specs.Spelled.{IsSpelledBlock}
 use Rattle.vp_tokens.specs.Written.{padded_prefix, IsLevelWritten}
 use Rattle.vp_tokens.proofs.FrontLemmas.{front-more, front-all, front-none}

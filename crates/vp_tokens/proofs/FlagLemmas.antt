@@ -10,8 +10,9 @@ use Rattle.vp_tokens.specs.declared.block.BlockKind.TheVariants as kind_is
 use Rattle.vp_tokens.specs.declared.macroblock.TheConstants.{ABOVE, LEFT}
 use Rattle.vp_tokens.specs.Block.{Block, has_token}
 use Rattle.vp_tokens.specs.Levels.{Probabilities, bands_of, first_of, coefficient_block}
-use Rattle.vp_tokens.specs.Blocks.{flag_at, had_of, is_there, true_count, kind_of, y2_or, block_at, no_blocks}
-use Rattle.vp_tokens.specs.Contexts.{bottom_row_flags, right_column_flags}
+use Rattle.vp_tokens.specs.Blocks.{is_there, kind_of, block_at, no_blocks}
+use Rattle.vp_tokens.specs.Contexts.{flag_at, had_of, bottom_row_flags, right_column_flags}
+use Rattle.vp_tokens.specs.Pieces.{true_count, y2_or}
 use Rattle.vp_tokens.specs.Flagged.{above_flag, left_flag, by_flags}
 use Rattle.vp_tokens.specs.Placed.{Reading, flags_at, banded, placed, plane, blocks_read}
 use Rattle.vp_tokens.proofs.Around.{each_block}

@@ -16,3 +16,4 @@ pub mod MacroblockWriting
 pub mod PuttingLemmas
 pub mod Making
 pub mod ReadBack
+pub mod Formerly

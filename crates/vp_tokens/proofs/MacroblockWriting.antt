@@ -12,9 +12,10 @@ use Rattle.vp_bool.specs.Writing.{Writes}
 use Rattle.vp_bool.proofs.WritingLemmas.{Writes-then, Continues-none, Continues-given}
 use Rattle.vp_tokens.specs.Block.{Block, IsBlock, has_token, no_tokens}
 use Rattle.vp_tokens.specs.Levels.{Probabilities, coefficient_block}
-use Rattle.vp_tokens.specs.Blocks.{Blocks, flag_at, had_of, true_count, kind_of, is_there, block_at, all_blocks, no_blocks, macroblock}
+use Rattle.vp_tokens.specs.Blocks.{Blocks, kind_of, is_there, block_at, no_blocks, macroblock}
+use Rattle.vp_tokens.specs.Contexts.{flag_at, had_of, above_flags, left_flags}
+use Rattle.vp_tokens.specs.Pieces.{true_count, all_blocks}
 use Rattle.vp_tokens.specs.declared.contexts.Tokens.{Tokens}
-use Rattle.vp_tokens.specs.Contexts.{above_flags, left_flags}
 use Rattle.vp_tokens.specs.Flagged.{above_flag, left_flag, by_flags}
 use Rattle.vp_tokens.specs.declared.macroblock.Flags.{Flags}
 use Rattle.vp_tokens.specs.declared.macroblock.TheConstants.{ABOVE, LEFT}
@@ -119,12 +120,10 @@ prefix_blocks-all blocks k whole = front-all no_tokens k blocks (λ j a b. absur
 
 pub all_written : (p : Probabilities) (has_y2 skipped : Bool) (context : List Bool → ℕ → ℕ) (blocks : List Block) {old new : Interval} → skipped ≡ false
     → Writes (rows 25 (block_at p has_y2 context) no_blocks) old new blocks → Writes (all_blocks p has_y2 skipped context) old new blocks
-unfolding all_blocks
 all_written p has_y2 skipped context blocks e w = rw e w
 
 pub none_written : (p : Probabilities) (has_y2 skipped : Bool) (context : List Bool → ℕ → ℕ) (blocks : List Block) (old : Interval) → skipped ≡ true → no_blocks ≡ blocks
     → Writes (all_blocks p has_y2 skipped context) old old blocks
-unfolding all_blocks
 none_written p has_y2 skipped context blocks old e same = rw e (Continues-given same old)
 
 -- ---- blocks without tokens

@@ -16,8 +16,10 @@ use Rattle.vp_tables.specs.declared.trees.TheConstants.{TOKEN_TREE}
 use Rattle.std.proofs.lemmas.List.{get_or_append_left, get_or-append-add, get_or-set_same, get_or-set_other, set_past, length-replicate}
 use Rattle.vp_tokens.specs.declared.block.BlockKind.{BlockKind}
 use Rattle.vp_tokens.specs.Block.{Block, no_tokens}
-use Rattle.vp_tokens.specs.Levels.{Probabilities, bands_of, first_of, token, is_end, row, size, signed_level, levels, context_after, pair_after, block_with, coefficient_block}
-use Rattle.vp_tokens.specs.Blocks.{had_of, kind_of, is_there, block_at, all_blocks, no_blocks}
+use Rattle.vp_tokens.specs.Levels.{Probabilities, bands_of, first_of, token, is_end, row, size, signed_level, levels, block_with, coefficient_block}
+use Rattle.vp_tokens.specs.Pieces.{context_after, pair_after, all_blocks}
+use Rattle.vp_tokens.specs.Blocks.{kind_of, is_there, block_at, no_blocks}
+use Rattle.vp_tokens.specs.Contexts.{had_of}
 use Rattle.vp_tokens.specs.Spelled.{IsSpelledBlock, AreSpelled}
 use Rattle.vp_tokens.proofs.LevelLemmas.{length-levels, first_small}
 
@@ -195,11 +197,9 @@ module _ (p : Probabilities) (has_y2 : Bool) (context : List Bool → ℕ → �
   rows_to_be (suc n) blocks s all = at_to_be n _ _ (rows_to_be n blocks s all)
 
   pub all_spelled : (skipped : Bool) (s : State) → AreSpelled has_y2 (all_blocks p has_y2 skipped context s).0
-  unfolding all_blocks
   all_spelled skipped s =
       let all = when_to_be has_y2 (not skipped) (reader.rows 25 (block_at p has_y2 context) no_blocks) no_blocks s (none_to_be has_y2) (λ there. rows_to_be 25 no_blocks s (none_to_be has_y2)) in
       record { each = λ k h. all.each k; no_y2 = all.no_y2 }
 
   pub skipped_none : (skipped : Bool) (s : State) → skipped ≡ true → (all_blocks p has_y2 skipped context s).0 ≡ no_blocks
-  unfolding all_blocks
   skipped_none skipped s e = rw e refl

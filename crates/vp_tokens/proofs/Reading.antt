@@ -9,8 +9,9 @@ use Rattle.vp_bool.specs.Reader.{Reader, rows, bind, when}
 use Rattle.vp_tokens.specs.declared.contexts.Tokens.{Tokens}
 use Rattle.vp_tokens.specs.Block.{Block}
 use Rattle.vp_tokens.specs.Levels.{Probabilities}
-use Rattle.vp_tokens.specs.Blocks.{Blocks, had_of, context, block_at, all_blocks, no_blocks, without_tokens, macroblock}
-use Rattle.vp_tokens.specs.Contexts.{Contexts, AreContextsAt, above_flags, left_flags}
+use Rattle.vp_tokens.specs.Blocks.{Blocks, context, block_at, no_blocks, without_tokens, macroblock}
+use Rattle.vp_tokens.specs.Contexts.{had_of, Contexts, AreContextsAt, above_flags, left_flags}
+use Rattle.vp_tokens.specs.Pieces.{all_blocks}
 use Rattle.vp_tokens.specs.Flagged.{by_flags, left_at}
 use Rattle.vp_tokens.proofs.Around.{above_is, left_is, left_flags-first}
 
@@ -42,14 +43,13 @@ when-same false f g a s e = refl
 -- equal contexts, equal blocks
 blocks-same : (p : Probabilities) (has_y2 skipped : Bool) (f g : List Bool → ℕ → ℕ) → ((found : List Bool) (k : ℕ) → k < 25 → f found k ≡ g found k) → (s : State)
     → all_blocks p has_y2 skipped f s ≡ all_blocks p has_y2 skipped g s
-unfolding all_blocks block_at
+unfolding block_at
 blocks-same p has_y2 skipped f g same s =
     when-same (not skipped) _ _ no_blocks s (rows-same 25 (block_at p has_y2 f) (block_at p has_y2 g)
     (λ k blocks t b. ap (λ (v : ℕ). block_at p has_y2 (λ (w : List Bool) (j : ℕ). v) k blocks t) (same (had_of blocks) k b)) no_blocks s)
 
 pub all_read : (p : Probabilities) (has_y2 skipped : Bool) (f : List Bool → ℕ → ℕ) (s : State) (z : List Block × State) → skipped ≡ false → rows 25 (block_at p has_y2 f) no_blocks s ≡ z
     → all_blocks p has_y2 skipped f s ≡ z
-unfolding all_blocks
 all_read p has_y2 skipped f s z e r = rw e r
 
 -- The contexts by flags are those by the grid.
@@ -62,5 +62,5 @@ macroblock-is p g at has_y2 skipped above left a l s =
 
 -- Of a skipped macroblock nothing is read.
 pub macroblock-skipped : (p : Probabilities) (g : Grid Blocks) (at : Place) (has_y2 : Bool) (s : State) → macroblock p g at has_y2 true s ≡ (without_tokens, s)
-unfolding macroblock all_blocks bind
+unfolding macroblock bind
 macroblock-skipped p g at has_y2 s = refl

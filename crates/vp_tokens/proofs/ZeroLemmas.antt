@@ -12,7 +12,8 @@ use Rattle.vp_tables.specs.Tables.{least_size, extra_probabilities}
 use Rattle.vp_tree.specs.Tree.{walk_from}
 use Rattle.vp_tables.specs.declared.trees.TheConstants.{TOKEN_TREE}
 use Rattle.vp_tokens.specs.Block.{Block, level_of, IsBlock}
-use Rattle.vp_tokens.specs.Levels.{bits, size, signed_level, token, is_end, row, context_after, pair_after}
+use Rattle.vp_tokens.specs.Levels.{bits, size, signed_level, token, is_end, row}
+use Rattle.vp_tokens.specs.Pieces.{context_after, pair_after}
 use Rattle.vp_tokens.specs.Walks.{one_of, categories_3_6, any_category, two_to_four, above_one, nonzero, more, end_of_block, is_nonzero}
 use Rattle.vp_tokens.specs.Zeros.{NonzeroAt, zeros}
 use Rattle.vp_tokens.proofs.LevelLemmas.{tokens_from, level_end}

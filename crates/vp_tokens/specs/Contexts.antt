@@ -1,10 +1,20 @@
 -- The context flags that the code keeps while it reads the tokens of a frame (RFC 6386, chapter 13.3). There are nine
 -- for each column and nine for the row. Their meaning is stated in terms of the blocks read before.
-use Rattle.std.specs.Prelude.{◌≡◌, ◌<◌, ℕ, ◌+◌, ◌*◌, Bool, nat_lt, List, [], ◌∷◌, length, slice_index_or, if◌then◌else◌}
+use Rattle.std.specs.Prelude.{◌≡◌, ◌<◌, ℕ, ◌+◌, ◌*◌, Bool, false, nat_lt, List, [], ◌∷◌, length, map}
+use Rattle.std.specs.Prelude.{slice_index_or, if◌then◌else◌}
 use Rattle.vp_base.specs.declared.place.Place.{Place}
 use Rattle.vp_base.specs.Place as place
 use Rattle.vp_base.specs.Grid.{Grid, look}
-use Rattle.vp_tokens.specs.Blocks.{Blocks, no_blocks_read, flag_at, y2_above, y2_left}
+use Rattle.vp_tokens.specs.Block.{Block, has_token}
+use Rattle.vp_tokens.specs.Blocks.{Blocks, no_blocks_read, y2_above, y2_left}
+
+-- flag k; false past the end
+abbrev pub flag_at : List Bool → ℕ → Bool
+flag_at flags k = slice_index_or flags k false
+
+-- which blocks have a token
+abbrev pub had_of : List Block → List Bool
+had_of blocks = map has_token blocks
 
 -- nine flags for each column, and nine for the row: 4 Y, 2 U, 2 V, 1 Y2
 pub record Contexts : Type 0 where

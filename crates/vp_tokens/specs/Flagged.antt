@@ -2,8 +2,9 @@
 use Rattle.std.specs.Prelude.{ℕ, ◌+◌, ◌-◌, ◌/◌, ◌%◌, ◌==◌, Bool, false, nat_lt, List, [], replicate, slice_index_or}
 use Rattle.std.specs.Prelude.{slice_set, if◌then◌else◌}
 use Rattle.vp_base.specs.declared.place.Place.{Place}
-use Rattle.vp_tokens.specs.Blocks.{Blocks, flag_at, true_count, y2_or}
-use Rattle.vp_tokens.specs.Contexts.{Contexts, bottom_row_flags, right_column_flags}
+use Rattle.vp_tokens.specs.Blocks.{Blocks}
+use Rattle.vp_tokens.specs.Contexts.{flag_at, Contexts, bottom_row_flags, right_column_flags}
+use Rattle.vp_tokens.specs.Pieces.{true_count, y2_or}
 
 -- whether the block above block k has a token, and the one to its left: a flag outside the macroblock, else in had
 unfoldable pub above_flag : List Bool → List Bool → ℕ → Bool

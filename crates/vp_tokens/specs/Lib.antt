@@ -3,6 +3,7 @@ pub mod Block
 pub mod Levels
 pub mod Blocks
 pub mod Contexts
+pub mod Pieces
 pub mod Flagged
 pub mod Spelled
 pub mod Written

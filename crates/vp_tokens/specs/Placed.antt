@@ -8,7 +8,9 @@ use Rattle.vp_tokens.specs.declared.macroblock.Flags.{Flags}
 use Rattle.vp_tokens.specs.declared.macroblock.TheConstants.{ABOVE, LEFT}
 use Rattle.vp_tokens.specs.Block.{Block, has_token}
 use Rattle.vp_tokens.specs.Levels.{Probabilities, bands_of, first_of, levels, block_with}
-use Rattle.vp_tokens.specs.Blocks.{flag_at, true_count, kind_of, is_there}
+use Rattle.vp_tokens.specs.Blocks.{kind_of, is_there}
+use Rattle.vp_tokens.specs.Contexts.{flag_at}
+use Rattle.vp_tokens.specs.Pieces.{true_count}
 
 -- the blocks of a macroblock while they are read, and the flags of the blocks around the remaining ones
 pub record Reading : Type 0 where

@@ -37,7 +37,7 @@ impl Model for Block {
 /// The type of a block, which selects its token probabilities (RFC 6386, chapter 13.3).
 #[derive(Clone, Copy, Debug, PartialEq, Eq)]
 pub enum BlockKind {
-    /// Luma in a macroblock with a Y2 block, which contains the levels of position 0.
+    /// Luma in a macroblock with a Y2 block, which codes what stands at position 0.
     LumaAfterY2,
     /// Y2: the DC levels of the sixteen luma blocks, transformed once more.
     Y2,

@@ -6,7 +6,7 @@ ghost use Rattle.vp_bool.specs.Writing.{Continues};
 ghost use Rattle.vp_tables.specs.declared.modes.Token.TheVariants as token_is;
 ghost use Rattle.vp_tables.specs.declared.trees.TheConstants.{TOKEN_TREE};
 ghost use Rattle.vp_tree.specs.Tree.{walk_from};
-ghost use Rattle.vp_tokens.specs.Levels.{context_after, pair_after};
+ghost use Rattle.vp_tokens.specs.Pieces.{context_after, pair_after};
 ghost use Rattle.vp_tokens.specs.Walks.{nonzero, IsStart};
 ghost use Rattle.vp_tokens.specs.Written.{IsLevelWritten};
 

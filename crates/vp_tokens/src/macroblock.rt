@@ -3,7 +3,9 @@ ghost use Rattle.std.specs.Prelude.{◌≡◌, true, ◌+◌, ◌<◌, ◌≤◌
 ghost use Rattle.vp_base.specs.Grid.{Grid, Has, with_entry};
 ghost use Rattle.vp_bool.specs.Bools.{State};
 ghost use Rattle.vp_tokens.specs.Levels.{Probabilities};
-ghost use Rattle.vp_tokens.specs.Blocks.{Blocks, blocks_of, had_of, flag_at, y2_or, all_blocks, no_blocks};
+ghost use Rattle.vp_tokens.specs.Blocks.{Blocks, blocks_of, no_blocks};
+ghost use Rattle.vp_tokens.specs.Contexts.{had_of, flag_at};
+ghost use Rattle.vp_tokens.specs.Pieces.{y2_or, all_blocks};
 ghost use Rattle.vp_tokens.specs.Blocks.{without_tokens, macroblock};
 ghost use Rattle.vp_tokens.specs.Contexts.{AreContextsAt, bottom_row_flags, right_column_flags, right};
 ghost use Rattle.vp_tokens.specs.Flagged.{by_flags};

@@ -2,7 +2,8 @@
 
 ghost use Rattle.std.specs.Prelude.{◌≡◌, ◌≤◌, ◌<◌, ◌^◌, length, unsigned_abs};
 ghost use Rattle.vp_tables.specs.Tables.{least_size};
-ghost use Rattle.vp_tokens.specs.Levels.{bits, size, signed_level, context_after};
+ghost use Rattle.vp_tokens.specs.Levels.{bits, size, signed_level};
+ghost use Rattle.vp_tokens.specs.Pieces.{context_after};
 ghost use Rattle.vp_tokens.specs.Walks.{context_after_token};
 
 use vp_bool::BoolDecoder;

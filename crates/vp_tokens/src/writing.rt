@@ -3,7 +3,9 @@
 ghost use Rattle.std.specs.Prelude.{◌≡◌, ◌<◌, ◌+◌, ℕ, Bool, List, true, false, length, slice_index_or, OnOk, OnErr};
 ghost use Rattle.vp_base.specs.Grid.{Grid, Has, with_entry};
 ghost use Rattle.vp_bool.specs.Writing.{Writes};
-ghost use Rattle.vp_tokens.specs.Blocks.{Blocks, had_of, blocks_of, block_at, all_blocks, no_blocks, macroblock};
+ghost use Rattle.vp_tokens.specs.Blocks.{Blocks, blocks_of, block_at, no_blocks, macroblock};
+ghost use Rattle.vp_tokens.specs.Contexts.{had_of};
+ghost use Rattle.vp_tokens.specs.Pieces.{all_blocks};
 ghost use Rattle.vp_tokens.specs.Contexts.{AreContextsAt, right};
 ghost use Rattle.vp_tokens.specs.Flagged.{by_flags};
 ghost use Rattle.vp_tokens.specs.Placed.{AreFlagsAt};

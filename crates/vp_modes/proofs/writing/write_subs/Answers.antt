@@ -10,7 +10,8 @@ use Rattle.vp_tables.specs.declared.modes.SubMode.TheVariants as sub_is
 use Rattle.vp_head.specs.declared.fields.Header.{Header}
 use Rattle.vp_head.proofs.Mixed.{mixed, mixed-more, mixed-all}
 use Rattle.vp_modes.specs.Entry.{Modes}
-use Rattle.vp_modes.specs.Modes.{sub_row, sub_mode, sub_modes, sub_probabilities}
+use Rattle.vp_modes.specs.Modes.{sub_row, sub_modes, sub_probabilities}
+use Rattle.vp_modes.specs.Pieces.{sub_mode}
 use Rattle.vp_bool.proofs.WritingLemmas.{rows-written, rows-unwritten}
 use Rattle.vp_modes.proofs.writing.write_subs.Goals as goal
 

@@ -2,7 +2,8 @@ use Rattle.std.proofs.Common.{◌∙◌, ◌++◌, ap}
 use Rattle.vp_base.specs.Grid.{look}
 use Rattle.vp_motion.specs.Map.{intra}
 use Rattle.vp_motion.specs.Vector.{MacroblockMotion}
-use Rattle.vp_motion.specs.Near.{candidates, clamped_vector, from_entries, neighbours, moving, runs, split_count, still_weight, weighted_neighbour}
+use Rattle.vp_motion.specs.Near.{candidates, clamped_vector, neighbours, split_count, weighted_neighbour}
+use Rattle.vp_motion.proofs.FirstTwo.{chosen, entries_are_chosen}
 use Rattle.vp_motion.proofs.candidates.nearby.Goals as goal
 
 pub returns-clause-value : goal.returns-clause-value
@@ -12,6 +13,6 @@ returns-clause-value c =
     let above = c.seen_vector.ensures 2 ∙ ap (by 2) c.row_above.ensures.above in
     let left = c.seen_vector-2.ensures 2 ∙ ap (by 2) (c.look-left.ensures ∙ ap (look intra c.args.map.now) c.left.ensures.value) in
     let corner = c.seen_vector-3.ensures 1 ∙ ap (by 1) c.row_above.ensures.corner in
+    let clamp = clamped_vector c.args.map.now c.args.place in
     let splits = split_count c.args.map.now c.args.place in
-    c.count.ensures.value (clamped_vector c.args.map.now c.args.place) splits
-    ∙ (λ i. from_entries (clamped_vector c.args.map.now c.args.place) (still_weight (above i ++ (left i ++ corner i))) splits (runs (moving (above i ++ (left i ++ corner i)))))
+    c.count.ensures.value clamp splits ∙ entries_are_chosen c.seen_vector.result c.seen_vector-2.result c.seen_vector-3.result clamp splits ∙ (λ i. chosen clamp splits (above i ++ (left i ++ corner i)))

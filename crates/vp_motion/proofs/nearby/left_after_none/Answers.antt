@@ -1,7 +1,6 @@
 use Rattle.std.proofs.Common.{◌≡◌, ◌∙◌, ℕ, ◌+◌, List, ap, sym, arith}
 use Rattle.vp_motion.specs.declared.vector.Weighted.{Weighted}
-use Rattle.vp_motion.specs.Near.{still_weight}
-use Rattle.vp_motion.specs.Counting.{weighted_vector}
+use Rattle.vp_motion.specs.Counting.{still_weight, weighted_vector}
 use Rattle.vp_motion.proofs.Counts.{recount, runs-moving, runs-still, still-moving, still-still}
 use Rattle.vp_motion.proofs.nearby.left_after_none.Goals as goal
 

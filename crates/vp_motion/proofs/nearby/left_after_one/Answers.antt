@@ -1,7 +1,6 @@
 use Rattle.std.proofs.Common.{◌≡◌, ◌∙◌, ◌+◌, List, ap, sym, arith}
 use Rattle.vp_motion.specs.declared.vector.Weighted.{Weighted}
-use Rattle.vp_motion.specs.Near.{still_weight, moving, onto, runs}
-use Rattle.vp_motion.specs.Counting.{weighted_vector}
+use Rattle.vp_motion.specs.Counting.{still_weight, moving, onto, runs, weighted_vector}
 use Rattle.vp_motion.proofs.Counts.{onto-both, recount, runs-moving, runs-still, still-moving, still-still}
 use Rattle.vp_motion.proofs.nearby.left_after_one.Goals as goal
 

@@ -1,7 +1,7 @@
 use Rattle.std.proofs.Common.{refl, ◌/◌, ◌^◌}
 use Rattle.std.proofs.lemmas.Nat.{and_mask}
 use Rattle.vp_bool.proofs.WritingLemmas.{Writes-then, Continues-given}
-use Rattle.vp_motion.specs.Motion.{bit}
+use Rattle.vp_motion.specs.Pieces.{bit}
 use Rattle.vp_motion.proofs.writing.write_bit.Goals as goal
 
 pub returns : goal.returns

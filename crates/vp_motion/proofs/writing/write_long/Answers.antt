@@ -1,10 +1,10 @@
 use Rattle.vp_bool.proofs.WritingLemmas.{Writes-then, Continues-given}
-use Rattle.vp_motion.specs.Motion.{long_size}
+use Rattle.vp_motion.specs.Pieces.{long_bits}
 use Rattle.vp_motion.proofs.Bits.{all_bits, others_long}
 use Rattle.vp_motion.proofs.writing.write_long.Goals as goal
 
 pub returns : goal.returns
-unfolding long_size
+unfolding long_bits
 returns c =
     let n = c.args.magnitude in
     let last = rw (← others_long n c.requires.least c.requires.most) at c.in_ok-write_bit_3.ensures in

@@ -1,8 +1,9 @@
 use Rattle.std.specs.Prelude.{slice_set}
 use Rattle.std.proofs.Common.{◌≡◌, Bool, sym, ◌∙◌, ap, subst, List, length, length-set}
 use Rattle.vp_base.specs.Grid.{with_entry}
-use Rattle.vp_tokens.specs.Blocks.{Blocks, had_of, flag_at, y2_or, no_blocks}
-use Rattle.vp_tokens.specs.Contexts.{Contexts, AreContextsAt, right, bottom_row_flags, right_column_flags}
+use Rattle.vp_tokens.specs.Blocks.{Blocks, no_blocks}
+use Rattle.vp_tokens.specs.Contexts.{had_of, flag_at, Contexts, AreContextsAt, right, bottom_row_flags, right_column_flags}
+use Rattle.vp_tokens.specs.Pieces.{y2_or}
 use Rattle.vp_tokens.specs.Flagged.{flags_after}
 use Rattle.vp_tokens.proofs.Steps.{step}
 use Rattle.vp_tokens.proofs.Reading.{macroblock-skipped}

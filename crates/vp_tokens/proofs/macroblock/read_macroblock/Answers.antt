@@ -2,8 +2,9 @@ use Rattle.std.specs.Prelude.{slice_set}
 use Rattle.std.proofs.Common.{◌≡◌, Bool, sym, ◌∙◌, ap, subst, arith, List, length, length-set}
 use Rattle.vp_tokens.specs.declared.contexts.Tokens.{Tokens}
 use Rattle.vp_tokens.specs.Block.{Block}
-use Rattle.vp_tokens.specs.Blocks.{Blocks, had_of, flag_at, y2_or}
-use Rattle.vp_tokens.specs.Contexts.{Contexts, AreContextsAt, right, bottom_row_flags, right_column_flags}
+use Rattle.vp_tokens.specs.Blocks.{Blocks}
+use Rattle.vp_tokens.specs.Contexts.{had_of, flag_at, Contexts, AreContextsAt, right, bottom_row_flags, right_column_flags}
+use Rattle.vp_tokens.specs.Pieces.{y2_or}
 use Rattle.vp_base.specs.Grid.{Grid, with_entry}
 use Rattle.vp_tokens.proofs.Steps.{step}
 use Rattle.vp_tokens.specs.Flagged.{by_flags, flags_after}

@@ -1,6 +1,7 @@
 use Rattle.std.proofs.Common.{◌≡◌, ◌∙◌, sym, ap, subst, refl, rules}
-use Rattle.vp_tokens.specs.Blocks.{had_of, flag_at, y2_or, all_blocks, no_blocks}
-use Rattle.vp_tokens.specs.Contexts.{bottom_row_flags, right_column_flags}
+use Rattle.vp_tokens.specs.Blocks.{no_blocks}
+use Rattle.vp_tokens.specs.Contexts.{had_of, flag_at, bottom_row_flags, right_column_flags}
+use Rattle.vp_tokens.specs.Pieces.{y2_or, all_blocks}
 use Rattle.vp_tokens.specs.Flagged.{by_flags}
 use Rattle.vp_tokens.specs.Placed.{Reading, reading, blocks_read}
 use Rattle.vp_tokens.proofs.Reading.{all_read}
@@ -9,11 +10,9 @@ use Rattle.vp_tokens.proofs.macroblock.read_unless.Goals as goal
 use Rattle.vp_tokens.proofs.macroblock.read_unless.Goals.{Else-skipped}
 
 pub returns-then-skipped-clause-value : goal.returns-then-skipped-clause-value
-unfolding all_blocks
 returns-then-skipped-clause-value c = rw c.if-skipped.true (c.requires c.if-skipped.true)
 
 pub returns-then-skipped-clause-rest : goal.returns-then-skipped-clause-rest
-unfolding all_blocks
 returns-then-skipped-clause-rest c = rw c.if-skipped.true refl
 
 read : (c : Else-skipped) → IsRead c.args.probabilities.now c.args.has_y2 c.args.flags.now.above c.args.flags.now.left c.args.d.now 25

@@ -1,6 +1,7 @@
 use Rattle.vp_bool.specs.Reader.{rows}
 use Rattle.vp_bool.specs.Writing.{Writes}
-use Rattle.vp_tokens.specs.Blocks.{had_of, block_at, no_blocks}
+use Rattle.vp_tokens.specs.Blocks.{block_at, no_blocks}
+use Rattle.vp_tokens.specs.Contexts.{had_of}
 use Rattle.vp_tokens.specs.Flagged.{by_flags}
 use Rattle.vp_tokens.specs.Placed.{AreFlagsAt}
 use Rattle.vp_tokens.specs.Written.{prefix_blocks}

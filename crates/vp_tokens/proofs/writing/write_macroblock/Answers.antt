@@ -1,7 +1,7 @@
 use Rattle.std.proofs.Common.{sym, ◌∙◌, subst, arith}
 use Rattle.vp_base.specs.Grid.{with_entry}
-use Rattle.vp_tokens.specs.Blocks.{Blocks, had_of}
-use Rattle.vp_tokens.specs.Contexts.{Contexts, AreContextsAt, right}
+use Rattle.vp_tokens.specs.Blocks.{Blocks}
+use Rattle.vp_tokens.specs.Contexts.{had_of, Contexts, AreContextsAt, right}
 use Rattle.vp_tokens.proofs.Steps.{step}
 use Rattle.vp_tokens.proofs.Reading.{above_at-is, left_at-is}
 use Rattle.vp_tokens.proofs.MacroblockWriting.{macroblock_written}
