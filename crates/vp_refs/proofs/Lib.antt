@@ -1,2 +1,1 @@
 mod OneLemmas
-pub mod Formerly

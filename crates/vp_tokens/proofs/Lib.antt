@@ -16,4 +16,3 @@ pub mod MacroblockWriting
 pub mod PuttingLemmas
 pub mod Making
 pub mod ReadBack
-pub mod Formerly
