@@ -1,18 +1,21 @@
 //! The coding of a macroblock before its levels are known, and the choice that its levels complete.
 
-ghost use Rattle.std.specs.Prelude.{◌≡◌, not, is_some, IfSome};
+ghost use Rattle.std.specs.Prelude.{◌≡◌, ℕ, false, not, is_some, IfSome};
+ghost use Rattle.vp_tokens.specs.declared.contexts.Tokens.{Tokens};
+ghost use Rattle.vp_tokens.specs.Spelled.{AreLevels};
+ghost use Rattle.vp_intra.specs.Edges.{block as listed};
 ghost use Rattle.vp_base.specs.declared.place.Place.{Place};
 ghost use Rattle.vp_base.specs.Image.{Image};
 ghost use Rattle.vp_recon.specs.Predictor.{Predictor, macroblock_of, has_y2};
 ghost use Rattle.vp_recon.specs.Rebuilt.{rebuilt};
 ghost use Rattle.vp_choose.specs.Costs.{HasMacroblock};
-ghost use Rattle.vp_choose.specs.Levels.{ArePositive};
+ghost use Rattle.vp_choose.specs.Levels.{ArePositive, HasLumaAndY2};
 ghost use Rattle.vp_choose.specs.Intra.{HasSubblocks};
-ghost use Rattle.vp_choose.specs.Coding.{AreCut, AreSmall, AreWritable, HasPrediction, HasLevels, Completes};
+ghost use Rattle.vp_choose.specs.Coding.{AreCut, AreSmall, AreWritable, HaveLuma, HasPrediction, HasLevels, Completes};
 
 use crate::frame::Choice;
-use crate::levels::{luma_levels, put_chroma};
-use crate::subblocks::Subblocks;
+use crate::levels::{levels_with_y2, put_chroma};
+use crate::subblocks::{Subblocks, levels_without_y2};
 use vp_base::{Picture, Place};
 use vp_modes::Modes;
 use vp_motion::Motion;
@@ -20,16 +23,32 @@ use vp_quant::Factors;
 use vp_recon::{MacroblockPixels, rebuild_from};
 use vp_tokens::Tokens;
 
-/// How a macroblock is coded, and its prediction. Its cost is compared before it is made, by a limit.
+/// How a macroblock is coded, and its prediction. That it costs the least is known before it is made.
 #[derive(Clone, Copy)]
 pub(crate) struct Coding {
     /// With `skip` false: whether the macroblock is skipped depends on its levels.
     pub(crate) modes: Modes,
     pub(crate) motion: Motion,
-    /// With B_PRED its luma is rebuilt already.
+    /// With B_PRED its luma is no prediction: it is rebuilt already.
     pub(crate) prediction: MacroblockPixels,
     /// The subblocks of B_PRED, whose levels are known.
     pub(crate) subblocks: Option<Subblocks>,
+}
+
+/// Returns the luma levels of a macroblock with these source pixels. Chroma has none yet.
+fn luma_levels(coding: &Coding, source: &[u8; 256], factors: &Factors) -> [[i16; 16]; 25]
+    requires factors { ArePositive factors.now }
+    requires small { IfSome coding.now.subblocks (λ s. AreSmall s.levels) }
+    ensures at_once { is_some coding.now.subblocks ≡ false → (f g : ℕ → ℕ → ℕ) → source.now ≡ listed 16 f
+        → coding.now.prediction.luma ≡ listed 16 g → (t : Tokens) → HaveLuma result t → HasLumaAndY2 f g factors.now t }
+    ensures by_subblocks { IfSome coding.now.subblocks (λ s. (t : Tokens) → HaveLuma result t → HasSubblocks s t) }
+    ensures spelled { AreLevels (not (is_some coding.now.subblocks)) result }
+    ensures small { AreSmall result }
+{
+    match &coding.subblocks {
+        Some(subblocks) => levels_without_y2(subblocks),
+        None => levels_with_y2(source, &coding.prediction.luma, factors),
+    }
 }
 
 impl Coding {

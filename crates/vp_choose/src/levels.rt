@@ -1,18 +1,15 @@
 //! Computes the levels of a macroblock: the forward transforms of source minus prediction, quantised.
 
 ghost use Rattle.std.specs.Prelude.{◌≡◌, ℕ, ◌+◌, ◌*◌, ◌/◌, ◌%◌, ◌<◌, ◌≤◌, pos, length};
-ghost use Rattle.std.specs.Prelude.{true, false, Bool, not, is_some, IfSome, slice_index_or, unsigned_abs};
+ghost use Rattle.std.specs.Prelude.{true, Bool, slice_index_or, unsigned_abs};
 ghost use Rattle.vp_tokens.specs.declared.contexts.Tokens.{Tokens};
 ghost use Rattle.vp_tokens.specs.Spelled.{AreLevels, levels_of};
 ghost use Rattle.vp_transform.specs.Fits.{EachWithin};
 ghost use Rattle.vp_intra.specs.Edges.{block as listed};
 ghost use Rattle.vp_choose.specs.Levels.{ArePositive, HasLumaAndY2, part, coefficients, quantised_levels};
 ghost use Rattle.vp_choose.specs.Levels.{part_coefficients};
-ghost use Rattle.vp_choose.specs.Intra.{HasSubblocks};
 ghost use Rattle.vp_choose.specs.Coding.{AreSmall, HaveLuma};
 
-use crate::coding::Coding;
-use crate::subblocks::Subblocks;
 use vp_quant::{Factors, quantise_block};
 use vp_transform::{differences, fdct_short, fwht_short};
 
@@ -58,7 +55,11 @@ pub(crate) fn quantised_levels(coefficients: &[i16; 16], dc: u16, ac: u16) -> [i
 }
 
 /// Returns the levels of luma with a Y2 block, which codes the DC coefficients. Chroma has none yet.
-fn levels_with_y2(source: &[u8; 256], prediction: &[u8; 256], factors: &Factors) -> [[i16; 16]; 25]
+pub(crate) fn levels_with_y2(
+    source: &[u8; 256],
+    prediction: &[u8; 256],
+    factors: &Factors,
+) -> [[i16; 16]; 25]
     requires { ArePositive factors.now }
     ensures luma { (f g : ℕ → ℕ → ℕ) → source.now ≡ listed 16 f → prediction.now ≡ listed 16 g
         → (t : Tokens) → HaveLuma result t → HasLumaAndY2 f g factors.now t }
@@ -75,20 +76,6 @@ fn levels_with_y2(source: &[u8; 256], prediction: &[u8; 256], factors: &Factors)
         all[1 + k] = levels;
     }
     all[0] = quantised_levels(&fwht_short(&firsts), factors.y2_dc, factors.y2_ac);
-    all
-}
-
-/// Returns the levels of luma by the subblocks of B_PRED, without a Y2 block. Chroma has none yet.
-fn levels_without_y2(subblocks: &Subblocks) -> [[i16; 16]; 25]
-    requires { AreSmall subblocks.now.levels }
-    ensures luma { (t : Tokens) → HaveLuma result t → HasSubblocks subblocks.now t }
-    ensures spelled { AreLevels false result }
-    ensures small { AreSmall result }
-{
-    let mut all = [[0; 16]; 25];
-    for k in 0..16 {
-        all[1 + k] = subblocks.levels[k];
-    }
     all
 }
 
@@ -114,21 +101,5 @@ pub(crate) fn put_chroma(
     for k in 0..4 {
         let numbers = coefficients(&part_of::<2>(source, k), &part_of::<2>(prediction, k));
         all[first + k] = quantised_levels(&numbers, factors.uv_dc, factors.uv_ac);
-    }
-}
-
-/// Returns the luma levels of a macroblock with these source pixels. Chroma has none yet.
-pub(crate) fn luma_levels(coding: &Coding, source: &[u8; 256], factors: &Factors) -> [[i16; 16]; 25]
-    requires factors { ArePositive factors.now }
-    requires small { IfSome coding.now.subblocks (λ s. AreSmall s.levels) }
-    ensures at_once { is_some coding.now.subblocks ≡ false → (f g : ℕ → ℕ → ℕ) → source.now ≡ listed 16 f
-        → coding.now.prediction.luma ≡ listed 16 g → (t : Tokens) → HaveLuma result t → HasLumaAndY2 f g factors.now t }
-    ensures by_subblocks { IfSome coding.now.subblocks (λ s. (t : Tokens) → HaveLuma result t → HasSubblocks s t) }
-    ensures spelled { AreLevels (not (is_some coding.now.subblocks)) result }
-    ensures small { AreSmall result }
-{
-    match &coding.subblocks {
-        Some(subblocks) => levels_without_y2(subblocks),
-        None => levels_with_y2(source, &coding.prediction.luma, factors),
     }
 }

@@ -1,7 +1,10 @@
 //! Chooses the modes of the luma subblocks for B_PRED.
 
 ghost use Rattle.std.specs.Prelude.{◌≡◌, ℕ, ◌+◌, ◌*◌, ◌<◌, ◌≤◌, pos, [], slice_index, slice_index_or, unsigned_abs};
-ghost use Rattle.std.specs.Prelude.{IfSome, MatchOption};
+ghost use Rattle.std.specs.Prelude.{false, IfSome, MatchOption};
+ghost use Rattle.vp_tokens.specs.declared.contexts.Tokens.{Tokens};
+ghost use Rattle.vp_tokens.specs.Spelled.{AreLevels};
+ghost use Rattle.vp_choose.specs.Intra.{HasSubblocks};
 ghost use Rattle.vp_base.specs.Image.{with_plane};
 ghost use Rattle.vp_intra.specs.Edges.{block as listed};
 ghost use Rattle.vp_recon.specs.Rebuilt.{with_sub};
@@ -9,7 +12,7 @@ ghost use Rattle.vp_recon.specs.Residue.{residue};
 ghost use Rattle.vp_search.specs.Differences.{sum_of_differences, block_from_rows};
 ghost use Rattle.vp_choose.specs.Costs.{sub_cost};
 ghost use Rattle.vp_choose.specs.Levels.{ArePositive, coefficients, quantised_levels};
-ghost use Rattle.vp_choose.specs.Coding.{AreSmall, IsRebuiltLuma};
+ghost use Rattle.vp_choose.specs.Coding.{AreSmall, HaveLuma, IsRebuiltLuma};
 ghost use Rattle.vp_choose.specs.Subblocks.{IsBestMode, AreSubblocksChosen, after_subblocks, sub_levels};
 ghost use Rattle.vp_choose.specs.Below.{AreSubblocksOver, IsPartlyRebuilt};
 
@@ -187,4 +190,18 @@ pub(crate) fn choose_subblocks(
         Some(subblocks) if subblocks.cost < limit => Some(RebuiltSubblocks { subblocks, luma }),
         _ => None,
     }
+}
+
+/// Returns the levels of luma by the subblocks of B_PRED, without a Y2 block. Chroma has none yet.
+pub(crate) fn levels_without_y2(subblocks: &Subblocks) -> [[i16; 16]; 25]
+    requires { AreSmall subblocks.now.levels }
+    ensures luma { (t : Tokens) → HaveLuma result t → HasSubblocks subblocks.now t }
+    ensures spelled { AreLevels false result }
+    ensures small { AreSmall result }
+{
+    let mut all = [[0; 16]; 25];
+    for k in 0..16 {
+        all[1 + k] = subblocks.levels[k];
+    }
+    all
 }

@@ -20,7 +20,7 @@ pub(crate) struct MacroblockInfo {
 }
 
 impl Model for MacroblockInfo {
-    ghost use Rattle.std.specs.Prelude.{◌≡◌, ◌≤◌};
+    ghost use Rattle.std.specs.Prelude.{◌≡◌};
     ghost use Rattle.vp_decode.specs.MacroblockInfo.{MacroblockInfo};
 
     ghost Value = { MacroblockInfo };

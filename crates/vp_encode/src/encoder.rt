@@ -1,7 +1,7 @@
 //! The encoder: encodes frames, one after another.
 
 ghost use Rattle.std.specs.Prelude.{◌≡◌, ◌≢◌, ◌⊎◌, ◌≤◌, ◌+◌, ◌*◌, ◌↔◌, ◌++◌, ◌∷◌, [], List, None, Ok, Err, IsErr, IfOk};
-ghost use Rattle.std.specs.Prelude.{IfErr, IfSome, IsTrue, option_map, if◌then◌else◌};
+ghost use Rattle.std.specs.Prelude.{IfErr, IfSome, IsTrue, option_map};
 ghost use Rattle.vp_base.specs.declared.limits.Limits.{Limits};
 ghost use Rattle.vp_base.specs.Image.{macroblocks};
 ghost use Rattle.vp_decode.specs.RebuiltFrame.{IsRebuiltFrame};
@@ -40,8 +40,8 @@ pub struct Encoded {
     pub squared_error: u64,
 }
 
-/// Encodes the frames of one stream, in order (RFC 6386, chapter 5). It decodes its own packets, so that its reference
-/// frames are those of any decoder.
+/// Encodes the frames of one stream, in order (RFC 6386, chapter 5). Its own decoder reads the modes of each packet and
+/// filters its rebuilt picture, so that its reference frames are those of any decoder.
 #[derive(Drop)]
 pub struct Encoder {
     alloc: Global,

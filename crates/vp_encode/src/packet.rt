@@ -128,7 +128,8 @@ fn write_first(
         key,
     };
     let mut modes = before;
-    // The vectors are written as a decoder reads them, into a map of their own: `coded` may be of any caller.
+    // Vectors are written beside those of their neighbours, as a decoder reads them: in a map of their own, since `coded`
+    // may be of any caller.
     let mut motion = VectorMap::new(alloc, dim)?;
     let mut encoder = BoolEncoder::new(alloc);
     coded.header.write(saved, &tag, &mut encoder)?;

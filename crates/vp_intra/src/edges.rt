@@ -1,7 +1,7 @@
 //! The pixels around a block (RFC 6386, chapter 12.2).
 
-ghost use Rattle.std.specs.Prelude.{◌≡◌, ℕ, ◌+◌, ◌*◌, ◌/◌, ◌<◌, ◌≤◌, length, sum};
-ghost use Rattle.vp_base.specs.Raster.{Raster, pixel};
+ghost use Rattle.std.specs.Prelude.{◌≡◌, ◌+◌, ◌*◌, ◌/◌, ◌<◌, ◌≤◌, sum};
+ghost use Rattle.vp_base.specs.Raster.{pixel};
 ghost use Rattle.vp_intra.specs.Edges.{first, above_pixel, left_pixel, corner_pixel, edge, rounded_mean};
 
 use std::simd::prelude::*;

@@ -1,17 +1,16 @@
 //! Writing the modes of a macroblock.
 
-ghost use Rattle.std.specs.Prelude.{◌≡◌, ◌<◌, ℕ, false, true, List, replicate, None, OnOk};
+ghost use Rattle.std.specs.Prelude.{◌≡◌, ◌<◌, ℕ, false, true, replicate, None, OnOk};
 ghost use Rattle.vp_base.specs.Grid.{Has};
 ghost use Rattle.vp_bool.specs.Reader.{when};
 ghost use Rattle.vp_bool.specs.Writing.{Writes};
-ghost use Rattle.vp_tree.specs.Tree.{walk_from};
 ghost use Rattle.vp_tables.specs.Modes.{is_by_subblocks};
 ghost use Rattle.vp_head.specs.Reference.{is_intra};
-ghost use Rattle.vp_modes.specs.Modes.{segment_of, skip_by, inter_reference, reference_of, luma_mode};
+ghost use Rattle.vp_modes.specs.Modes.{skip_by, inter_reference, reference_of, luma_mode};
 ghost use Rattle.vp_modes.specs.Pieces.{segment_id};
 ghost use Rattle.vp_modes.specs.Entry.{unread};
 ghost use Rattle.vp_modes.specs.Modes.{chroma_mode, sub_modes, intra_modes, modes_at};
-ghost use Rattle.vp_modes.specs.Pieces.{sub_mode, prediction};
+ghost use Rattle.vp_modes.specs.Pieces.{sub_mode};
 ghost use Rattle.vp_modes.specs.Spelled.{AreWritableModes};
 
 use crate::entry::Modes;

@@ -1,6 +1,6 @@
 //! Tests of vp_transform: worked blocks, and direct code for the formulas of RFC 6386, chapter 14.
 
-ghost use Rattle.std.specs.Prelude.{ℕ, ◌*◌, ◌^◌, ◌≤◌, unsigned_abs};
+ghost use Rattle.std.specs.Prelude.{◌*◌, ◌^◌, ◌≤◌, unsigned_abs};
 ghost use Rattle.vp_transform.specs.Fits.{EachWithin, IdctFits, IwhtFits};
 
 use crate::check::equal;

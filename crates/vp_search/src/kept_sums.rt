@@ -30,8 +30,8 @@ pub(crate) struct KeptSums {
     pub(crate) coarse: Vec<u8>,
     /// Which of the sums are made.
     pub(crate) kept: Kept,
-    /// Where the vector that was found last leads. The next one is often the same, so the next search begins there: the
-    /// less its best vector costs, the more others are excluded by their bounds.
+    /// Where the vector leads that the last search by sums or rows found. The next one is often the same, so the next
+    /// search begins there: the less its best vector costs, the more others are excluded by their bounds.
     pub(crate) begin: Spot,
     /// The macroblocks that follow without sums.
     pub(crate) unbounded: Unbounded,

@@ -14,7 +14,7 @@ use crate::window::WINDOW_WIDTH;
 
 impl<'a, 's> SearchWindow<'a, 's> {
     /// The best of a known vector and all others of the window. If it has sums, rows are searched by their bounds, or
-    /// without where these exclude little. `unbounded` says how many rows are searched without bounds at the start.
+    /// without where these exclude little; `unbounded` says how many are at the start. Without sums, all rows are.
     /// Always inlined: where there are no sums, only a small loop is left.
     #[inline(always)]
     pub(crate) fn walk_outwards(&self, known: Found, unbounded: Unbounded) -> Progress

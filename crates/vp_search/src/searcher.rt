@@ -163,8 +163,8 @@ const LEAST_WINDOW: usize = (16 + 2 * 8) * WINDOW_WIDTH;
 /// The number of pixels in the window of a search of the greatest range.
 const WHOLE_WINDOW: usize = (16 + 2 * GREATEST_RANGE) * WINDOW_WIDTH;
 
-/// Searches for the best vector that costs less than `limit` without sums, with a window of `AREA` pixels: for one
-/// macroblock, sums cost more than they save on many textures, and take too much of a small stack.
+/// Searches for the best vector that costs less than `limit` without sums, with a window of `AREA` pixels: at
+/// a small range, where sums cost more than they save, or if their memory was refused.
 #[inline(never)]
 fn search_in<const AREA: usize>(
     block: &[u8; 256],

@@ -31,7 +31,7 @@ struct Pair {
 
 impl<'a, 's> SearchWindow<'a, 's> {
     /// The best of a known vector and those of a row, one by one; with `EARLY` they are compared with the best after
-    /// four rows of pixels too. Not inlined, so that there is one copy.
+    /// four rows of pixels too. Not inlined, so that there is one copy of each.
     #[inline(never)]
     pub(crate) fn best_of_each<const EARLY: bool>(&self, best: Found, row: usize) -> Found
         requires row { row ≤ 2 * self.now.range }

@@ -24,10 +24,10 @@ pub struct QuarterVector {
     pub column: i32,
 }
 
-/// The result of a full search.
+/// A vector of whole pixels with its cost, as a search finds it.
 #[derive(Clone, Copy, Debug, PartialEq, Eq)]
 pub struct Found {
-    /// The best vector, in whole pixels.
+    /// The vector.
     pub vector: WholeVector,
     /// Its sum of absolute differences.
     pub cost: u32,

@@ -3,7 +3,7 @@
 ghost use Rattle.std.specs.Prelude.{◌≡◌, ◌≤◌, ◌<◌, ◌+◌, ◌-◌, ℕ, pos, slice_index_or, slice_set, unsigned_abs};
 ghost use Rattle.std.specs.Prelude.{IfSome, option_map};
 ghost use Rattle.vp_tokens.specs.Block.{has_token, IsTight, IsBlock};
-ghost use Rattle.vp_tokens.specs.Levels.{Probabilities, bands_of, first_of, row};
+ghost use Rattle.vp_tokens.specs.Levels.{bands_of, first_of, row};
 ghost use Rattle.vp_tokens.specs.Placed.{banded};
 ghost use Rattle.vp_tokens.specs.Zeros.{zeros};
 

@@ -1,16 +1,16 @@
 //! The blocks of a macroblock, and the token contexts of a frame.
 
-ghost use Rattle.std.specs.Prelude.{◌≡◌, ℕ, pos, Bool, true, false, ◌<◌, ◌≤◌, [], length, slice_index_or, slice_set};
+ghost use Rattle.std.specs.Prelude.{◌≡◌, ℕ, pos, Bool, false, ◌<◌, ◌≤◌, [], length, slice_index_or, slice_set};
 ghost use Rattle.std.specs.Prelude.{unsigned_abs, IfOk};
 ghost use Rattle.vp_base.specs.declared.place.Place.{Place};
-ghost use Rattle.vp_base.specs.Grid.{Grid, Has, all, with_entry};
-ghost use Rattle.vp_tokens.specs.Blocks.{Blocks, no_blocks_read, blocks_of, kind_of};
+ghost use Rattle.vp_base.specs.Grid.{all};
+ghost use Rattle.vp_tokens.specs.Blocks.{Blocks, no_blocks_read, kind_of};
 ghost use Rattle.vp_tokens.specs.Contexts.{had_of, flag_at};
 ghost use Rattle.vp_tokens.specs.Pieces.{true_count};
-ghost use Rattle.vp_tokens.specs.Blocks.{block_of, block_at, no_blocks, macroblock, any_token};
-ghost use Rattle.vp_tokens.specs.Pieces.{y2_or, all_blocks};
+ghost use Rattle.vp_tokens.specs.Blocks.{block_of, no_blocks, macroblock, any_token};
+ghost use Rattle.vp_tokens.specs.Pieces.{y2_or};
 ghost use Rattle.vp_tokens.specs.Contexts.{AreContextsAt, bottom_row_flags, right_column_flags, right};
-ghost use Rattle.vp_tokens.specs.Flagged.{by_flags, left_at, flags_after};
+ghost use Rattle.vp_tokens.specs.Flagged.{left_at, flags_after};
 ghost use Rattle.vp_tokens.specs.Spelled.{levels_of, AreLevels, AreSpelled, AreTight};
 
 use crate::block::{Block, BlockKind};

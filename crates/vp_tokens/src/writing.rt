@@ -1,6 +1,6 @@
 //! Writing the tokens of a macroblock (RFC 6386, chapter 13).
 
-ghost use Rattle.std.specs.Prelude.{◌≡◌, ◌<◌, ◌+◌, ℕ, Bool, List, true, false, length, slice_index_or, OnOk, OnErr};
+ghost use Rattle.std.specs.Prelude.{◌≡◌, ◌<◌, ◌+◌, Bool, List, true, false, length, OnOk, OnErr};
 ghost use Rattle.vp_base.specs.Grid.{Grid, Has, with_entry};
 ghost use Rattle.vp_bool.specs.Writing.{Writes};
 ghost use Rattle.vp_tokens.specs.Blocks.{Blocks, blocks_of, block_at, no_blocks, macroblock};

@@ -2,7 +2,7 @@ use Rattle.std.proofs.Common.{◌≡◌, ℕ, ◌+◌, ◌<◌, pos, length, rep
 use Rattle.vp_tokens.specs.Spelled.{levels_of}
 use Rattle.vp_choose.specs.Subblocks.{levels_in}
 use Rattle.vp_choose.specs.Coding.{AreSmall}
-use Rattle.vp_choose.proofs.levels.levels_without_y2.Given as goal
+use Rattle.vp_choose.proofs.subblocks.levels_without_y2.Given as goal
 
 abbrev pub invariant-loop-k : goal.invariant-loop-k
 invariant-loop-k l = record {
