@@ -1,7 +1,7 @@
 //! The encoder: encodes frames, one after another.
 
 ghost use Rattle.std.specs.Prelude.{◌≡◌, ◌≢◌, ◌⊎◌, ◌≤◌, ◌+◌, ◌*◌, ◌↔◌, ◌++◌, ◌∷◌, [], List, None, Ok, Err, IsErr, IfOk};
-ghost use Rattle.std.specs.Prelude.{IfErr, IfSome, IsTrue, option_map};
+ghost use Rattle.std.specs.Prelude.{IfErr, IfSome, IsTrue, option_map, if◌then◌else◌};
 ghost use Rattle.vp_base.specs.declared.limits.Limits.{Limits};
 ghost use Rattle.vp_base.specs.Image.{macroblocks};
 ghost use Rattle.vp_decode.specs.RebuiltFrame.{IsRebuiltFrame};

@@ -1,6 +1,6 @@
 //! Writing a level: its token, its extra bits and its sign.
 
-ghost use Rattle.std.specs.Prelude.{◌≡◌, ◌≤◌, unsigned_abs, IfOk, OnOk};
+ghost use Rattle.std.specs.Prelude.{◌≡◌, ◌≤◌, if◌then◌else◌, unsigned_abs, IfOk, OnOk};
 ghost use Rattle.vp_bool.specs.Reader.{give};
 ghost use Rattle.vp_bool.specs.Writing.{Continues};
 ghost use Rattle.vp_tables.specs.declared.modes.Token.TheVariants as token_is;
