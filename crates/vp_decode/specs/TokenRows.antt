@@ -1,4 +1,4 @@
--- Private to vp_decode and vp_encode: the tokens of each macroblock, stated by what is read before it
+-- Private to the crates vp_decode and vp_encode: the tokens of each macroblock, stated by what is read before it
 -- (RFC 6386, chapter 13). Lemmas show that they are the tokens of `Frame.antt`.
 use Rattle.std.specs.Prelude.{ℕ, ◌%◌, List, [], length, slice_index_or, slice_set}
 use Rattle.vp_bool.specs.Bools.{State, initial_state}

@@ -2,15 +2,15 @@
 use Rattle.std.specs.Prelude.{◌≡◌, ◌+◌, ◌*◌, ◌<◌, ℕ, zero, suc, ℤ, List, slice_index}
 use Rattle.vp_lanes.specs.Lane.{lane}
 use Rattle.vp_inter.specs.Narrow.{weight}
-use Rattle.vp_inter.specs.declared.six_tap_1d.ColumnWeights.{ColumnWeights}
+use Rattle.vp_inter.specs.declared.six_tap_1d.PairWeights.{PairWeights}
 use Rattle.vp_inter.specs.declared.short_rows.RowFilter.{RowFilter}
 
 -- sixteen lanes with two alternating weights
 abbrev pub AreByTurns : List ℤ → ℤ → ℤ → Type 0
 AreByTurns lanes even odd = (j : ℕ) → j < 8 → (lane lanes (2 * j) ≡ even) × (lane lanes (2 * j + 1) ≡ odd)
 
--- the weight vectors for rows, in pairs three apart
-abbrev pub AreFar : List ℤ → ColumnWeights → Type 0
+-- the weight vectors, in pairs three apart
+abbrev pub AreFar : List ℤ → PairWeights → Type 0
 AreFar weights far =
     AreByTurns far.first (weight weights 0) (weight weights 3)
     × AreByTurns far.second (weight weights 1) (weight weights 4)

@@ -6,8 +6,8 @@ ghost use Rattle.vp_base.specs.Block.{with_block};
 ghost use Rattle.vp_inter.specs.Inter.{inter_pixel};
 ghost use Rattle.vp_inter.specs.Vectors.{fraction};
 
+use crate::block::{predict_into8, whole_place};
 use crate::filter::taps;
-use crate::into::{predict_into8, whole_place};
 use crate::short_rows::{row_filter, rows_by_filter};
 use crate::strip::{empty_strip, filter_strip, filter_to_strip, strip_filter};
 use crate::vector::{PlaneVector, first_tap, fraction};

@@ -10,9 +10,7 @@ use crate::block::{other_rows, put_lanes};
 use crate::filter::taps;
 use crate::patch::Patch;
 use crate::reference::{Flat, lies_inside, pixels_are_bytes, plain_row};
-use crate::six_tap_1d::{
-    ColumnWeights, pair_rows, paired_column_weights, vertical_sixteen, wide_columns,
-};
+use crate::six_tap_1d::{PairWeights, pair_rows, paired_weights, vertical_sixteen, wide_columns};
 use crate::vector::{PlaneVector, first_tap, fraction};
 use std::marker::Model;
 use std::simd::prelude::*;
@@ -22,7 +20,7 @@ use vp_base::Plane;
 #[derive(Drop)]
 pub struct ColumnFilter {
     weights: &'static [i16; 6],
-    far: ColumnWeights,
+    far: PairWeights,
 }
 
 impl Model for ColumnFilter {
@@ -47,7 +45,7 @@ impl ColumnFilter {
         let weights = taps(0, eighths);
         ColumnFilter {
             weights,
-            far: paired_column_weights(weights),
+            far: paired_weights(weights),
         }
     }
 }

@@ -6,7 +6,6 @@ mod block;
 mod chroma;
 mod filter;
 mod filtered;
-mod into;
 mod madd;
 mod patch;
 mod reference;
@@ -16,9 +15,10 @@ mod six_tap_2d;
 mod strip;
 mod vector;
 
-pub use block::{predict_block4, predict_block8, predict_block16};
+pub use block::{
+    predict_block4, predict_block8, predict_block16, predict_into4, predict_into8, predict_into16,
+};
 pub use chroma::predict_into_chroma;
 pub use filtered::{ColumnFilter, FilteredRows};
-pub use into::{predict_into4, predict_into8, predict_into16};
 pub use reference::nearest;
 pub use vector::{PlaneVector, chroma_vector, luma_vector};

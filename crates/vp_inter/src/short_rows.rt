@@ -10,7 +10,7 @@ ghost use Rattle.vp_inter.specs.Turns.{AreFar, AreLanes, SelectsPairs};
 use crate::block::put_lanes;
 use crate::filter::load;
 use crate::reference::{Flat, Span, lies_inside, nearest, shuffle, span_of};
-use crate::six_tap_1d::{ColumnWeights, joined, paired_column_weights, vertical_eight};
+use crate::six_tap_1d::{PairWeights, filtered_pairs, joined, paired_weights};
 use std::simd::prelude::*;
 use vp_base::Plane;
 
@@ -24,7 +24,7 @@ pub(crate) struct RowFilter {
     first: u8x16,
     second: u8x16,
     third: u8x16,
-    pub(crate) weights: ColumnWeights,
+    pub(crate) weights: PairWeights,
 }
 
 /// Each of eight lanes from lane 0 on, and the one three after it.
@@ -67,14 +67,14 @@ pub(crate) fn row_filter(size: usize, left: i32, weights: &[i16; 6]) -> RowFilte
         first: first_pairs(places),
         second: second_pairs(places),
         third: third_pairs(places),
-        weights: paired_column_weights(weights),
+        weights: paired_weights(weights),
     }
 }
 
 /// Filters eight pixels of a row. `far` are the weights of `filter`, which the loop around this reloads from memory:
 /// with weights in registers the compiler doesn't select the multiply-add instruction.
 #[inline(always)]
-fn filtered_eight(line: &[u8], filter: &RowFilter, weights: &[i16; 6], far: &ColumnWeights) -> u8x8
+fn filtered_eight(line: &[u8], filter: &RowFilter, weights: &[i16; 6], far: &PairWeights) -> u8x8
     requires room { filter.now.start + 16 ≤ length line.now }
     requires lanes { AreLanes filter.now }
     requires gentle { SumsFitI16 weights.now }
@@ -83,7 +83,7 @@ fn filtered_eight(line: &[u8], filter: &RowFilter, weights: &[i16; 6], far: &Col
         ≡ filter_six weights.now (λ k. slice_index line.now (place (j + k))) }
 {
     let pixels = load::<16>(line, filter.start);
-    vertical_eight(
+    filtered_pairs(
         shuffle(pixels, filter.first),
         shuffle(pixels, filter.second),
         shuffle(pixels, filter.third),
@@ -162,7 +162,7 @@ pub(crate) fn filtered_row<const INSIDE: bool>(
     i: usize,
     filter: &RowFilter,
     weights: &[i16; 6],
-    far: &ColumnWeights,
+    far: &PairWeights,
 ) -> u8x8
     requires room { filter.now.start + 16 ≤ plane.now.width }
     requires some { 0 < plane.now.height }

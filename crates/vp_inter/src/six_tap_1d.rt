@@ -1,4 +1,4 @@
-//! The six-tap filter on rows of sixteen pixels (RFC 6386, chapter 18.3), by multiply-add of bytes.
+//! The six-tap filter on eight and sixteen pixels (RFC 6386, chapter 18.3), by multiply-add of bytes.
 
 ghost use Rattle.std.specs.Prelude.{◌≡◌, ℕ, pos, ◌+◌, ◌*◌, ◌/◌, ◌%◌, ◌<◌, ◌≤◌, ◌+ℤ◌, ◌-ℤ◌, length, slice_index};
 ghost use Rattle.vp_lanes.specs.Lane.{lane};
@@ -16,9 +16,10 @@ pub(crate) fn has_six_taps(weights: &[i16; 6]) -> bool {
     weights[0] > 0 && weights[5] > 0
 }
 
-/// The weights of six rows, each vector with two alternating weights: of rows 0 and 3, of 1 and 4, and of 2 and 5.
+/// The weights of six pixels, in a row or a column. Each vector has two alternating weights: of pixels 0 and 3, of 1
+/// and 4, and of 2 and 5.
 #[derive(Clone, Copy)]
-pub(crate) struct ColumnWeights {
+pub(crate) struct PairWeights {
     first: i8x16,
     second: i8x16,
     third: i8x16,
@@ -35,13 +36,13 @@ fn byte_weights(weights: &[i16; 6]) -> i8x8
     i16x8::from_array([a, b, c, d, c, d, e, f]).cast::<i8>()
 }
 
-/// The weights in alternating lanes, for rows.
-pub(crate) fn paired_column_weights(weights: &[i16; 6]) -> ColumnWeights
+/// The weights in alternating lanes, for either pass.
+pub(crate) fn paired_weights(weights: &[i16; 6]) -> PairWeights
     requires { SumsFitI16 weights.now }
     ensures { AreFar weights.now result }
 {
     let bytes = byte_weights(weights);
-    ColumnWeights {
+    PairWeights {
         first: bytes.swizzle::<16>([0, 3, 0, 3, 0, 3, 0, 3, 0, 3, 0, 3, 0, 3, 0, 3]),
         second: bytes.swizzle::<16>([1, 6, 1, 6, 1, 6, 1, 6, 1, 6, 1, 6, 1, 6, 1, 6]),
         third: bytes.swizzle::<16>([2, 7, 2, 7, 2, 7, 2, 7, 2, 7, 2, 7, 2, 7, 2, 7]),
@@ -74,8 +75,9 @@ pub(crate) fn joined(front: u8x8, back: u8x8) -> u8x16
     front.shuffle::<16>(back, [0, 1, 2, 3, 4, 5, 6, 7, 8, 9, 10, 11, 12, 13, 14, 15])
 }
 
-/// The weighted sums of six rows. Each vector interleaves two rows that are three apart.
-fn vertical_sums(a: u8x16, b: u8x16, c: u8x16, weights: &[i16; 6], far: &ColumnWeights) -> i16x8
+/// The weighted sums of six pixels each. Each vector interleaves pixels that are three apart in the direction of the
+/// pass: 0 and 3, 1 and 4, and 2 and 5.
+fn weighted_sums(a: u8x16, b: u8x16, c: u8x16, weights: &[i16; 6], far: &PairWeights) -> i16x8
     requires gentle { SumsFitI16 weights.now }
     requires turns { AreFar weights.now far.now }
     ensures { (j : ℕ) → j < 8 → lane result j ≡ sum_of_six weights.now
@@ -88,20 +90,21 @@ fn vertical_sums(a: u8x16, b: u8x16, c: u8x16, weights: &[i16; 6], far: &ColumnW
     )
 }
 
-/// Filters eight pixels vertically. Each vector interleaves two rows that are three apart.
-pub(crate) fn vertical_eight(
+/// Filters eight pixels, horizontally or vertically. Each vector interleaves pixels that are three apart in that
+/// direction.
+pub(crate) fn filtered_pairs(
     a: u8x16,
     b: u8x16,
     c: u8x16,
     weights: &[i16; 6],
-    far: &ColumnWeights,
+    far: &PairWeights,
 ) -> u8x8
     requires gentle { SumsFitI16 weights.now }
     requires turns { AreFar weights.now far.now }
     ensures { (j : ℕ) → j < 8 → slice_index result j ≡ filter_six weights.now
         (λ k. slice_index (one_of_three a b c (k % 3)) (2 * j + k / 3)) }
 {
-    rounded_pixels::<8>(vertical_sums(a, b, c, weights, far))
+    rounded_pixels::<8>(weighted_sums(a, b, c, weights, far))
 }
 
 /// Filters sixteen pixels vertically, from interleaved rows that are three apart.
@@ -109,7 +112,7 @@ pub(crate) fn vertical_sixteen(
     pairs: &[u8],
     at: usize,
     weights: &[i16; 6],
-    far: &ColumnWeights,
+    far: &PairWeights,
 ) -> u8x16
     requires room { at + 96 ≤ length pairs.now }
     requires gentle { SumsFitI16 weights.now }
@@ -117,14 +120,14 @@ pub(crate) fn vertical_sixteen(
     ensures { (j : ℕ) → j < 16 → slice_index result j ≡ filter_six weights.now
         (λ k. slice_index pairs.now (at + 32 * (k % 3) + (2 * j + k / 3))) }
 {
-    let front = vertical_eight(
+    let front = filtered_pairs(
         load(pairs, at),
         load(pairs, at + 32),
         load(pairs, at + 64),
         weights,
         far,
     );
-    let back = vertical_eight(
+    let back = filtered_pairs(
         load(pairs, at + 16),
         load(pairs, at + 48),
         load(pairs, at + 80),
@@ -155,7 +158,7 @@ pub(crate) fn wide_columns<const ROWS: usize>(
     pixels: &mut [u8],
     pairs: &[u8],
     weights: &[i16; 6],
-    far: &ColumnWeights,
+    far: &PairWeights,
 )
     requires few { ROWS ≤ 17 }
     requires room { length pairs.now ≡ 32 * ROWS + 64 }

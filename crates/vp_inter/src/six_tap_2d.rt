@@ -16,10 +16,9 @@ use crate::filter::load;
 use crate::patch::Patch;
 use crate::reference::{Flat, lies_inside};
 use crate::short_rows::{RowFilter, filtered_row, row_filter};
-use crate::six_tap_1d::{ColumnWeights, joined};
+use crate::six_tap_1d::{PairWeights, filtered_pairs, joined};
 use crate::strip::{
-    Strip, StripFilter, empty_strip, filter_to_strip, filtered_pairs, pair_of, put_halves,
-    strip_filter,
+    Strip, StripFilter, empty_strip, filter_to_strip, pair_of, put_halves, strip_filter,
 };
 use std::simd::prelude::*;
 use vp_base::Plane;
@@ -101,7 +100,7 @@ fn wide_row<const INSIDE: bool>(
     i: usize,
     filter: &WideFilter,
     weights: &[i16; 6],
-    far: &ColumnWeights,
+    far: &PairWeights,
 ) -> u8x16
     requires some { 0 < plane.now.height }
     requires near { i ≤ 21 }
@@ -189,7 +188,7 @@ fn pair_at(left: &[u8], right: &[u8], e: usize, places: u8x16) -> Pair
 
 /// Filters one row vertically, from three consecutive pairs of rows.
 #[inline(always)]
-fn vertical_row(a: &Pair, b: &Pair, c: &Pair, weights: &[i16; 6], far: &ColumnWeights) -> u8x16
+fn vertical_row(a: &Pair, b: &Pair, c: &Pair, weights: &[i16; 6], far: &PairWeights) -> u8x16
     requires gentle { SumsFitI16 weights.now }
     requires turns { AreFar weights.now far.now }
     ensures { (pixel : ℕ → ℕ → ℕ) → (r : ℕ) → IsPair a.now pixel r → IsPair b.now pixel (r + 1)
@@ -211,7 +210,7 @@ fn vertical_three_rows(
     e: usize,
     places: u8x16,
     weights: &[i16; 6],
-    far: &ColumnWeights,
+    far: &PairWeights,
 ) -> Three
     requires place { e < 5 }
     requires places { Interleave places }

@@ -1,5 +1,5 @@
-//! The horizontal pass to strips of eight columns and the vertical pass over them, by multiply-add of bytes (RFC 6386, chapter 18.3). Each row of a
-//! strip is followed by the row three below, so that one load gives both.
+//! The horizontal pass to strips of eight columns and the vertical pass over them, by multiply-add of bytes (RFC 6386,
+//! chapter 18.3). Each row of a strip is followed by the row three below, so that one load gives both.
 
 ghost use Rattle.std.specs.Prelude.{◌≡◌, ℕ, ℤ, pos, ◌+◌, ◌*◌, ◌<◌, ◌≤◌, ◌+ℤ◌, ◌<ℤ◌, ◌≤ℤ◌, ◌⊎◌, length};
 ghost use Rattle.std.specs.Prelude.{slice_index, IsTrue};
@@ -14,7 +14,7 @@ use crate::block::put_lanes;
 use crate::filter::load;
 use crate::reference::{Flat, lies_inside, shuffle};
 use crate::short_rows::{RowFilter, filtered_row, put_two};
-use crate::six_tap_1d::{ColumnWeights, joined, paired_column_weights, vertical_eight};
+use crate::six_tap_1d::{PairWeights, filtered_pairs, joined, paired_weights};
 use std::simd::prelude::*;
 use vp_base::Plane;
 
@@ -31,7 +31,7 @@ pub(crate) struct Strip {
 /// the compiler would see through constant ones, and then doesn't select the multiply-add instruction.
 #[derive(Clone, Copy)]
 pub(crate) struct StripFilter {
-    pub(crate) weights: ColumnWeights,
+    pub(crate) weights: PairWeights,
     pub(crate) places: u8x16,
 }
 
@@ -53,7 +53,7 @@ pub(crate) fn strip_filter(weights: &[i16; 6]) -> StripFilter
     ensures places { Interleave result.places }
 {
     StripFilter {
-        weights: paired_column_weights(weights),
+        weights: paired_weights(weights),
         places: u8x16::from_array([0, 8, 1, 9, 2, 10, 3, 11, 4, 12, 5, 13, 6, 14, 7, 15]),
     }
 }
@@ -70,23 +70,6 @@ pub(crate) fn pair_of(chain: &[u8], e: usize, places: u8x16) -> u8x16
     shuffle(load::<16>(chain, 8 * e), places)
 }
 
-/// Filters eight pixels vertically, from three consecutive pairs of rows.
-#[inline(always)]
-pub(crate) fn filtered_pairs(
-    a: u8x16,
-    b: u8x16,
-    c: u8x16,
-    weights: &[i16; 6],
-    far: &ColumnWeights,
-) -> u8x8
-    requires gentle { SumsFitI16 weights.now }
-    requires turns { AreFar weights.now far.now }
-    ensures { (pixel : ℕ → ℕ → ℕ) → (r : ℕ) → IsPaired a pixel r → IsPaired b pixel (r + 1) → IsPaired c pixel (r + 2)
-        → (x : ℕ) → x < 8 → slice_index result x ≡ filter_six weights.now (λ k. pixel (r + k) x) }
-{
-    vertical_eight(a, b, c, weights, far)
-}
-
 /// Filters two rows vertically, from four consecutive pairs of rows.
 #[inline(always)]
 fn filtered_two(
@@ -95,7 +78,7 @@ fn filtered_two(
     c: u8x16,
     d: u8x16,
     weights: &[i16; 6],
-    far: &ColumnWeights,
+    far: &PairWeights,
 ) -> u8x16
     requires gentle { SumsFitI16 weights.now }
     requires turns { AreFar weights.now far.now }
@@ -232,7 +215,7 @@ fn three_apart<const INSIDE: bool>(
     i: usize,
     filter: &RowFilter,
     weights: &[i16; 6],
-    far: &ColumnWeights,
+    far: &PairWeights,
 ) -> u8x16
     requires room { filter.now.start + 16 ≤ plane.now.width }
     requires some { 0 < plane.now.height }
@@ -263,7 +246,7 @@ fn put_six_rows<const INSIDE: bool>(
     e: usize,
     filter: &RowFilter,
     weights: &[i16; 6],
-    far: &ColumnWeights,
+    far: &PairWeights,
 )
     requires place { e < 3 }
     requires room { filter.now.start + 16 ≤ plane.now.width }

@@ -58,7 +58,8 @@ pub fn predict_macroblock(picture: &mut Picture, place: Place, source: &Predicto
     know_bytes(picture.plane(2));
 }
 
-/// Rebuilds the luma of a macroblock: subblock by subblock where these have intra modes of their own, else at once.
+/// Rebuilds the luma of a macroblock: subblock by subblock where these have intra modes of their own (B_PRED), else at
+/// once, the residue being added to the prediction where that lies.
 fn rebuild_luma(
     picture: &mut Picture,
     place: Place,
@@ -71,33 +72,17 @@ fn rebuild_luma(
     ensures { picture.new ≡ with_plane picture.old 0 (luma_rebuilt
         (macroblock_of (predictor_of source.now) tokens.now factors.now) place picture.old.luma) }
 {
+    let _known = [picture.plane(0).width(), picture.plane(0).height()];
     match source {
         Predictor::Intra(modes) if modes.luma.is_by_subblocks() => {
-            rebuild_subs(picture, place, modes, tokens, factors)
+            rebuild_subs(picture, place, modes, tokens, factors);
         }
-        _ => rebuild_at_once(picture, place, source, tokens, factors),
+        _ => {
+            predict_luma(picture, place, source);
+            let [x, y] = [16 * place.column, 16 * place.row];
+            add_luma(picture, x, y, source.has_y2(), tokens, factors);
+        }
     }
-}
-
-/// Rebuilds the luma of a macroblock whose subblocks have no intra modes of their own: the residue is added to the
-/// prediction where that lies.
-fn rebuild_at_once(
-    picture: &mut Picture,
-    place: Place,
-    source: &Predictor,
-    tokens: &Tokens,
-    factors: &Factors,
-)
-    requires columns { 16 * place.column + 16 ≤ picture.old.luma.width }
-    requires rows { 16 * place.row + 16 ≤ picture.old.luma.height }
-    requires whole { has_sub_modes (predictor_of source.now) ≡ false }
-    ensures { picture.new ≡ with_plane picture.old 0 (luma_rebuilt
-        (macroblock_of (predictor_of source.now) tokens.now factors.now) place picture.old.luma) }
-{
-    let _known = [picture.plane(0).width(), picture.plane(0).height()];
-    let [x, y] = [16 * place.column, 16 * place.row];
-    predict_luma(picture, place, source);
-    add_luma(picture, x, y, source.has_y2(), tokens, factors);
 }
 
 /// Rebuilds the luma of a B_PRED macroblock: its subblocks have modes of their own.

@@ -1,7 +1,7 @@
 //! The residues of a macroblock's subblocks (RFC 6386, chapter 14).
 
 ghost use Rattle.std.specs.Prelude.{◌≡◌, ℕ, ◌+◌, ◌*◌, ◌<◌, ◌≤◌, ◌^◌, ℤ, pos, ◌*ℤ◌, List, ◌∷◌, replicate};
-ghost use Rattle.std.specs.Prelude.{slice_index, slice_index_or, slice_set, unsigned_abs, Some, None, false};
+ghost use Rattle.std.specs.Prelude.{slice_index, slice_index_or, slice_set, unsigned_abs, Some, None};
 ghost use Rattle.vp_transform.specs.Fits.{EachWithin};
 ghost use Rattle.vp_transform.specs.Transform.{idct, iwht};
 ghost use Rattle.vp_quant.specs.Quant.{dequantised};
@@ -75,7 +75,7 @@ fn with_first(block: [i16; 16], first: i16) -> [i16; 16]
         .to_array()
 }
 
-/// Returns the residue of a subblock, clamped to -255..255, in 64-bit arithmetic: for coefficients of any size.
+/// Returns the residue of a subblock, clamped to -255..255, for coefficients of any size.
 fn large_residue(block: &Block, first: i64, ac: u16) -> [i16; 16]
     requires { unsigned_abs first ≤ 2 ^ 40 }
     ensures value { HasEqualSums result (idct (slice_set (dequantised block.now.levels 0 ac) 0 first)) }
@@ -144,8 +144,8 @@ pub(crate) struct Residues<'a> {
 }
 
 impl<'a> Residues<'a> {
-    /// Returns a number that is at least the greatest number of tokens of the `count` subblocks from `start` on, and 0
-    /// or 1 only if that is.
+    /// Returns the bitwise OR of the end positions of the `count` subblocks from `start` on: at least the greatest of
+    /// them, and 0 or 1 only if that is.
     #[inline(always)]
     pub(crate) fn tokens_in(&self, start: usize, count: usize) -> u8
         requires { self.now.first + start + count ≤ 25 }

@@ -5,7 +5,7 @@ use Rattle.vp_inter.specs.Narrow.{IsShort, weight}
 use Rattle.vp_inter.specs.Turns.{one_of_three}
 use Rattle.vp_inter.proofs.LongLanes.{passed, byte_kept, short_kept, sum_same}
 use Rattle.vp_inter.proofs.NarrowLemmas.{pair_same, far_fits, far_is}
-use Rattle.vp_inter.proofs.six_tap_1d.vertical_sums.Goals as goal
+use Rattle.vp_inter.proofs.six_tap_1d.weighted_sums.Goals as goal
 
 pub alternating_madd-requires-clause-turns : goal.alternating_madd-requires-clause-turns
 alternating_madd-requires-clause-turns c j h =

@@ -4,7 +4,7 @@ use Rattle.vp_base.specs.Image.{plane_of, with_plane}
 use Rattle.vp_base.proofs.BlockLemmas.{with_block_same}
 use Rattle.vp_inter.specs.Inter.{inter_pixel}
 use Rattle.vp_inter.proofs.PassLemmas.{inter_copied}
-use Rattle.vp_inter.proofs.into.copied_whole.Goals as goal
+use Rattle.vp_inter.proofs.block.copied_whole.Goals as goal
 
 pub returns-in-Some-clause-written : goal.returns-in-Some-clause-written
 returns-in-Some-clause-written g c version done =

@@ -1,6 +1,6 @@
 use Rattle.std.proofs.Common.{◌∙◌, lit<}
 use Rattle.vp_inter.proofs.LongLanes.{by_eight, taken}
-use Rattle.vp_inter.proofs.six_tap_1d.paired_column_weights.Goals as goal
+use Rattle.vp_inter.proofs.six_tap_1d.paired_weights.Goals as goal
 
 pub returns : goal.returns
 returns c =

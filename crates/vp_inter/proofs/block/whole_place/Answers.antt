@@ -4,7 +4,7 @@ use lib.IntN.{nat_abs}
 use mir.Val.{SFits}
 use Rattle.vp_inter.specs.Vectors.{first_tap}
 use Rattle.vp_inter.proofs.Sums.{same}
-use Rattle.vp_inter.proofs.into.whole_place.Goals as goal
+use Rattle.vp_inter.proofs.block.whole_place.Goals as goal
 
 abs_is : (z w : ℤ) → pos 0 ≤ℤ z → z ≡ w → pos (nat_abs z) ≡ w
 abs_is z w above e = let h : pos (nat_abs z) ≡ z = omega (arith, ints) in h ∙ e
