@@ -3,6 +3,7 @@
 Callgrind counts them. libvpx is Debian's source, built with symbols. A row of callgrind belongs to the first stage
 whose words its file or function has. What memcpy copies for output is output, as what `fwrite` copies is."""
 import collections
+import os
 import pathlib
 import re
 import subprocess
@@ -12,6 +13,9 @@ STAGES = ("tokens", "loop filter", "modes, vectors, header, row loop", "inter pr
           "residue", "memset, memcpy", "output", "else", "all")
 TOKENS, FILTER, MODES, INTER, INTRA, RESIDUE, MEMORY, OUTPUT, ELSE, ALL = STAGES
 COPIES = r"memset|memcpy|memmove"
+# The C library's code for every x86-64 processor, which no threshold and no feature of the machine changes. With others
+# callgrind counts an instruction for each byte that is cleared.
+PLAIN = "glibc.cpu.hwcaps=-AVX2,-AVX512VL,-AVX512F,-ERMS,-FSRM,-AVX_Fast_Unaligned_Load"
 # What the C library and the loader do. A copy inside `fwrite` is output too.
 COMMON = (
     (OUTPUT, r"fwrite|fileops|genops|_IO_|libioP|iofwrite|mempcpy|__write"),
@@ -42,7 +46,8 @@ OURS = (
 
 def run(words, folder):
     """Runs a command, and stops with its last words if it fails."""
-    done = subprocess.run(words, cwd=folder, capture_output=True, text=True)
+    environment = {**os.environ, "GLIBC_TUNABLES": PLAIN}
+    done = subprocess.run(words, cwd=folder, env=environment, capture_output=True, text=True)
     if done.returncode:
         raise SystemExit(f"{' '.join(map(str, words))}: {(done.stdout + done.stderr)[-600:]}")
 
