@@ -1,9 +1,9 @@
 -- Grids (RFC 6386, chapter 5): one entry for each macroblock or subblock of a frame, in raster order. Pinned by the
 -- tests `modes_by_their_neighbours` and `vectors_by_their_neighbours`.
-use Rattle.std.specs.Prelude.{ℕ, ◌+◌, ◌*◌, ◌<◌, ◌/◌, ◌%◌, nat_lt, map, Option, None, Some, List, replicate, slice_get}
+use Rattle.std.specs.Prelude.{ℕ, ◌+◌, ◌*◌, ◌<◌, ◌/◌, ◌%◌, nat_lt, map, Option, None, List, replicate, slice_get}
 use Rattle.std.specs.Prelude.{slice_set, if◌then◌else◌}
 use Rattle.std.specs.List.{range_with_len}
-use Rattle.std.specs.Option.{unwrap_or}
+use Rattle.std.specs.Option.{unwrap_or, option_map_or}
 use Rattle.vp_base.specs.declared.place.Place.{Place}
 
 -- the entries are in raster order
@@ -27,8 +27,7 @@ at outside g p = unwrap_or (entry g p) outside
 
 -- the entry at an optional place, or the default if there is none
 abbrev pub look : {A : Type 0} → A → Grid A → Option Place → A
-look outside g None = outside
-look outside g (Some p) = at outside g p
+look outside g p = option_map_or (at outside g) p outside
 
 -- the entries with the one at place p replaced by a
 unfoldable pub changed : {A : Type 0} → Grid A → Place → A → List A

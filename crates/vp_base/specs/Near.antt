@@ -3,6 +3,7 @@
 -- `vectors_by_their_neighbours`.
 use Rattle.std.specs.Prelude.{ℕ, ◌+◌, ◌*◌, ◌/◌, ◌%◌, ◌<◌, ◌≤◌, ◌==◌, ◌&&◌, Bool, Option, Some, None, List}
 use Rattle.std.specs.Prelude.{slice_index_or, if◌then◌else◌}
+use Rattle.std.specs.Option.{option_map_or}
 use Rattle.vp_base.specs.declared.place.Place.{Place}
 use Rattle.vp_base.specs.declared.near.Near.{Near}
 use Rattle.vp_base.specs.declared.near.Near.TheVariants.{Here, There, Outside}
@@ -30,15 +31,10 @@ seen_from side here (Some b) =
     if is_same (macroblock_place side b) here then Here (block_number side b) else There (macroblock_place side b)
     (block_number side b)
 
--- block k of an entry, or the default if there is no entry
-abbrev pub block_or_outside : {A B : Type 0} → (A → ℕ → B) → B → Option A → ℕ → B
-block_or_outside of outside None k = outside
-block_or_outside of outside (Some a) k = of a k
-
 -- the value of a block: from found in the same macroblock, from the grid in another one, or the default outside
 abbrev pub value : {A B : Type 0} → (A → ℕ → B) → B → Grid A → List B → Near → B
 value of outside g found (Here k) = slice_index_or found k outside
-value of outside g found (There p k) = block_or_outside of outside (entry g p) k
+value of outside g found (There p k) = option_map_or (λ a. of a k) (entry g p) outside
 value of outside g found Outside = outside
 
 -- a block in the same macroblock, or in another one that is in no later column and no later row

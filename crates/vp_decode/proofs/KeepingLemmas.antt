@@ -1,12 +1,14 @@
 -- A step that leaves the state after a fault, beside one that drops it.
+use Rattle.std.specs.Option.{ok_or}
 use Rattle.std.proofs.Common.{◌≡◌, ◌∙◌, ℕ, Bool, true, false, List, [], ◌∷◌, Some, None, Ok, Err, refl, sym, ap}
 use Rattle.std.specs.Prelude.{Option, Result, filter, if◌then◌else◌}
+use Rattle.vp_head.specs.declared.fault.PacketFault.TheVariants.{NoReference}
 use Rattle.vp_base.specs.Image.{Image}
 use Rattle.vp_base.specs.declared.limits.Limits.{Limits}
 use Rattle.vp_head.specs.declared.fault.PacketFault.{PacketFault}
 use Rattle.vp_decode.specs.declared.decoder.Outcome.TheVariants as code
 use Rattle.vp_decode.specs.Frame.{picture_of}
-use Rattle.vp_decode.specs.Step.{DecoderState, current_state, ParsedPacket, parsed, frame_of_packet, Answer, Shown, Hidden, Fault, answer, decoded, shown_again, repeated_frame, step, Decoder, after, outcome}
+use Rattle.vp_decode.specs.Step.{DecoderState, ParsedPacket, parsed, frame_of_packet, Answer, Shown, Hidden, Fault, answer, decoded, shown_again, repeated_frame, step, Decoder, after, outcome}
 use Rattle.vp_decode.specs.Keeping.{keeping, step_keeping, is_decoded, run_state, run_answers, sound_packets}
 
 -- ---- a step with a fault
@@ -34,7 +36,7 @@ drops_repeated (Ok k) f e = absurd (again_decoded k.shown f e)
 pub drops_state : (limits : Limits) (state : Option DecoderState) (packet : List ℕ) (f : PacketFault) → code.Fault f ≡ outcome (step limits state packet).1
     → step limits state packet ≡ (None, Fault f)
 unfolding step
-drops_state limits state [] f e = drops_repeated (current_state state) f e
+drops_state limits state [] f e = drops_repeated (ok_or state NoReference) f e
 drops_state limits state (b ∷ bs) f e = drops_decoded (parsed limits state (b ∷ bs)) f e
 
 abbrev without_state : Decoder → Decoder

@@ -1,4 +1,5 @@
 -- The outcome of a packet follows from its tag, and the number of its partitions from the start of its header.
+use Rattle.std.specs.Option.{ok_or}
 use Rattle.std.proofs.Common.{◌≡◌, ◌∙◌, ℕ, Bool, true, false, cond, List, length, Some, None, Ok, Err, refl, sym, ap}
 use Rattle.std.specs.Prelude.{Option, Result, is_some, ◌||◌}
 use Rattle.vp_base.specs.Image.{Image}
@@ -18,7 +19,7 @@ use Rattle.vp_decode.specs.declared.decoder.Outcome.TheVariants as code
 use Rattle.vp_decode.specs.Frame.{picture_of}
 use Rattle.vp_decode.specs.Outcomes.{OutcomeReader, has_shown, reader_at}
 use Rattle.vp_decode.specs.Passing.{tag_in, frame_outcome, repeated_outcome, was_shown, is_shown_after}
-use Rattle.vp_decode.specs.Step.{DecoderState, current_state, FrameContext, key_context, inter_context, ◌>>=◌, context_of, ParsedPacket, parsed_in_context, parsed, frame_of_packet, shown_after, Answer, answer, decoded, shown_again, repeated_frame, step, outcome}
+use Rattle.vp_decode.specs.Step.{DecoderState, FrameContext, key_context, inter_context, ◌>>=◌, context_of, ParsedPacket, parsed_in_context, parsed, frame_of_packet, shown_after, Answer, answer, decoded, shown_again, repeated_frame, step, outcome}
 use Rattle.vp_decode.proofs.CutLemmas.{opened-is}
 use Rattle.vp_decode.proofs.SizeLemmas.{step-empty, step-decoded}
 
@@ -115,11 +116,11 @@ refused (Ok o) f e = absurd cc
 
 -- ---- an empty packet
 
-pub repeated-told : (state : Option DecoderState) → repeated_outcome (has_shown state) ≡ outcome (repeated_frame (current_state state)).1
+pub repeated-told : (state : Option DecoderState) → repeated_outcome (has_shown state) ≡ outcome (repeated_frame (ok_or state NoReference)).1
 repeated-told None = refl
 repeated-told (Some k) = elim k.shown as (λ s. frame_outcome (is_some s) ≡ outcome (shown_again s)) [ None ↦ refl | Some p ↦ refl ]
 
-pub repeated-left : (state : Option DecoderState) → has_shown state ≡ has_shown (repeated_frame (current_state state)).0
+pub repeated-left : (state : Option DecoderState) → has_shown state ≡ has_shown (repeated_frame (ok_or state NoReference)).0
 repeated-left None = refl
 repeated-left (Some k) = refl
 

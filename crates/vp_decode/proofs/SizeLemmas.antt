@@ -1,6 +1,8 @@
 -- The sizes of a frame's picture and of what stands between packets.
+use Rattle.std.specs.Option.{ok_or}
 use Rattle.std.proofs.Common.{◌≡◌, ◌∙◌, ℕ, suc, ◌*◌, length, Bool, true, false, cond, List, [], ◌∷◌, Some, None, refl, sym, ap, subst, arith}
 use Rattle.std.specs.Prelude.{Option, Result, Ok, Err, IfSome, ◌||◌}
+use Rattle.vp_head.specs.declared.fault.PacketFault.TheVariants.{NoReference}
 use Rattle.vp_base.specs.declared.place.Place.{Place}
 use Rattle.vp_base.specs.declared.limits.Dim.{Dim}
 use Rattle.vp_base.specs.declared.limits.Limits.{Limits}
@@ -25,7 +27,7 @@ use Rattle.vp_decode.specs.Frame.{Frame, unfiltered, picture_of}
 use Rattle.vp_decode.specs.Equation.{IsOneSize}
 use Rattle.vp_decode.specs.RowBands.{IsShaped}
 use Rattle.vp_decode.specs.State.{IsSized, AreSized, HasConsistentSizes}
-use Rattle.vp_decode.specs.Step.{DecoderState, current_state, FrameContext, key_context, inter_context, context_of, ParsedPacket, parsed, frame_info_of, frame_of_packet, references_after, shown_after, state_after, decoded, repeated_frame, step}
+use Rattle.vp_decode.specs.Step.{DecoderState, FrameContext, key_context, inter_context, context_of, ParsedPacket, parsed, frame_info_of, frame_of_packet, references_after, shown_after, state_after, decoded, repeated_frame, step}
 use Rattle.vp_decode.proofs.CutLemmas.{opened-is}
 use Rattle.vp_decode.proofs.MapLemmas.{IsMapped, maps_read-mapped}
 
@@ -193,7 +195,7 @@ step-one_size law limits state (b ∷ bs) one =
 
 -- ---- the two cases of a step
 
-pub step-empty : (limits : Limits) (state : Option DecoderState) (packet : List ℕ) → length packet ≡ 0 → step limits state packet ≡ repeated_frame (current_state state)
+pub step-empty : (limits : Limits) (state : Option DecoderState) (packet : List ℕ) → length packet ≡ 0 → step limits state packet ≡ repeated_frame (ok_or state NoReference)
 unfolding step
 step-empty limits state [] none = refl
 step-empty limits state (b ∷ bs) none = absurd (let no : suc (length bs) ≡ 0 = none in omega arith)

@@ -1,8 +1,10 @@
 //! The context that a frame is decoded in: defaults for a key frame, the saved state for an inter frame.
 
 ghost use Rattle.std.specs.Prelude.{◌≡◌, ◌≤◌, Ok, Err, IfOk, MatchResult};
+ghost use Rattle.std.specs.Option.{ok_or};
 ghost use Rattle.vp_head.specs.Header.{header};
-ghost use Rattle.vp_decode.specs.Step.{current_state, context_of, maps_before};
+ghost use Rattle.vp_head.specs.declared.fault.PacketFault.TheVariants.{NoReference};
+ghost use Rattle.vp_decode.specs.Step.{context_of, maps_before};
 
 use crate::decoder::DecoderState;
 use crate::macroblock_info::MacroblockInfo;
@@ -57,7 +59,8 @@ impl<'a> Model for FrameContext<'a> {
 
 /// Returns the current state, or `NoReference` if there is none.
 pub(crate) fn current_state(state: &Option<DecoderState>) -> Result<&DecoderState, PacketFault>
-    ensures { MatchResult result (λ k. current_state state.now ≡ Ok k.now) (λ f. current_state state.now ≡ Err f) }
+    ensures { MatchResult result (λ k. ok_or state.now NoReference ≡ Ok k.now)
+        (λ f. ok_or state.now NoReference ≡ Err f) }
 {
     match state {
         Some(kept) => Ok(kept),

@@ -1,5 +1,6 @@
 pub mod Cuts
 pub mod Append
+mod Formerly
 pub mod Stands
 pub mod Few
 pub mod Short

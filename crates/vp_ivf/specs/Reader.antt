@@ -1,7 +1,7 @@
 -- The model of an IVF reader: its state, the bytes fed so far, and the results of its calls. Pinned by the tests
 -- `fed_byte_by_byte`, `file_cut_short` and `head_faults`.
 use Rattle.std.specs.Prelude.{ℕ, Bool, true, false, ◌≡◌, ◌≤◌, ◌+◌, List, [], ◌∷◌, ◌++◌, length, drop, Option, Some}
-use Rattle.std.specs.Prelude.{None, Result, Ok, Err}
+use Rattle.std.specs.Prelude.{None, Result, Ok, Err, nat_lt}
 use Rattle.vp_ivf.specs.declared.packet.Packet.{Packet}
 use Rattle.vp_ivf.specs.declared.packet.IvfHead.{IvfHead}
 use Rattle.vp_ivf.specs.declared.fault.FileFault.{FileFault}
@@ -87,8 +87,7 @@ with_reader_end h fault = record h { ended = ended_by fault h.ended }
 -- the file ends inside its header or a packet
 abbrev pub is_torn : Option IvfHead → List ℕ → Bool
 is_torn None rest = true
-is_torn (Some head) [] = false
-is_torn (Some head) (x ∷ xs) = true
+is_torn (Some head) rest = nat_lt 0 (length rest)
 
 -- the result of finish, by the fault of the file and whether its end is torn
 abbrev pub finish_by : Option FileFault → Bool → Result (Unit {0}) FileFault

@@ -1,3 +1,4 @@
+mod Formerly
 pub mod Shift
 pub mod FilterValueLemmas
 pub mod StillLemmas

@@ -2,6 +2,7 @@
 -- `filter_two_macroblocks`.
 use Rattle.std.specs.Prelude.{ℕ, [], ◌∷◌, ◌+◌, ◌-◌, ◌*◌, ◌/◌, ◌==◌, nat_lt, slice_index, if◌then◌else◌}
 use Rattle.std.specs.Prelude.{Option, Some, None}
+use Rattle.std.specs.Option.{option_and_then}
 use Rattle.vp_base.specs.Raster.{Raster, pixel}
 use Rattle.vp_base.specs.Block.{with_block}
 use Rattle.vp_base.specs.Image.{Image, plane_of, with_plane}
@@ -60,8 +61,7 @@ edge_limits level =
 
 -- the limits of the edges in chroma, which the simple filter does not filter
 abbrev pub chroma_limits : Option EdgeLimits → Option EdgeLimits
-chroma_limits None = None
-chroma_limits (Some limits) = elim limits.kind [ filter_is.Simple ↦ None | filter_is.Normal ↦ Some limits ]
+chroma_limits = option_and_then (λ limits. elim limits.kind [ filter_is.Simple ↦ None | filter_is.Normal ↦ Some limits ])
 
 -- the line steps of macroblock edges, and of the edges inside a macroblock
 abbrev pub outer_step : EdgeLimits → LineStep

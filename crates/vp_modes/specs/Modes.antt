@@ -1,6 +1,7 @@
 -- The mode syntax elements of a macroblock, in order (RFC 6386, chapters 10, 11, 16.1, 16.2 and 19.3). Pinned by the
 -- tests `all_ones_header` and `modes_of_a_picture`; inter frames by streams of other encoders in the gate.
 use Rattle.std.specs.Prelude.{ℕ, Bool, false, not, List, replicate, slice_set, Option, Some, None, if◌then◌else◌}
+use Rattle.std.specs.Option.{option_map_or}
 use Rattle.vp_base.specs.declared.place.Place.{Place}
 use Rattle.vp_base.specs.Grid.{Grid, at}
 use Rattle.vp_bool.specs.Bools.{read}
@@ -33,8 +34,7 @@ segment_of h kept = when h.segmentation.update_map (walk_from 0 SEGMENT_TREE h.s
 
 -- whether the macroblock has no tokens (`mb_skip_coeff`, chapter 11.1)
 abbrev pub skip_by : Option ℕ → Reader Bool
-skip_by (Some p) = read p
-skip_by None = give false
+skip_by p = option_map_or read p (give false)
 
 -- the reference frame of an inter macroblock: last (`mb_ref_frame_sel1`), golden or altref (`mb_ref_frame_sel2`, chapter
 -- 16.2)

@@ -1,3 +1,4 @@
+mod Formerly
 pub mod Parts
 pub mod SumLemmas
 pub mod PlaneLemmas

@@ -21,9 +21,7 @@ luma_moved e k = let v = slice_index_or e.vectors k zero_vector in luma_vector v
 
 -- the vectors of a square of four luma subblocks; `first` is the number of the one at the top left
 abbrev pub four_from : List Vector → ℕ → List Vector
-four_from vectors first =
-    slice_index_or vectors first zero_vector ∷ slice_index_or vectors (first + 1) zero_vector
-    ∷ slice_index_or vectors (first + 4) zero_vector ∷ slice_index_or vectors (first + 5) zero_vector ∷ []
+four_from vectors first = map (λ k. slice_index_or vectors (first + k) zero_vector) (0 ∷ 1 ∷ 4 ∷ 5 ∷ [])
 
 -- the motion vector of chroma subblock k, from those of the four luma subblocks that cover the same pixels
 unfoldable pub chroma_moved : ℕ → MacroblockMotion → ℕ → PlaneVector

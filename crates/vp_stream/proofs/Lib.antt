@@ -1,3 +1,4 @@
+mod Formerly
 pub mod KeyLemmas
 pub mod AnswerLemmas
 pub mod CursorLemmas

@@ -1,4 +1,5 @@
 -- The sizes of shown pictures: frames keep the size of the key frame before them.
+use Rattle.std.specs.Option.{ok_or}
 use Rattle.std.proofs.Common.{◌≡◌, ℕ, zero, suc, ◌+◌, ◌-◌, ◌<◌, ◌≤◌, Bool, true, false, List, [], ◌∷◌, drop, Option, Some, None, refl, sym, ap, subst, ◌∙◌, arith}
 use Rattle.std.specs.Prelude.{slice_get, Result, Ok, Err, IfOk, IfSome, IsNone, IsSome, length}
 use Rattle.std.proofs.lemmas.Option.{same_Some, none-some}
@@ -16,7 +17,7 @@ use Rattle.vp_recon.specs.Rebuilt.{row_rebuilt}
 use Rattle.vp_loop.specs.declared.strength.Level.{Level}
 use Rattle.vp_loop.specs.Filtered.{filtered, row_filtered}
 use Rattle.vp_decode.specs.Frame.{Frame, unfiltered, picture_of}
-use Rattle.vp_decode.specs.Step.{DecoderState, current_state, FrameContext, key_context, inter_context, context_of, ParsedPacket, parsed, frame_of_packet, shown_after, Answer, Shown, Hidden, Fault, answer, decoded, shown_again, repeated_frame, step}
+use Rattle.vp_decode.specs.Step.{DecoderState, FrameContext, key_context, inter_context, context_of, ParsedPacket, parsed, frame_of_packet, shown_after, Answer, Shown, Hidden, Fault, answer, decoded, shown_again, repeated_frame, step}
 use Rattle.vp_decode.proofs.SizeLemmas.{newest_is}
 use Rattle.vp_decode.proofs.CutLemmas.{opened-is}
 use Rattle.vp_stream.specs.Answers.{answers_from}

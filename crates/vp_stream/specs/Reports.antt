@@ -13,20 +13,17 @@ use Rattle.vp_stream.specs.Answers.{reading_of, answers_of}
 -- a picture is shown
 abbrev pub is_shown : Answer → Bool
 is_shown (Shown p) = true
-is_shown Hidden = false
-is_shown (Fault f) = false
+is_shown _ = false
 
 -- the packet is decoded and not shown
 abbrev pub is_hidden : Answer → Bool
-is_hidden (Shown p) = false
 is_hidden Hidden = true
-is_hidden (Fault f) = false
+is_hidden _ = false
 
 -- the number and the fault of a packet, if it has a fault
 abbrev pub fault_at : ℕ → Answer → Option (ℕ × PacketFault)
-fault_at number (Shown p) = None
-fault_at number Hidden = None
 fault_at number (Fault f) = Some (number, f)
+fault_at number _ = None
 
 -- the faulty packets; `first` is the number of the first answer
 abbrev pub faults_from : ℕ → List Answer → List (ℕ × PacketFault)

@@ -3,6 +3,7 @@
 -- `size_change_before_file_fault` and `info_of_a_stream`.
 use Rattle.std.specs.Prelude.{ℕ, Bool, false, not, ◌==◌, ◌&&◌, List, [], ◌∷◌, ◌++◌, codes, decimal, Option, Some, None}
 use Rattle.std.specs.List.{flat_map, filter_map, take_while, list_all}
+use Rattle.std.specs.Option.{option_map_or}
 use Rattle.vp_base.specs.declared.limits.Limits.{Limits}
 use Rattle.vp_base.specs.Image.{Image, i420}
 use Rattle.vp_y4m.specs.Text.{header_text, picture_text}
@@ -27,8 +28,7 @@ before_change (p ∷ ps) = p ∷ take_while (same_size p) ps
 
 -- the YUV4MPEG2 header line, from the file's head and the first picture
 abbrev pub y4m_header : Option IvfHead → Image → List ℕ
-y4m_header None p = []
-y4m_header (Some head) p = header_text p.width p.height head.rate head.scale
+y4m_header head p = option_map_or (λ h. header_text p.width p.height h.rate h.scale) head []
 
 -- pictures as I420, or as YUV4MPEG2 with a header line and a line before each picture
 abbrev pub text : Form → Option IvfHead → List Image → List ℕ

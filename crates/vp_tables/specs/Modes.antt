@@ -8,16 +8,10 @@ use Rattle.vp_tables.specs.declared.modes.VectorMode.TheVariants as vector_is
 
 -- whether each luma subblock has its own mode (B_PRED)
 abbrev pub is_by_subblocks : LumaMode → Bool
-is_by_subblocks luma_is.Dc = false
-is_by_subblocks luma_is.V = false
-is_by_subblocks luma_is.H = false
-is_by_subblocks luma_is.Tm = false
 is_by_subblocks luma_is.B = true
+is_by_subblocks _ = false
 
 -- whether the parts of the macroblock have their own vectors (SPLITMV)
 abbrev pub is_split : VectorMode → Bool
-is_split vector_is.Zero = false
-is_split vector_is.Nearest = false
-is_split vector_is.Near = false
-is_split vector_is.New = false
 is_split vector_is.Split = true
+is_split _ = false

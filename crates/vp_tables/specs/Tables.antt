@@ -74,18 +74,13 @@ least_size token_is.Category6 = slice_index CATEGORY_BASES 5
 
 -- probabilities of the extra bits that are added to it, most significant first
 unfoldable pub extra_probabilities : Token → List ℕ
-extra_probabilities token_is.EndOfBlock = []
-extra_probabilities token_is.Zero = []
-extra_probabilities token_is.One = []
-extra_probabilities token_is.Two = []
-extra_probabilities token_is.Three = []
-extra_probabilities token_is.Four = []
 extra_probabilities token_is.Category1 = CATEGORY_1
 extra_probabilities token_is.Category2 = CATEGORY_2
 extra_probabilities token_is.Category3 = CATEGORY_3
 extra_probabilities token_is.Category4 = CATEGORY_4
 extra_probabilities token_is.Category5 = CATEGORY_5
 extra_probabilities token_is.Category6 = CATEGORY_6
+extra_probabilities _ = []
 
 -- the number of times that a place occurs in a list
 abbrev pub occurrences : ℕ → List ℕ → ℕ

@@ -1,3 +1,4 @@
+mod Formerly
 pub mod PartitionLemmas
 pub mod LevelLemmas
 pub mod Around

@@ -1,4 +1,4 @@
-use Rattle.std.proofs.Common.{arith, ◌*◌, ◌∙◌, ◌≡◌, refl, sym, ap, length}
+use Rattle.std.proofs.Common.{arith, refl, ap}
 use Rattle.vp_base.proofs.RasterLemmas.{relaid_all, raster}
 use Rattle.vp_base.proofs.plane.Plane.pixels_mut.Goals as goal
 
