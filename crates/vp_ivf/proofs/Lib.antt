@@ -1,6 +1,5 @@
 pub mod Cuts
 pub mod Append
-mod Formerly
 pub mod Stands
 pub mod Few
 pub mod Short

@@ -1,4 +1,3 @@
-mod Formerly
 pub mod Shift
 pub mod FilterValueLemmas
 pub mod StillLemmas

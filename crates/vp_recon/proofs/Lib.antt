@@ -1,4 +1,3 @@
-mod Formerly
 pub mod Parts
 pub mod SumLemmas
 pub mod PlaneLemmas

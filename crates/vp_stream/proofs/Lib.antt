@@ -1,4 +1,3 @@
-mod Formerly
 pub mod KeyLemmas
 pub mod AnswerLemmas
 pub mod CursorLemmas

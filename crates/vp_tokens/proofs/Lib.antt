@@ -1,4 +1,3 @@
-mod Formerly
 pub mod PartitionLemmas
 pub mod LevelLemmas
 pub mod Around
