@@ -15,6 +15,7 @@ use Rattle.vp_choose.specs.Intra.{LumaChoice}
 use Rattle.vp_choose.specs.Inter.{IsInter, moved_source}
 use Rattle.vp_choose.specs.Choice.{IsChoice, IsIntraChoice, IsTaken}
 use Rattle.vp_choose.specs.Searched.{IsSearched}
+use Rattle.vp_choose.proofs.BlockLevels.{are_spelled, none_written}
 use Rattle.vp_choose.specs.Coding.{AreWritable, Completes, HasLevels, HasPrediction, IsCodedBy, IsCoding}
 
 by_reference : (o : Option Search) (c : Choice) → is_intra c.modes.reference ≡ true → source_by o c ≡ Intra c.modes
@@ -59,14 +60,14 @@ module _ (frame : FrameSearch) (p : Image) (g : Grid MacroblockMotion) (place : 
         (λ c inter. subst (λ (o : Option Search). IsTaken o frame p g place l c) (sym some) (record { moved = x; is = known.is; inter = λ _. inter; intra = λ less. absurd (omega arith) }))
 
   pub is_choice : (c : Choice) → IsCoding frame p g place coding → Completes coding c → HasLevels frame.source (source_by frame.search c) frame.factors place p coding c.tokens
-      → AreWritable (has_y2 (source_by frame.search c)) c.tokens → IsChoice frame p g place c
+      → AreWritable (has_y2 (source_by frame.search c)) c.tokens.blocks → IsChoice frame p g place c
   is_choice c h is levels writable = record {
     luma = h.luma;
     best = h.best;
     taken = h.coded.completed c is levels;
     segment = ap (λ (a : Modes). a.segment) is.modes ∙ h.coded.segment;
     skip = ap (λ (a : Modes). a.skip) is.modes;
-    none = writable.none;
-    tight = writable.tight;
-    spelled = writable.spelled;
+    none = none_written (has_y2 (source_by frame.search c)) c.tokens writable;
+    tight = λ k. (writable.ended k).tight;
+    spelled = are_spelled (has_y2 (source_by frame.search c)) c.tokens.blocks writable;
   }

@@ -9,3 +9,4 @@ pub mod Found
 pub mod Chosen
 pub mod OneMotion
 pub mod OneChoice
+pub mod Formerly

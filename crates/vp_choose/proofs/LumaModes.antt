@@ -24,7 +24,7 @@ use Rattle.vp_recon.proofs.LumaLemmas.{whole_prediction, subs_alone}
 use Rattle.vp_search.specs.FirstLeast.{IsFirstLeast}
 use Rattle.vp_search.proofs.RefinedLemmas.{first_same}
 use Rattle.vp_choose.specs.declared.subblocks.Subblocks.{Subblocks}
-use Rattle.vp_choose.specs.declared.luma.WholeLuma.{WholeLuma}
+use Rattle.vp_choose.specs.declared.luma.IntraLuma.{IntraLuma}
 use Rattle.vp_choose.specs.Costs.{luma_mode_cost}
 use Rattle.vp_choose.specs.Subblocks.{AreSubblocksChosen, sub_rebuilt}
 use Rattle.vp_choose.specs.Intra.{IsLuma, HasSubblocks, luma_at, luma_cost}
@@ -46,7 +46,7 @@ module _ (f : ℕ → ℕ → ℕ) (factors : Factors) (place : Place) (p : Rast
   first_of_four b n = first_same 4 (λ k. luma_mode_cost f p place (luma_at k)) (λ k. luma_cost f p place b (luma_at k)) n (λ k below. sym (four_costs f p place b k below))
 
   -- B_PRED costs no less
-  whole_is : (w : WholeLuma) (s : Subblocks) → IsWholeLuma f place p w → AreSubblocksChosen f factors place p s → w.cost ≤ s.cost + 128
+  whole_is : (w : IntraLuma) (s : Subblocks) → IsWholeLuma f place p w → AreSubblocksChosen f factors place p s → w.cost ≤ s.cost + 128
       → IsLuma f factors place p (record { mode = w.mode; subblocks = s; cost = w.cost })
   whole_is w s h chosen most =
       let same = four_costs f p place s.cost h.number h.first.within in
@@ -59,7 +59,7 @@ module _ (f : ℕ → ℕ → ℕ) (factors : Factors) (place : Place) (p : Rast
       }
 
   -- B_PRED costs less
-  subblocks_are : (w : WholeLuma) (s : Subblocks) → IsWholeLuma f place p w → AreSubblocksChosen f factors place p s → s.cost + 128 < w.cost
+  subblocks_are : (w : IntraLuma) (s : Subblocks) → IsWholeLuma f place p w → AreSubblocksChosen f factors place p s → s.cost + 128 < w.cost
       → IsLuma f factors place p (record { mode = luma_is.B; subblocks = s; cost = s.cost + 128 })
   subblocks_are w s h chosen less =
       let same = four_costs f p place s.cost h.number h.first.within in
@@ -72,19 +72,19 @@ module _ (f : ℕ → ℕ → ℕ) (factors : Factors) (place : Place) (p : Rast
       }
 
   -- the luma by the mode other than B_PRED
-  pub whole_intra : (w : WholeLuma) (most : ℕ) → IsWholeLuma f place p w → is_by_subblocks w.mode ≡ false → w.cost ≤ most + 128 → AreSubblocksOver f factors place p most
-      → IsIntraLuma f factors place p (record { mode = w.mode; prediction = w.prediction; subblocks = None; cost = w.cost })
+  pub whole_intra : (w : IntraLuma) (most : ℕ) → IsWholeLuma f place p w → is_by_subblocks w.mode ≡ false → w.cost ≤ most + 128 → AreSubblocksOver f factors place p most
+      → IsIntraLuma f factors place p w
   whole_intra w most h whole enough s =
       let over = s.over in
-      record { choice = _; best = whole_is w s.subblocks h s.chosen (omega arith); is = record { mode = refl; subblocks = rw whole refl; cost = refl } }
+      record { choice = _; best = whole_is w s.subblocks h s.chosen (omega arith); is = record { mode = refl; subblocks = rw whole h.subblocks; cost = refl } }
 
   -- .. by B_PRED
-  pub subblocks_intra : (w : WholeLuma) (s : Subblocks) (pixels : List ℕ) → IsWholeLuma f place p w → AreSubblocksChosen f factors place p s → s.cost + 128 < w.cost
+  pub subblocks_intra : (w : IntraLuma) (s : Subblocks) (pixels : List ℕ) → IsWholeLuma f place p w → AreSubblocksChosen f factors place p s → s.cost + 128 < w.cost
       → IsIntraLuma f factors place p (record { mode = luma_is.B; prediction = pixels; subblocks = Some s; cost = s.cost + 128 })
   subblocks_intra w s pixels h chosen less = record { choice = _; best = subblocks_are w s h chosen less; is = record { mode = refl; subblocks = refl; cost = refl } }
 
   -- both cost too much
-  pub luma_over : (w : WholeLuma) (limit most : ℕ) → IsWholeLuma f place p w → limit ≤ w.cost → limit ≤ most + 128 → AreSubblocksOver f factors place p most
+  pub luma_over : (w : IntraLuma) (limit most : ℕ) → IsWholeLuma f place p w → limit ≤ w.cost → limit ≤ most + 128 → AreSubblocksOver f factors place p most
       → IsLumaOver f factors place p limit
   luma_over w limit most h enough behind s =
       let over = s.over in
@@ -97,8 +97,8 @@ module _ (f : ℕ → ℕ → ℕ) (factors : Factors) (place : Place) (p : Rast
   pub free_luma : (limit : ℕ) → limit ≡ 0 → IsLumaOver f factors place p limit
   free_luma limit free =
       let best : HasFirst 4 (λ k. luma_mode_cost f p place (luma_at k)) = has_first 3 (λ k. luma_mode_cost f p place (luma_at k)) in
-      let w : WholeLuma = record { mode = luma_at best.number; prediction = []; cost = luma_mode_cost f p place (luma_at best.number) } in
-      luma_over w limit 0 (record { number = best.number; first = best.is; mode = refl; cost = refl }) (omega arith) (omega arith) (free_subblocks f factors place p 0 refl)
+      let w : IntraLuma = record { mode = luma_at best.number; prediction = []; subblocks = None; cost = luma_mode_cost f p place (luma_at best.number) } in
+      luma_over w limit 0 (record { number = best.number; first = best.is; mode = refl; cost = refl; subblocks = refl }) (omega arith) (omega arith) (free_subblocks f factors place p 0 refl)
 
 pub ruleset luma_choices = (free_luma, luma_over, whole_intra, subblocks_intra)
 

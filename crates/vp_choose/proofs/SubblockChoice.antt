@@ -1,5 +1,5 @@
 -- The choice of the subblocks, one after another. One that is left because it costs too much could be completed.
-use Rattle.std.proofs.Common.{◌≡◌, ◌∙◌, ℕ, ℤ, zero, suc, ◌+◌, ◌-◌, ◌<◌, ◌≤◌, List, [], length, replicate, set, length-set, refl, sym, subst, arith, inl, inr, below_more}
+use Rattle.std.proofs.Common.{◌≡◌, ◌∙◌, ℕ, zero, suc, ◌+◌, ◌-◌, ◌<◌, ◌≤◌, List, length, replicate, set, length-set, refl, sym, ap, subst, arith, inl, inr, below_more}
 use Rattle.std.proofs.lemmas.Bool.{cases_lt}
 use Rattle.std.proofs.lemmas.List.{get_or-set_same, get_or-set_other}
 use Rattle.vp_base.specs.declared.place.Place.{Place}
@@ -8,6 +8,7 @@ use Rattle.vp_base.specs.Near.{block_place}
 use Rattle.vp_base.proofs.OverLemmas.{over-more, over-same}
 use Rattle.vp_tables.specs.declared.modes.SubMode.{SubMode}
 use Rattle.vp_tables.specs.declared.modes.SubMode.TheVariants.{Dc}
+use Rattle.vp_tokens.specs.Block.{Block, no_tokens}
 use Rattle.vp_quant.specs.declared.factors.Factors.{Factors}
 use Rattle.vp_recon.specs.Residue.{residue}
 use Rattle.vp_recon.specs.Rebuilt.{with_sub}
@@ -21,8 +22,8 @@ use Rattle.vp_choose.specs.Subblocks.{IsBestMode, sub_levels, mode_at, mode_of, 
 use Rattle.vp_choose.specs.Below.{AreSubblocksOver}
 
 -- what is chosen so far, but for its cost
-abbrev pub made : List SubMode → List (List ℤ) → Subblocks
-made modes levels = record { modes = modes; levels = levels; cost = 0 }
+abbrev pub made : List SubMode → List Block → Subblocks
+made modes blocks = record { modes = modes; blocks = blocks; cost = 0 }
 
 -- the first n subblocks have the same modes and levels
 pub record AreAlike (n : ℕ) (s t : Subblocks) : Type 0 where
@@ -58,41 +59,43 @@ module _ (f : ℕ → ℕ → ℕ) (factors : Factors) (place : Place) (p : Rast
       record { mode = rw (after, h.modes k below) is.mode; levels = rw (h.levels k below, after, h.modes k below) is.levels }
 
 -- subblock k is put
-module _ (factors : Factors) (place : Place) (p : Raster) (modes : List SubMode) (levels : List (List ℤ)) (k : ℕ) (mode : SubMode) (own : List ℤ)
-    (m : k < length modes) (l : k < length levels) where
+module _ (factors : Factors) (place : Place) (p : Raster) (modes : List SubMode) (blocks : List Block) (k : ℕ) (mode : SubMode) (own : Block)
+    (m : k < length modes) (l : 1 + k < length blocks) where
   abbrev old : Subblocks
-  old = made modes levels
+  old = made modes blocks
 
   abbrev new : Subblocks
-  new = made (set modes k mode) (set levels k own)
+  new = made (set modes k mode) (set blocks (1 + k) own)
 
   others : AreAlike k new old
   others = record {
     modes = λ j below. get_or-set_other modes k j mode Dc (omega arith);
-    levels = λ j below. get_or-set_other levels k j own [] (omega arith);
+    levels = λ j below. ap (λ (b : Block). b.levels) (get_or-set_other blocks (1 + k) (1 + j) own no_tokens (omega arith));
   }
 
   after_others : after_subblocks factors place p new k ≡ after_subblocks factors place p old k
   after_others = after_alike factors place p new old k k (let e : k ≤ k = omega arith in e) others
 
+  own_levels : levels_in new k ≡ own.levels
+  own_levels = ap (λ (b : Block). b.levels) (get_or-set_same blocks (1 + k) own no_tokens l)
+
   pub after_new : after_subblocks factors place p new (k + 1)
-      ≡ with_sub (after_subblocks factors place p old k) (block_place 4 place k) mode (residue own factors.y_dc factors.y_ac)
-  after_new = over-more k (sub_rebuilt factors place new) p ∙ rw (after_others, get_or-set_same modes k mode Dc m, get_or-set_same levels k own [] l)
+      ≡ with_sub (after_subblocks factors place p old k) (block_place 4 place k) mode (residue own.levels factors.y_dc factors.y_ac)
+  after_new = over-more k (sub_rebuilt factors place new) p ∙ rw (after_others, get_or-set_same modes k mode Dc m, own_levels)
 
   pub one_more : (f : ℕ → ℕ → ℕ) (cost d : ℕ) → AreFirstChosen f factors place p k cost old
       → IsBestMode (part 4 f k) (after_subblocks factors place p old k) (block_place 4 place k) mode
-      → own ≡ sub_levels (part 4 f k) (after_subblocks factors place p old k) (block_place 4 place k) mode factors
+      → own.levels ≡ sub_levels (part 4 f k) (after_subblocks factors place p old k) (block_place 4 place k) mode factors
       → d ≡ sub_cost (part 4 f k) (after_subblocks factors place p old k) (block_place 4 place k) mode
       → AreFirstChosen f factors place p (k + 1) (cost + d) new
   one_more f cost d h best has is =
       let mode_here = get_or-set_same modes k mode Dc m in
-      let levels_here = get_or-set_same levels k own [] l in
       let same = sum_below-same k (cost_at f factors place p new) (cost_at f factors place p old) (λ j below. cost_alike f factors place p new old k j below others) in
       let here : cost_at f factors place p new k ≡ d = rw (after_others, mode_here) (sym is) in
       let more = sum_below-more k (cost_at f factors place p new) in
       record {
         each = below_more (IsOne f factors place p new) k (λ j below. one_alike f factors place p new old k j below others (h.each j below))
-            (record { mode = rw (after_others, mode_here) best; levels = rw (levels_here, after_others, mode_here) has });
+            (record { mode = rw (after_others, mode_here) best; levels = own_levels ∙ rw (after_others, mode_here) has });
         sum = let before = h.sum in omega arith;
       }
 
@@ -129,34 +132,34 @@ has_first (suc n) f =
 
 module _ (f : ℕ → ℕ → ℕ) (factors : Factors) (place : Place) (p : Raster) where
   -- the other n are chosen
-  completed : (n k cost : ℕ) (modes : List SubMode) (levels : List (List ℤ)) → k + n ≡ 16 → length modes ≡ 16 → length levels ≡ 16
-      → AreFirstChosen f factors place p k cost (made modes levels) → AreSubblocksOver f factors place p cost
-  completed zero k cost modes levels e m l h =
-      let all : AreFirstChosen f factors place p 16 cost (made modes levels) =
-      subst (λ (i : ℕ). AreFirstChosen f factors place p i cost (made modes levels)) (let e : k ≡ 16 = omega arith in e) h in
+  completed : (n k cost : ℕ) (modes : List SubMode) (blocks : List Block) → k + n ≡ 16 → length modes ≡ 16 → length blocks ≡ 25
+      → AreFirstChosen f factors place p k cost (made modes blocks) → AreSubblocksOver f factors place p cost
+  completed zero k cost modes blocks e m l h =
+      let all : AreFirstChosen f factors place p 16 cost (made modes blocks) =
+      subst (λ (i : ℕ). AreFirstChosen f factors place p i cost (made modes blocks)) (let e : k ≡ 16 = omega arith in e) h in
       record {
-        subblocks = record { modes = modes; levels = levels; cost = cost };
+        subblocks = record { modes = modes; blocks = blocks; cost = cost };
         chosen = record { modes = λ j below. (all.each j below).mode; levels = λ j below. (all.each j below).levels; cost = all.sum };
         over = omega arith;
       }
-  completed (suc n) k cost modes levels e m l h =
-      let q : Raster = after_subblocks factors place p (made modes levels) k in
+  completed (suc n) k cost modes blocks e m l h =
+      let q : Raster = after_subblocks factors place p (made modes blocks) k in
       let here : Place = block_place 4 place k in
       let best : HasFirst 10 (λ i. sub_cost (part 4 f k) q here (mode_at i)) = has_first 9 (λ i. sub_cost (part 4 f k) q here (mode_at i)) in
       let mode : SubMode = mode_at best.number in
-      let own : List ℤ = sub_levels (part 4 f k) q here mode factors in
+      let own : Block = record { levels = sub_levels (part 4 f k) q here mode factors; tokens = 0 } in
       let d : ℕ = sub_cost (part 4 f k) q here mode in
       let rest : AreSubblocksOver f factors place p (cost + d) =
-      completed n (k + 1) (cost + d) (set modes k mode) (set levels k own) (omega arith) (length-set modes k mode ∙ m) (length-set levels k own ∙ l)
-      (one_more factors place p modes levels k mode own (omega arith) (omega arith) f cost d h (record { number = best.number; first = best.is; is = refl }) refl refl) in
+      completed n (k + 1) (cost + d) (set modes k mode) (set blocks (1 + k) own) (omega arith) (length-set modes k mode ∙ m) (length-set blocks (1 + k) own ∙ l)
+      (one_more factors place p modes blocks k mode own (omega arith) (omega arith) f cost d h (record { number = best.number; first = best.is; is = refl }) refl refl) in
       let over = rest.over in
       record { subblocks = rest.subblocks; chosen = rest.chosen; over = omega arith }
 
   -- the first k cost too much
-  pub left : (limit k cost : ℕ) (modes : List SubMode) (levels : List (List ℤ)) → k ≤ 16 → limit ≤ cost → length modes ≡ 16 → length levels ≡ 16
-      → AreFirstChosen f factors place p k cost (made modes levels) → AreSubblocksOver f factors place p limit
-  left limit k cost modes levels most enough m l h =
-      let all = completed (16 - k) k cost modes levels (omega arith) m l h in
+  pub left : (limit k cost : ℕ) (modes : List SubMode) (blocks : List Block) → k ≤ 16 → limit ≤ cost → length modes ≡ 16 → length blocks ≡ 25
+      → AreFirstChosen f factors place p k cost (made modes blocks) → AreSubblocksOver f factors place p limit
+  left limit k cost modes blocks most enough m l h =
+      let all = completed (16 - k) k cost modes blocks (omega arith) m l h in
       let over = all.over in
       record { subblocks = all.subblocks; chosen = all.chosen; over = omega arith }
 
@@ -167,4 +170,4 @@ module _ (f : ℕ → ℕ → ℕ) (factors : Factors) (place : Place) (p : Rast
   -- no choice costs less than nothing
   pub free_subblocks : (limit : ℕ) → limit ≡ 0 → AreSubblocksOver f factors place p limit
   free_subblocks limit free =
-      left limit 0 0 (replicate 16 Dc) (replicate 16 []) (omega arith) (omega arith) refl refl (none_chosen (made (replicate 16 Dc) (replicate 16 [])))
+      left limit 0 0 (replicate 16 Dc) (replicate 25 no_tokens) (omega arith) (omega arith) refl refl (none_chosen (made (replicate 16 Dc) (replicate 25 no_tokens)))

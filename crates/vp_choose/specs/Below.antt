@@ -1,12 +1,12 @@
 -- Private to the crate: intra choices that are left because they cost too much.
-use Rattle.std.specs.Prelude.{◌≡◌, ℕ, ◌≤◌}
+use Rattle.std.specs.Prelude.{◌≡◌, ℕ, ◌≤◌, None}
 use Rattle.vp_base.specs.declared.place.Place.{Place}
 use Rattle.vp_base.specs.Raster.{Raster}
 use Rattle.vp_base.specs.Image.{Image, with_plane}
 use Rattle.vp_search.specs.FirstLeast.{IsFirstLeast}
 use Rattle.vp_quant.specs.declared.factors.Factors.{Factors}
 use Rattle.vp_choose.specs.declared.subblocks.Subblocks.{Subblocks}
-use Rattle.vp_choose.specs.declared.luma.WholeLuma.{WholeLuma}
+use Rattle.vp_choose.specs.declared.luma.IntraLuma.{IntraLuma}
 use Rattle.vp_choose.specs.Subblocks.{AreSubblocksChosen, after_subblocks}
 use Rattle.vp_choose.specs.Costs.{luma_mode_cost}
 use Rattle.vp_choose.specs.Intra.{LumaChoice, IsLuma, luma_at}
@@ -18,11 +18,12 @@ pub record AreSubblocksOver (f : ℕ → ℕ → ℕ) (factors : Factors) (place
   pub over : limit ≤ subblocks.cost
 
 -- the first luma mode other than B_PRED of the least cost
-pub record IsWholeLuma (f : ℕ → ℕ → ℕ) (place : Place) (p : Raster) (w : WholeLuma) : Type 0 where
+pub record IsWholeLuma (f : ℕ → ℕ → ℕ) (place : Place) (p : Raster) (w : IntraLuma) : Type 0 where
   pub number : ℕ
   pub first : IsFirstLeast 4 (λ i. luma_mode_cost f p place (luma_at i)) number
   pub mode : w.mode ≡ luma_at number
   pub cost : w.cost ≡ luma_mode_cost f p place (luma_at number)
+  pub subblocks : w.subblocks ≡ None
 
 -- the choice of the luma mode costs at least a limit
 pub record IsLumaOver (f : ℕ → ℕ → ℕ) (factors : Factors) (place : Place) (p : Raster) (limit : ℕ) : Type 0 where

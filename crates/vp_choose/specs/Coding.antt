@@ -1,6 +1,6 @@
 -- Private to the crate: how a macroblock is coded and predicted, and the choice that its levels complete.
-use Rattle.std.specs.Prelude.{◌≡◌, ℕ, ◌+◌, ◌*◌, ◌<◌, ◌≤◌, ℤ, pos, Bool, true, false, not, List, [], replicate}
-use Rattle.std.specs.Prelude.{is_some, IfSome, slice_index, slice_index_or, unsigned_abs}
+use Rattle.std.specs.Prelude.{◌≡◌, ℕ, ◌+◌, ◌*◌, ◌<◌, pos, Bool, true, false, not, List, length, replicate}
+use Rattle.std.specs.Prelude.{is_some, IfSome, slice_index, slice_index_or}
 use Rattle.std.specs.Bool.{then_some}
 use Rattle.vp_base.specs.declared.place.Place.{Place}
 use Rattle.vp_base.specs.Grid.{Grid}
@@ -14,8 +14,8 @@ use Rattle.vp_motion.specs.Vector.{MacroblockMotion, IsWithin, last_of, zero_vec
 use Rattle.vp_motion.specs.Near.{candidates}
 use Rattle.vp_motion.specs.Spelled.{CanBeWritten}
 use Rattle.vp_tokens.specs.declared.contexts.Tokens.{Tokens}
-use Rattle.vp_tokens.specs.Blocks.{block_of as tokens_of, any_token, no_blocks}
-use Rattle.vp_tokens.specs.Spelled.{AreSpelled, AreTight, levels_of}
+use Rattle.vp_tokens.specs.Block.{Block, IsBlock, IsTight, level_of, no_tokens}
+use Rattle.vp_tokens.specs.Blocks.{block_of as tokens_of, any_token}
 use Rattle.vp_quant.specs.declared.factors.Factors.{Factors}
 use Rattle.vp_intra.specs.Edges.{block as listed}
 use Rattle.vp_intra.specs.Whole.{luma_pixel}
@@ -42,20 +42,25 @@ pub record AreCut (source : Image) (place : Place) (b : MacroblockPixels) : Type
 
 -- ---- blocks
 
--- all levels are from -2047 to 2047
-abbrev pub AreSmall : List (List ℤ) → Type 0
-AreSmall all = (k i : ℕ) → unsigned_abs (slice_index_or (slice_index_or all k []) i (pos 0)) ≤ 2047
+-- a block that ends after its last nonzero level
+pub record IsEnded (b : Block) : Type 0 where
+  pub tight : IsTight b
+  pub good : IsBlock b
 
--- the blocks of Y2 and luma have these levels
-abbrev pub HaveLuma : List (List ℤ) → Tokens → Type 0
-HaveLuma all t = (k : ℕ) → k < 17 → (tokens_of t k).levels ≡ levels_of all k
+-- each block ends so
+abbrev pub AreEnded : List Block → Type 0
+AreEnded blocks = (k : ℕ) → IsEnded (slice_index_or blocks k no_tokens)
 
--- The blocks can be written as they are. Each ends after its last nonzero level, all are empty if there is no token,
--- and all levels can be coded as tokens.
-pub record AreWritable (with_y2 : Bool) (t : Tokens) : Type 0 where
-  pub tight : AreTight t.blocks
-  pub none : any_token t ≡ false → t.blocks ≡ no_blocks
-  pub spelled : AreSpelled with_y2 t.blocks
+-- the blocks of Y2 and luma are these
+abbrev pub HaveLuma : List Block → Tokens → Type 0
+HaveLuma blocks t = (k : ℕ) → k < 17 → tokens_of t k ≡ slice_index_or blocks k no_tokens
+
+-- The blocks of a macroblock can be written as they are. Luma has no DC levels if there is a Y2 block.
+pub record AreWritable (with_y2 : Bool) (blocks : List Block) : Type 0 where
+  pub number : length blocks ≡ 25
+  pub ended : AreEnded blocks
+  pub no_dc : with_y2 ≡ true → (k : ℕ) → k < 16 → level_of (slice_index_or blocks (1 + k) no_tokens) 0 ≡ pos 0
+  pub no_y2 : with_y2 ≡ false → slice_index_or blocks 0 no_tokens ≡ no_tokens
 
 -- ---- a macroblock
 
@@ -64,7 +69,7 @@ pub record IsRebuiltLuma (factors : Factors) (place : Place) (p : Raster) (s : S
     : Type 0 where
   pub is : with_block p (16 * place.column) (16 * place.row) 16 16 (λ r c. slice_index pixels (r * 16 + c))
       ≡ after_subblocks factors place p s 16
-  pub small : AreSmall s.levels
+  pub writable : AreWritable false s.blocks
 
 -- the luma's prediction by its mode
 pub record IsPredictedLuma (factors : Factors) (place : Place) (p : Raster) (l : IntraLuma) : Type 0 where
@@ -136,5 +141,5 @@ pub record IsCoding (frame : FrameSearch) (p : Image) (g : Grid MacroblockMotion
   pub best : IsLuma (block_pixels 16 frame.source.luma place) frame.factors place p.luma luma
   pub coded : IsCodedBy frame.source frame.factors place p (source_by frame.search)
       (IsTaken frame.search frame p g place luma) coding
-  pub small : IfSome coding.subblocks (λ s. AreSmall s.levels)
+  pub writable : IfSome coding.subblocks (λ s. AreWritable false s.blocks)
   pub motion : IsShortMotion g place coding

@@ -1,12 +1,13 @@
 -- The choice of the subblock modes of B_PRED, in raster order; each is predicted from the subblocks rebuilt before it.
 -- RFC 6386 leaves it open.
-use Rattle.std.specs.Prelude.{◌≡◌, ℕ, ◌*◌, ◌<◌, ℤ, List, [], ◌∷◌, slice_index_or}
+use Rattle.std.specs.Prelude.{◌≡◌, ℕ, ◌+◌, ◌*◌, ◌<◌, ℤ, List, [], ◌∷◌, slice_index_or}
 use Rattle.vp_base.specs.declared.place.Place.{Place}
 use Rattle.vp_base.specs.Raster.{Raster}
 use Rattle.vp_base.specs.Near.{block_place}
 use Rattle.vp_base.specs.Over.{over}
 use Rattle.vp_tables.specs.declared.modes.SubMode.{SubMode}
 use Rattle.vp_tables.specs.declared.modes.SubMode.TheVariants.{Dc, Tm, Ve, He, Ld, Rd, Vr, Vl, Hd, Hu}
+use Rattle.vp_tokens.specs.Block.{no_tokens}
 use Rattle.vp_intra.specs.Sub.{sub_pixel}
 use Rattle.vp_quant.specs.declared.factors.Factors.{Factors}
 use Rattle.vp_recon.specs.Residue.{residue}
@@ -42,7 +43,7 @@ mode_of s k = slice_index_or s.modes k Dc
 
 -- the levels of subblock k
 abbrev pub levels_in : Subblocks → ℕ → List ℤ
-levels_in s k = slice_index_or s.levels k []
+levels_in s k = (slice_index_or s.blocks (1 + k) no_tokens).levels
 
 -- p with subblock k of the macroblock at a place rebuilt
 abbrev pub sub_rebuilt : Factors → Place → Subblocks → ℕ → Raster → Raster

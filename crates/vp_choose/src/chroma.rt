@@ -60,14 +60,13 @@ pub(crate) fn choose_chroma(
     ensures v { result.v ≡ listed 8 (chroma_pixel result.mode picture.now.v (8 * place.column) (8 * place.row)) }
 {
     let dc = predicted(blocks, picture, place, ChromaMode::Dc);
-    let vertical = predicted(blocks, picture, place, ChromaMode::V);
-    let horizontal = predicted(blocks, picture, place, ChromaMode::H);
-    let true_motion = predicted(blocks, picture, place, ChromaMode::Tm);
-    let costs = [dc.cost, vertical.cost, horizontal.cost, true_motion.cost];
-    match first_least(&costs) {
+    let v = predicted(blocks, picture, place, ChromaMode::V);
+    let h = predicted(blocks, picture, place, ChromaMode::H);
+    let tm = predicted(blocks, picture, place, ChromaMode::Tm);
+    match first_least(&[dc.cost, v.cost, h.cost, tm.cost]) {
         0 => dc,
-        1 => vertical,
-        2 => horizontal,
-        _ => true_motion,
+        1 => v,
+        2 => h,
+        _ => tm,
     }
 }

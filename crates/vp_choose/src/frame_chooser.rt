@@ -19,7 +19,7 @@ ghost use Rattle.vp_choose.specs.Frame.{lent_frame, source_by, no_biases};
 ghost use Rattle.vp_choose.specs.Choice.{IsChoice};
 
 use crate::frame::{Choice, FrameSearch};
-use crate::macroblock::coding_of;
+use crate::macroblock::choose_coding;
 use crate::motion::find_motion;
 use crate::searchers::{Searchers, searchers_of};
 use std::alloc::Global;
@@ -103,7 +103,7 @@ impl<'a> FrameChooser<'a> {
         let _known = [self.frame.source.dim(), picture.dim()];
         let blocks = cut_blocks(self.frame.source, place);
         let moved = find_motion(&mut self.searchers, &self.frame, &blocks.luma, place);
-        let coding = coding_of(&self.frame, &blocks, picture, vectors, place, moved);
+        let coding = choose_coding(&self.frame, &blocks, picture, vectors, place, moved);
         coding.complete(&blocks, self.frame.factors, picture, place)
     }
 }

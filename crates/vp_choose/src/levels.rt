@@ -3,14 +3,15 @@
 ghost use Rattle.std.specs.Prelude.{◌≡◌, ℕ, ◌+◌, ◌*◌, ◌/◌, ◌%◌, ◌<◌, ◌≤◌, pos, length};
 ghost use Rattle.std.specs.Prelude.{true, Bool, slice_index_or, unsigned_abs};
 ghost use Rattle.vp_tokens.specs.declared.contexts.Tokens.{Tokens};
-ghost use Rattle.vp_tokens.specs.Spelled.{AreLevels, levels_of};
+ghost use Rattle.vp_tokens.specs.Block.{no_tokens};
 ghost use Rattle.vp_transform.specs.Fits.{EachWithin};
 ghost use Rattle.vp_intra.specs.Edges.{block as listed};
 ghost use Rattle.vp_choose.specs.Levels.{ArePositive, HasLumaAndY2, part, coefficients, quantised_levels};
 ghost use Rattle.vp_choose.specs.Levels.{part_coefficients};
-ghost use Rattle.vp_choose.specs.Coding.{AreSmall, HaveLuma};
+ghost use Rattle.vp_choose.specs.Coding.{AreWritable, HaveLuma, IsEnded};
 
 use vp_quant::{Factors, quantise_block};
+use vp_tokens::Block;
 use vp_transform::{differences, fdct_short, fwht_short};
 
 /// Returns subblock `k` of a block that is `ACROSS` subblocks wide and high.
@@ -54,34 +55,44 @@ pub(crate) fn quantised_levels(coefficients: &[i16; 16], dc: u16, ac: u16) -> [i
     quantise_block(coefficients, dc, ac)
 }
 
-/// Returns the levels of luma with a Y2 block, which codes the DC coefficients. Chroma has none yet.
-pub(crate) fn levels_with_y2(
+/// Quantises a block of coefficients. The block ends after its last nonzero level.
+pub(crate) fn quantised(coefficients: &[i16; 16], dc: u16, ac: u16) -> Block
+    requires dc { 1 ≤ dc }
+    requires ac { 1 ≤ ac }
+    requires range { EachWithin 16320 coefficients.now }
+    ensures levels { result.levels ≡ quantised_levels coefficients.now dc ac }
+    ensures ended { IsEnded result }
+{
+    Block::of_levels(&quantised_levels(coefficients, dc, ac))
+}
+
+/// Returns the blocks of luma with a Y2 block, which codes the DC coefficients. Chroma has no tokens yet.
+pub(crate) fn blocks_with_y2(
     source: &[u8; 256],
     prediction: &[u8; 256],
     factors: &Factors,
-) -> [[i16; 16]; 25]
+) -> [Block; 25]
     requires { ArePositive factors.now }
     ensures luma { (f g : ℕ → ℕ → ℕ) → source.now ≡ listed 16 f → prediction.now ≡ listed 16 g
         → (t : Tokens) → HaveLuma result t → HasLumaAndY2 f g factors.now t }
-    ensures spelled { AreLevels true result }
-    ensures small { AreSmall result }
+    ensures writable { AreWritable true result }
 {
-    let mut all = [[0; 16]; 25];
+    let mut blocks = [Block::NONE; 25];
     let mut firsts = [0; 16];
     for k in 0..16 {
         let numbers = coefficients(&part_of::<4>(source, k), &part_of::<4>(prediction, k));
         firsts[k] = numbers[0];
         let mut levels = quantised_levels(&numbers, factors.y_dc, factors.y_ac);
         levels[0] = 0;
-        all[1 + k] = levels;
+        blocks[1 + k] = Block::of_levels(&levels);
     }
-    all[0] = quantised_levels(&fwht_short(&firsts), factors.y2_dc, factors.y2_ac);
-    all
+    blocks[0] = quantised(&fwht_short(&firsts), factors.y2_dc, factors.y2_ac);
+    blocks
 }
 
-/// Puts the levels of a chroma plane: 1 is U, 2 is V.
+/// Puts the blocks of a chroma plane: 1 is U, 2 is V.
 pub(crate) fn put_chroma(
-    all: &mut [[i16; 16]; 25],
+    blocks: &mut [Block; 25],
     plane: usize,
     source: &[u8; 64],
     prediction: &[u8; 64],
@@ -89,17 +100,16 @@ pub(crate) fn put_chroma(
 )
     requires factors { ArePositive factors.now }
     requires plane { (1 ≤ plane) × (plane ≤ 2) }
-    requires small { AreSmall all.old }
     ensures levels { (f g : ℕ → ℕ → ℕ) → source.now ≡ listed 8 f → prediction.now ≡ listed 8 g → (k : ℕ) → k < 4
-        → levels_of all.new (13 + 4 * plane + k)
+        → (slice_index_or blocks.new (13 + 4 * plane + k) no_tokens).levels
         ≡ quantised_levels (part_coefficients 2 f g k) factors.now.uv_dc factors.now.uv_ac }
-    ensures others { (k : ℕ) → k < 13 + 4 * plane → levels_of all.new k ≡ levels_of all.old k }
-    ensures spelled { (has_y2 : Bool) → AreLevels has_y2 all.old → AreLevels has_y2 all.new }
-    ensures small { AreSmall all.new }
+    ensures others { (k : ℕ) → k < 13 + 4 * plane
+        → slice_index_or blocks.new k no_tokens ≡ slice_index_or blocks.old k no_tokens }
+    ensures writable { (with_y2 : Bool) → AreWritable with_y2 blocks.old → AreWritable with_y2 blocks.new }
 {
     let first = 13 + 4 * plane;
     for k in 0..4 {
         let numbers = coefficients(&part_of::<2>(source, k), &part_of::<2>(prediction, k));
-        all[first + k] = quantised_levels(&numbers, factors.uv_dc, factors.uv_ac);
+        blocks[first + k] = quantised(&numbers, factors.uv_dc, factors.uv_ac);
     }
 }

@@ -1,6 +1,6 @@
 //! Chooses an intra macroblock's luma mode.
 
-ghost use Rattle.std.specs.Prelude.{◌≡◌, ℕ, ◌+◌, ◌*◌, ◌<◌, ◌≤◌, false, IfSome, IsSome, MatchOption};
+ghost use Rattle.std.specs.Prelude.{◌≡◌, ℕ, ◌+◌, ◌*◌, ◌<◌, ◌≤◌, false, None, IfSome, IsSome, MatchOption};
 ghost use Rattle.vp_tables.specs.Modes.{is_by_subblocks};
 ghost use Rattle.vp_intra.specs.Edges.{block as listed};
 ghost use Rattle.vp_intra.specs.Whole.{luma_pixel};
@@ -28,20 +28,13 @@ pub(crate) struct IntraLuma {
     pub(crate) cost: u32,
 }
 
-/// The luma of an intra macroblock by a mode other than B_PRED.
-#[derive(Clone, Copy)]
-pub(crate) struct WholeLuma {
-    mode: LumaMode,
-    prediction: [u8; 256],
-    cost: u32,
-}
-
 /// Predicts luma by a mode other than B_PRED.
-fn predicted(block: &[u8; 256], plane: &Plane, place: Place, mode: LumaMode) -> WholeLuma
+fn predicted(block: &[u8; 256], plane: &Plane, place: Place, mode: LumaMode) -> IntraLuma
     requires columns { 16 * place.column + 16 ≤ plane.now.width }
     requires rows { 16 * place.row + 16 ≤ plane.now.height }
     requires whole { ¬ (mode ≡ LumaMode.B) }
     ensures mode { result.mode ≡ mode }
+    ensures subblocks { result.subblocks ≡ None }
     ensures prediction { result.prediction
         ≡ listed 16 (luma_pixel mode plane.now (16 * place.column) (16 * place.row)) }
     ensures cost { (f : ℕ → ℕ → ℕ) → block.now ≡ listed 16 f → result.cost ≡ luma_mode_cost f plane.now place mode }
@@ -50,33 +43,34 @@ fn predicted(block: &[u8; 256], plane: &Plane, place: Place, mode: LumaMode) -> 
     let _known = [plane.width(), plane.height()];
     let prediction = predict_luma(plane, 16 * place.column, 16 * place.row, mode);
     let cost = sad16(block, &prediction);
-    WholeLuma {
+    IntraLuma {
         mode,
         prediction,
+        subblocks: None,
         cost,
     }
 }
 
 /// Returns the luma by the mode other than B_PRED of the least cost.
-fn choose_whole(block: &[u8; 256], plane: &Plane, place: Place) -> WholeLuma
+fn choose_whole_luma(block: &[u8; 256], plane: &Plane, place: Place) -> IntraLuma
     requires columns { 16 * place.column + 16 ≤ plane.now.width }
     requires rows { 16 * place.row + 16 ≤ plane.now.height }
     ensures best { (f : ℕ → ℕ → ℕ) → block.now ≡ listed 16 f → IsWholeLuma f place plane.now result }
     ensures prediction { result.prediction
         ≡ listed 16 (luma_pixel result.mode plane.now (16 * place.column) (16 * place.row)) }
     ensures whole { is_by_subblocks result.mode ≡ false }
+    ensures subblocks { result.subblocks ≡ None }
     ensures bound { result.cost ≤ 65280 }
 {
     let dc = predicted(block, plane, place, LumaMode::Dc);
-    let vertical = predicted(block, plane, place, LumaMode::V);
-    let horizontal = predicted(block, plane, place, LumaMode::H);
-    let true_motion = predicted(block, plane, place, LumaMode::Tm);
-    let costs = [dc.cost, vertical.cost, horizontal.cost, true_motion.cost];
-    match first_least(&costs) {
+    let v = predicted(block, plane, place, LumaMode::V);
+    let h = predicted(block, plane, place, LumaMode::H);
+    let tm = predicted(block, plane, place, LumaMode::Tm);
+    match first_least(&[dc.cost, v.cost, h.cost, tm.cost]) {
         0 => dc,
-        1 => vertical,
-        2 => horizontal,
-        _ => true_motion,
+        1 => v,
+        2 => h,
+        _ => tm,
     }
 }
 
@@ -105,7 +99,7 @@ pub(crate) fn choose_luma_below(
         return None;
     }
     let _known = picture.dim();
-    let whole = choose_whole(block, picture.plane(0), place);
+    let whole = choose_whole_luma(block, picture.plane(0), place);
     // B_PRED costs 128 more than its subblocks. It is last in order, so it is chosen only if it costs less.
     let most = whole.cost.min(limit).saturating_sub(128);
     if let Some(rebuilt) = choose_subblocks(block, factors, picture, place, most) {
@@ -120,15 +114,5 @@ pub(crate) fn choose_luma_below(
     if whole.cost >= limit {
         return None;
     }
-    let WholeLuma {
-        mode,
-        prediction,
-        cost,
-    } = whole;
-    Some(IntraLuma {
-        mode,
-        prediction,
-        subblocks: None,
-        cost,
-    })
+    Some(whole)
 }

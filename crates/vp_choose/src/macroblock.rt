@@ -139,7 +139,7 @@ fn inter_coding(search: &Search, vectors: &VectorMap, place: Place, moved: &Move
 
 /// Chooses the coding of a macroblock: intra if its luma costs less than `moved`, the motion that was found, which is
 /// None in a key frame. The picture is used as scratch memory and restored.
-pub(crate) fn coding_of(
+pub(crate) fn choose_coding(
     frame: &FrameSearch,
     blocks: &MacroblockPixels,
     picture: &mut Picture,

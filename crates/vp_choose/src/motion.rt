@@ -20,7 +20,7 @@ use crate::searchers::Searchers;
 use vp_base::Place;
 use vp_head::{Reference, SignBiases};
 use vp_motion::{Candidates, Motion, Vector, VectorMap, near};
-use vp_search::{QuarterVector, Refined, Searcher, quarters, refine_found};
+use vp_search::{QuarterVector, Refined, Searcher, quarters};
 use vp_tables::VectorMode;
 
 /// A reference frame, the best vector found in it, and its cost.
@@ -61,9 +61,7 @@ fn find(
     }
     // A refinement may make a vector cheaper than the limit, so the search in whole pixels has none.
     let whole = searcher.search(block, place, u32::MAX).unwrap();
-    let picture = search.references.get(reference);
-    let _known = picture.dim();
-    let Refined { vector, cost } = refine_found(block, picture.plane(0), place, whole);
+    let Refined { vector, cost } = searcher.refined(block, place, whole);
     Some(Moved {
         reference,
         vector,
@@ -124,10 +122,9 @@ pub(crate) fn find_motion(
     ensures motion { (source : Raster) → block.now ≡ listed 16 (block_pixels 16 source place)
         → IsSearched (lent_frame frame.now).search source place result }
 {
-    match (searchers, &frame.search) {
-        (Some(searchers), Some(search)) => Some(choose_reference(searchers, search, block, place)),
-        _ => None,
-    }
+    let search = frame.search?;
+    let searchers = searchers.as_mut()?;
+    Some(choose_reference(searchers, &search, block, place))
 }
 
 /// Returns the first mode that gives a vector: zero, nearest, near, or new.

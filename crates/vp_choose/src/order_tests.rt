@@ -60,7 +60,9 @@ fn luma_mode(block: &[u8; 256], picture: &mut Picture, place: Place) -> Option<L
     if place.column >= usize::from(dim.mb_cols()) || place.row >= usize::from(dim.mb_rows()) {
         return None;
     }
-    let chosen = choose_luma_below(block, &FACTORS, picture, place, u32::MAX)?;
+    let Some(chosen) = choose_luma_below(block, &FACTORS, picture, place, u32::MAX) else {
+        return None;
+    };
     Some(chosen.mode)
 }
 

@@ -1,25 +1,23 @@
 //! Chooses the modes of the luma subblocks for B_PRED.
 
-ghost use Rattle.std.specs.Prelude.{◌≡◌, ℕ, ◌+◌, ◌*◌, ◌<◌, ◌≤◌, pos, [], slice_index, slice_index_or, unsigned_abs};
+ghost use Rattle.std.specs.Prelude.{◌≡◌, ℕ, ◌+◌, ◌*◌, ◌<◌, ◌≤◌, [], slice_index, slice_index_or};
 ghost use Rattle.std.specs.Prelude.{false, IfSome, MatchOption};
-ghost use Rattle.vp_tokens.specs.declared.contexts.Tokens.{Tokens};
-ghost use Rattle.vp_tokens.specs.Spelled.{AreLevels};
-ghost use Rattle.vp_choose.specs.Intra.{HasSubblocks};
 ghost use Rattle.vp_base.specs.Image.{with_plane};
 ghost use Rattle.vp_intra.specs.Edges.{block as listed};
+ghost use Rattle.vp_quant.specs.Short.{AreFactors};
 ghost use Rattle.vp_recon.specs.Rebuilt.{with_sub};
 ghost use Rattle.vp_recon.specs.Residue.{residue};
 ghost use Rattle.vp_search.specs.Differences.{sum_of_differences, block_from_rows};
 ghost use Rattle.vp_choose.specs.Costs.{sub_cost};
-ghost use Rattle.vp_choose.specs.Levels.{ArePositive, coefficients, quantised_levels};
-ghost use Rattle.vp_choose.specs.Coding.{AreSmall, HaveLuma, IsRebuiltLuma};
+ghost use Rattle.vp_choose.specs.Levels.{ArePositive};
+ghost use Rattle.vp_choose.specs.Coding.{AreWritable, IsEnded, IsRebuiltLuma};
 ghost use Rattle.vp_choose.specs.Subblocks.{IsBestMode, AreSubblocksChosen, after_subblocks, sub_levels};
 ghost use Rattle.vp_choose.specs.Below.{AreSubblocksOver, IsPartlyRebuilt};
 
-use crate::levels::{coefficients, part_of, quantised_levels};
+use crate::levels::{coefficients, part_of, quantised};
 use vp_base::{Picture, Place};
 use vp_intra::predict_sub_modes;
-use vp_quant::Factors;
+use vp_quant::{Factors, ShortFactors};
 use vp_recon::rebuild_subblock_from;
 use vp_search::{first_least, macroblock, sad4};
 use vp_tables::SubMode;
@@ -39,11 +37,12 @@ const ORDER: [SubMode; 10] = [
     SubMode::Hu,
 ];
 
-/// The modes and levels of the sixteen luma subblocks, in raster order, and their cost.
+/// The modes of the sixteen luma subblocks, in raster order, their blocks, and their cost.
 #[derive(Clone, Copy)]
 pub(crate) struct Subblocks {
     pub(crate) modes: [SubMode; 16],
-    pub(crate) levels: [[i16; 16]; 16],
+    /// The blocks of the macroblock. There is no Y2 block, and chroma has no tokens yet.
+    pub(crate) blocks: [Block; 25],
     pub(crate) cost: u32,
 }
 
@@ -54,11 +53,11 @@ pub(crate) struct RebuiltSubblocks {
     pub(crate) luma: [u8; 256],
 }
 
-/// The mode, the levels and the cost of one subblock.
+/// The mode, the block and the cost of one subblock.
 #[derive(Clone, Copy)]
 struct Subblock {
     mode: SubMode,
-    levels: [i16; 16],
+    block: Block,
     cost: u32,
 }
 
@@ -75,38 +74,39 @@ fn costs_of(block: &[u8; 16], predictions: &[[u8; 16]; 10]) -> [u32; 10]
     costs
 }
 
-/// Chooses the mode of one subblock, and rebuilds it.
+/// Chooses the mode of one subblock, and rebuilds it. `short` are the factors of luma, made ready.
 fn choose_subblock(
-    block: &[u8; 16],
+    source: &[u8; 16],
     factors: &Factors,
+    short: &ShortFactors,
     picture: &mut Picture,
     place: Place,
 ) -> Subblock
     requires columns { 4 * place.column + 4 ≤ picture.old.luma.width }
     requires rows { 4 * place.row + 4 ≤ picture.old.luma.height }
     requires factors { ArePositive factors.now }
-    ensures mode { (f : ℕ → ℕ → ℕ) → block.now ≡ listed 4 f → IsBestMode f picture.old.luma place result.mode }
-    ensures levels { (f : ℕ → ℕ → ℕ) → block.now ≡ listed 4 f
-        → result.levels ≡ sub_levels f picture.old.luma place result.mode factors.now }
-    ensures cost { (f : ℕ → ℕ → ℕ) → block.now ≡ listed 4 f → result.cost
+    requires short { AreFactors short.now factors.now.y_dc factors.now.y_ac }
+    ensures mode { (f : ℕ → ℕ → ℕ) → source.now ≡ listed 4 f → IsBestMode f picture.old.luma place result.mode }
+    ensures levels { (f : ℕ → ℕ → ℕ) → source.now ≡ listed 4 f
+        → result.block.levels ≡ sub_levels f picture.old.luma place result.mode factors.now }
+    ensures cost { (f : ℕ → ℕ → ℕ) → source.now ≡ listed 4 f → result.cost
         ≡ sub_cost f picture.old.luma place result.mode }
     ensures rebuilt { picture.new ≡ with_plane picture.old 0 (with_sub picture.old.luma place result.mode
-        (residue result.levels factors.now.y_dc factors.now.y_ac)) }
-    ensures within { (i : ℕ) → unsigned_abs (slice_index_or result.levels i (pos 0)) ≤ 2047 }
+        (residue result.block.levels factors.now.y_dc factors.now.y_ac)) }
+    ensures ended { IsEnded result.block }
     ensures bound { result.cost ≤ 4080 }
 {
     let _known = [picture.plane(0).width(), picture.plane(0).height()];
     let predictions = predict_sub_modes(picture.plane(0), 4 * place.column, 4 * place.row);
-    let costs = costs_of(block, &predictions);
+    let costs = costs_of(source, &predictions);
     let best = first_least(&costs);
     let prediction = predictions[best];
-    let numbers = coefficients(block, &prediction);
-    let levels = quantised_levels(&numbers, factors.y_dc, factors.y_ac);
-    let own = Block::of_levels(&levels);
-    rebuild_subblock_from(picture, place, &prediction, &own, factors);
+    let numbers = coefficients(source, &prediction);
+    let block = quantised(&numbers, factors.y_dc, factors.y_ac);
+    rebuild_subblock_from(picture, place, &prediction, &block, factors, short);
     Subblock {
         mode: ORDER[best],
-        levels,
+        block,
         cost: costs[best],
     }
 }
@@ -129,11 +129,12 @@ fn choose_all(
     ensures rebuilt { IsPartlyRebuilt factors.now place picture.old picture.new }
     ensures all_rebuilt { IfSome result (λ s. picture.new ≡ with_plane picture.old 0
         (after_subblocks factors.now place picture.old.luma s 16)) }
-    ensures within { IfSome result (λ s. AreSmall s.levels) }
+    ensures writable { IfSome result (λ s. AreWritable false s.blocks) }
 {
     let _known = [picture.plane(0).width(), picture.plane(0).height()];
+    let short = ShortFactors::of(factors.y_dc, factors.y_ac);
     let mut modes = [SubMode::Dc; 16];
-    let mut levels = [[0; 16]; 16];
+    let mut blocks = [Block::NONE; 25];
     let mut cost = 0;
     for k in 0..16 {
         if cost >= limit {
@@ -143,23 +144,21 @@ fn choose_all(
             column: place.column * 4 + k % 4,
             row: place.row * 4 + k / 4,
         };
-        let block = part_of::<4>(source, k);
-        let chosen = choose_subblock(&block, factors, picture, here);
+        let part = part_of::<4>(source, k);
+        let chosen = choose_subblock(&part, factors, &short, picture, here);
         modes[k] = chosen.mode;
-        let own = chosen.levels;
-        levels[k] = own;
+        blocks[1 + k] = chosen.block;
         cost += chosen.cost;
     }
     Some(Subblocks {
         modes,
-        levels,
+        blocks,
         cost,
     })
 }
 
 /// Returns the choice for all subblocks of a macroblock, and the luma rebuilt by it; None if it costs `limit` or more.
 /// The picture is used as scratch memory and restored.
-#[tactic(auto, using(crate::proofs::SubblockChoice::free_subblocks))]
 pub(crate) fn choose_subblocks(
     source: &[u8; 256],
     factors: &Factors,
@@ -177,10 +176,6 @@ pub(crate) fn choose_subblocks(
     ensures kept { picture.new ≡ picture.old }
     ensures below { IfSome result (λ s. s.subblocks.cost < limit) }
 {
-    // No choice costs less than 0.
-    if limit == 0 {
-        return None;
-    }
     let _known = [picture.plane(0).width(), picture.plane(0).height()];
     let kept = macroblock(picture.plane(0), place);
     let chosen = choose_all(source, factors, picture, place, limit);
@@ -190,18 +185,4 @@ pub(crate) fn choose_subblocks(
         Some(subblocks) if subblocks.cost < limit => Some(RebuiltSubblocks { subblocks, luma }),
         _ => None,
     }
-}
-
-/// Returns the levels of luma by the subblocks of B_PRED, without a Y2 block. Chroma has none yet.
-pub(crate) fn levels_without_y2(subblocks: &Subblocks) -> [[i16; 16]; 25]
-    requires { AreSmall subblocks.now.levels }
-    ensures luma { (t : Tokens) → HaveLuma result t → HasSubblocks subblocks.now t }
-    ensures spelled { AreLevels false result }
-    ensures small { AreSmall result }
-{
-    let mut all = [[0; 16]; 25];
-    for k in 0..16 {
-        all[1 + k] = subblocks.levels[k];
-    }
-    all
 }

@@ -4,6 +4,7 @@
 ghost use Rattle.std.specs.Prelude.{◌≡◌, ◌+◌, ◌*◌, ◌<◌, ◌≤◌, pos, not, slice_index, slice_index_or, true};
 ghost use Rattle.vp_base.specs.Block.{with_block};
 ghost use Rattle.vp_base.specs.Image.{macroblocks, plane_of, with_plane};
+ghost use Rattle.vp_quant.specs.Short.{AreFactors};
 ghost use Rattle.vp_recon.specs.Predictor.{Predictor, macroblock_of, has_sub_modes, has_y2};
 ghost use Rattle.vp_recon.specs.Rebuilt.{rebuilt, summed, residue_at};
 ghost use Rattle.vp_recon.specs.Residue.{residue, luma_residue, chroma_residue};
@@ -97,14 +98,17 @@ fn rebuild_chroma(
 }
 
 /// Rebuilds one luma subblock of a macroblock without a Y2 block from its prediction, in raster order, and its residue.
-/// `block` is its place among all luma subblocks of the picture.
+/// `block` is its place among all luma subblocks of the picture. `short` are its factors, made ready once for all
+/// subblocks of a macroblock.
 pub fn rebuild_subblock_from(
     picture: &mut Picture,
     block: Place,
     prediction: &[u8; 16],
     levels: &Block,
     factors: &Factors,
+    short: &ShortFactors,
 )
+    requires short { AreFactors short.now factors.now.y_dc factors.now.y_ac }
     requires columns { 4 * block.column + 4 ≤ picture.old.luma.width }
     requires rows { 4 * block.row + 4 ≤ picture.old.luma.height }
     ensures { picture.new ≡ with_plane picture.old 0 (with_block picture.old.luma (4 * block.column) (4 * block.row) 4 4
@@ -113,7 +117,6 @@ pub fn rebuild_subblock_from(
 {
     let _known = [picture.plane(0).width(), picture.plane(0).height()];
     let prediction = u8x16::from_array(*prediction);
-    let short = ShortFactors::of(factors.y_dc, factors.y_ac);
-    let pixels = with_residue(prediction, levels, factors, &short);
+    let pixels = with_residue(prediction, levels, factors, short);
     store_subblock(picture, 4 * block.column, 4 * block.row, pixels);
 }

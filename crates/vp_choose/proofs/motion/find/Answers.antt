@@ -10,7 +10,7 @@ pub returns-clause-found : goal.returns-clause-found
 returns-clause-found c source cut =
     let p : Raster = (reference_picture c.args.search.now.references.now c.args.reference).luma in
     let least = rw (c.unwrap-whole.ensures, c.requires.searcher) at c.search-2.ensures.least in
-    let refine = rw (c.plane.ensures, c.get-picture.ensures) at c.refine_found-cost.ensures in
+    let refine = rw (c.search-2.ensures.kept, c.requires.searcher) at c.refined-cost.ensures in
     let range = c.requires.range in
     let near = least.near in
     let y = near.0 in
@@ -19,7 +19,7 @@ returns-clause-found c source cut =
     let column = refine.column in
     record {
       reference = refl;
-      is = found_is c.args.block.now source p c.args.place cut (search_of c.args.search.now) c.unwrap-whole.result.vector c.refine_found-cost.result least
+      is = found_is c.args.block.now source p c.args.place cut (search_of c.args.search.now) c.unwrap-whole.result.vector c.refined-cost.result least
           (λ _. refine.refined) (λ off. absurd (let wrong : ⊥ = cc in wrong)) refine.cost;
       short = (omega (arith, ints), omega (arith, ints));
     }

@@ -23,10 +23,10 @@ module _ (c : goal.After-result-1) where
       let all = rw c.plane-3.ensures at c.predict_sub_modes-predictions.ensures in
       rw all (get_or-map (λ (m : SubMode). block 4 (sub_pixel m c.args.picture.now.luma (4 * c.args.place.column) (4 * c.args.place.row))) sub_modes i Dc [] below)
 
-  cost_at : (f : ℕ → ℕ → ℕ) → c.args.block.now ≡ block 4 f → (i : ℕ) → i < 10 → get_or c.costs_of-costs.result i 0 ≡ sub_cost f c.args.picture.now.luma c.args.place (mode_at i)
+  cost_at : (f : ℕ → ℕ → ℕ) → c.args.source.now ≡ block 4 f → (i : ℕ) → i < 10 → get_or c.costs_of-costs.result i 0 ≡ sub_cost f c.args.picture.now.luma c.args.place (mode_at i)
   unfolding sub_cost
   cost_at f e i below = c.costs_of-costs.ensures.value i below
-      ∙ differences-listed 4 c.args.block.now (get_or c.predict_sub_modes-predictions.result i []) f
+      ∙ differences-listed 4 c.args.source.now (get_or c.predict_sub_modes-predictions.result i []) f
       (sub_pixel (mode_at i) c.args.picture.now.luma (4 * c.args.place.column) (4 * c.args.place.row)) e (predicted_at i below)
 
   first : IsFirstLeast 10 (λ i. get_or c.costs_of-costs.result i 0) c.first_least-best.result
@@ -48,7 +48,7 @@ returns-clause-rebuilt c =
     let mode : SubMode = mode_at c.first_least-best.result in
     let x : ℕ = 4 * c.args.place.column in
     let y : ℕ = 4 * c.args.place.row in
-    let own = residue c.of_levels-own.result.levels c.args.factors.now.y_dc c.args.factors.now.y_ac in
+    let own = residue c.quantised-block.result.levels c.args.factors.now.y_dc c.args.factors.now.y_ac in
     let made = predicted_at c c.first_least-best.result (first c).within in
     let prediction : List ℕ = get_or c.predict_sub_modes-predictions.result c.first_least-best.result [] in
     c.rebuild_subblock_from.ensures
@@ -56,4 +56,3 @@ returns-clause-rebuilt c =
     (λ r j. summed (get_or prediction (r * 4 + j) 0) (get_or own (4 * r + j) (pos 0)))
     (λ r j. summed (sub_pixel mode p.luma x y r j) (get_or own (4 * r + j) (pos 0)))
     (λ r j rin jin. rw (made, read_block 4 (sub_pixel mode p.luma x y) r j rin jin)))
-    ∙ rw c.of_levels-own.ensures.levels

@@ -25,12 +25,6 @@ returns-in_default-clause-kept c =
     (rw (← c.plane.ensures) c.width.ensures.whole) c.choose_all-chosen.ensures.rebuilt c.write_block.ensures
     (λ r j rin jin. c.macroblock-kept.ensures r j rin jin ∙ rw c.plane-3.ensures)
 
-pub returns-in_default-2-clause-kept : goal.returns-in_default-2-clause-kept
-returns-in_default-2-clause-kept c =
-    kept_is c.args.factors.now c.args.place c.args.picture.now c.choose_all-chosen.new.picture c.write_block.new.self c.macroblock-kept.result
-    (rw (← c.plane.ensures) c.width.ensures.whole) c.choose_all-chosen.ensures.rebuilt c.write_block.ensures
-    (λ r j rin jin. c.macroblock-kept.ensures r j rin jin ∙ rw c.plane-3.ensures)
-
 pub returns-in-Some-clause-kept : goal.returns-in-Some-clause-kept
 returns-in-Some-clause-kept c =
     kept_is c.args.factors.now c.args.place c.args.picture.now c.choose_all-chosen.new.picture c.write_block.new.self c.macroblock-kept.result
@@ -47,5 +41,5 @@ returns-in-Some-clause-rebuilt c =
     record {
       is = written_back c.args.factors.now c.args.place p s 16 (λ r j. get_or c.macroblock-luma.result (r * 16 + j) 0) (omega arith) whole
           (λ r j rin jin. c.macroblock-luma.ensures r j rin jin ∙ rw (c.plane-4.ensures, now));
-      small = rw c.in-Some.is at c.choose_all-chosen.ensures.within;
+      writable = rw c.in-Some.is at c.choose_all-chosen.ensures.writable;
     }

@@ -8,7 +8,7 @@ use Rattle.vp_choose.specs.Costs.{block_pixels}
 use Rattle.vp_choose.specs.Frame.{lent_frame, search_of}
 use Rattle.vp_choose.specs.Searched.{IsSearched, IsBestMotion}
 use Rattle.vp_choose.proofs.Chosen.{intra_coded, inter_coded}
-use Rattle.vp_choose.proofs.macroblock.coding_of.Goals as goal
+use Rattle.vp_choose.proofs.macroblock.choose_coding.Goals as goal
 
 pub returns-in-Some-clause-chosen : goal.returns-in-Some-clause-chosen
 returns-in-Some-clause-chosen c =
@@ -22,7 +22,7 @@ returns-in-Some-clause-chosen c =
       best = rw c.in-Some.ensures.kept is.best;
       coded = intra_coded frame q c.args.vectors.now c.args.place c.intra_coding.result is.choice c.args.moved c.requires.moved below c.intra_coding.ensures.reference
           (c.intra_coding.ensures.coded frame.source frame.factors is.choice c.requires.cut (rw c.in-Some.ensures.kept predicted) is.is);
-      small = rw c.intra_coding.ensures.subblocks (IfSome_then c.in-Some.luma.subblocks predicted.by_subblocks (λ s r. r.small));
+      writable = rw c.intra_coding.ensures.subblocks (IfSome_then c.in-Some.luma.subblocks predicted.by_subblocks (λ s r. r.writable));
       motion = c.intra_coding.ensures.motion c.args.vectors.now;
     }
 
@@ -41,6 +41,6 @@ returns-clause-chosen c =
       best = rw c.in_default.ensures.kept over.is;
       coded = inter_coded frame q c.args.vectors.now c.args.place c.inter_coding.result over.luma s x searched (ap (option_map search_of) c.unwrap.ensures) most c.inter_coding.ensures.reference
           (c.inter_coding.ensures.coded frame.source q frame.factors);
-      small = rw c.inter_coding.ensures.subblocks tt;
+      writable = rw c.inter_coding.ensures.subblocks tt;
       motion = c.inter_coding.ensures.motion known.inter;
     }
