@@ -9,4 +9,3 @@ pub mod Found
 pub mod Chosen
 pub mod OneMotion
 pub mod OneChoice
-pub mod Formerly

@@ -101,7 +101,7 @@ pub(crate) fn next_coarse(
     ensures later { start ≤ result }
     ensures bound { result ≤ groups }
     ensures skipped { (g t : ℕ) → start ≤ g → g < result → t < 8
-        → limit < bound_of sums.entry.block sums.entry.window.now (at + 8 * g + t) }
+        → limit < bound_of sums.entry.block sums.entry.places.now (at + 8 * g + t) }
 {
     for pair in 0..(groups - start + 1) / 2 {
         let g = start + 2 * pair;

@@ -63,9 +63,9 @@ impl KeptSums {
         })
     }
 
-    /// Searches for the best vector that costs less than `limit`. The lower the limit, the more vectors are excluded by
-    /// their bounds.
-    pub(crate) fn search(
+    /// The best vector, if it costs less than `limit`, of the window around a macroblock. The lower the limit, the more
+    /// vectors are excluded by their bounds.
+    pub(crate) fn best(
         &mut self,
         block: &Block,
         reference: &Plane,
@@ -92,10 +92,9 @@ impl KeptSums {
             sums: None,
         };
         let (begin, unbounded) = (self.begin, self.unbounded);
-        let better = window.better::<false>(window.centre(), begin, window.first_rows(begin));
-        let first = better.limited(limit);
+        let first = window.better::<false>(window.centre(), begin, window.first_rows(begin));
         if unbounded.left > 0 {
-            let best = window.walk_outwards(first, unbounded).best;
+            let best = window.search(first, unbounded).best;
             self.unbounded = unbounded.next();
             self.begin = spot_of(best.vector, range);
             return best;
@@ -110,7 +109,7 @@ impl KeptSums {
         };
         let coarse_start = moved.start.min(self.coarse.len());
         let summed = window.with_sums(&self.sums[moved.start..], &self.coarse[coarse_start..]);
-        let Progress { best, unbounded } = summed.walk_outwards(first, unbounded);
+        let Progress { best, unbounded } = summed.search(first, unbounded);
         self.unbounded = unbounded.macroblocks(distance);
         self.begin = spot_of(best.vector, range);
         best

@@ -13,26 +13,25 @@ use crate::vector::Found;
 use crate::window::WINDOW_WIDTH;
 
 impl<'a, 's> SearchWindow<'a, 's> {
-    /// The best of a known vector and all others of the window. If it has sums, rows are searched by their bounds, or
-    /// without where these exclude little; `unbounded` says how many are at the start. Without sums, all rows are.
-    /// Always inlined: where there are no sums, only a small loop is left.
+    /// The best vector of the window if it costs less than the limit; `first` is one whose cost is known. If it has
+    /// sums, rows are searched by their bounds, or without where these exclude little; `unbounded` says how many are at
+    /// the start. Without sums, all rows are. Always inlined: where there are no sums, only a small loop is left.
     #[inline(always)]
-    pub(crate) fn walk_outwards(&self, known: Found, unbounded: Unbounded) -> Progress
-        requires known { IsFound self.now known }
+    pub(crate) fn search(&self, first: Found, unbounded: Unbounded) -> Progress
+        requires first { IsFound self.now first }
         ensures { IsBestBelow self.now result.best }
     {
         let middle = usize::from(self.range);
-        let start = Progress {
-            best: known,
-            unbounded,
-        };
-        let mut progress = self.best_of_row(start, middle);
+        // A search begins at its limit, so that dearer vectors are not compared.
+        let cost = first.cost.min(self.limit);
+        let best = Found { cost, ..first };
+        let mut progress = self.search_row(Progress { best, unbounded }, middle);
         for d in 1..middle + 1 {
             if is_best_beyond(progress.best, d) {
                 return progress;
             }
-            progress = self.best_of_row(progress, middle - d);
-            progress = self.best_of_row(progress, middle + d);
+            progress = self.search_row(progress, middle - d);
+            progress = self.search_row(progress, middle + d);
         }
         progress
     }
@@ -41,7 +40,7 @@ impl<'a, 's> SearchWindow<'a, 's> {
     /// the eight bounds that begin at its middle decide whether more follow: they do if most are below the best cost.
     /// Inlined at each of its calls: with one call a search takes some 3 % more instructions.
     #[inline(always)]
-    fn best_of_row(&self, progress: Progress, row: usize) -> Progress
+    fn search_row(&self, progress: Progress, row: usize) -> Progress
         requires row { row ≤ 2 * self.now.range }
         ensures { IsBestInRow self.now row 0 (2 * self.now.range + 1) progress.best result.best }
     {
@@ -59,7 +58,7 @@ impl<'a, 's> SearchWindow<'a, 's> {
         let unbounded = match self.sums {
             Some(sums) if unbounded.left == 1 => {
                 let middle = row * WINDOW_WIDTH + usize::from(self.range);
-                let below = below_best(bounds_at(sums.block, sums.window, middle), best.cost);
+                let below = below_best(bounds_at(sums.block, sums.places, middle), best.cost);
                 self.unbounded_after(best.cost, row, below > HALF)
             }
             _ => unbounded.next(),

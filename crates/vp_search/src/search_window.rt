@@ -35,11 +35,11 @@ impl<'a, 's> SearchWindow<'a, 's> {
     /// This window with sums: those of its squares that are made and, if there are any, its coarse sums. Not inlined:
     /// else their places are computed anew for each group of vectors.
     #[inline(never)]
-    pub(crate) fn with_sums<'b>(&self, window: &'b [u16], coarse: &'b [u8]) -> SearchWindow<'a, 'b>
-        requires room { (2 * self.now.range + 16) * WINDOW_WIDTH ≤ length window.now }
-        requires window { IsSummed self.now.pixels.now window.now self.now.range }
-        requires coarse_size { 0 < length coarse.now → length coarse.now ≡ length window.now }
-        requires coarse { 0 < length coarse.now → AreCoarse (length window.now) window.now coarse.now }
+    pub(crate) fn with_sums<'b>(&self, places: &'b [u16], coarse: &'b [u8]) -> SearchWindow<'a, 'b>
+        requires room { (2 * self.now.range + 16) * WINDOW_WIDTH ≤ length places.now }
+        requires places { IsSummed self.now.pixels.now places.now self.now.range }
+        requires coarse_size { 0 < length coarse.now → length coarse.now ≡ length places.now }
+        requires coarse { 0 < length coarse.now → AreCoarse (length places.now) places.now coarse.now }
         ensures block { result.block.now ≡ self.now.block.now }
         ensures pixels { result.pixels.now ≡ self.now.pixels.now }
         ensures range { result.range ≡ self.now.range }
@@ -48,7 +48,7 @@ impl<'a, 's> SearchWindow<'a, 's> {
         let block = block_sums(self.block.pixels());
         let sums = SquareSums {
             block,
-            window,
+            places,
             coarse_block: coarse_block(block),
             coarse,
         };

@@ -1,19 +1,21 @@
 //! Searches of the macroblocks of a frame.
 
-ghost use Rattle.std.specs.Prelude.{◌≡◌, ℕ, ◌+◌, ◌*◌, ◌<◌, ◌≤◌, IfSome, IsSome, None};
+ghost use Rattle.std.specs.Prelude.{◌≡◌, ℕ, pos, ◌+◌, ◌*◌, ◌<◌, ◌≤◌, ◌-ℤ◌, ◌*ℤ◌, unsigned_abs, IfSome, IsSome, None};
 ghost use Rattle.vp_search.specs.declared.vector.WholeVector.{WholeVector};
 ghost use Rattle.vp_search.specs.Vectors.{quarters, IsNear};
 ghost use Rattle.vp_search.specs.Differences.{block16};
 ghost use Rattle.vp_search.specs.Blocks.{whole_cost, quarter_cost};
 ghost use Rattle.vp_search.specs.Least.{IsLeast};
+ghost use Rattle.vp_search.specs.Refined.{IsRefined};
 ghost use Rattle.vp_search.specs.Chosen.{IsChosen};
 
 use crate::difference::sad_up_to;
 use crate::kept_sums::KeptSums;
+use crate::refinement::refine_found;
 use crate::rows::Block;
 use crate::search_window::SearchWindow;
 use crate::unbounded::Unbounded;
-use crate::vector::{Found, WholeVector};
+use crate::vector::{Found, Refined, WholeVector};
 use crate::window::{GREATEST_RANGE, WINDOW_WIDTH, cut_window};
 use std::alloc::Global;
 use std::marker::Model;
@@ -110,13 +112,13 @@ impl<'a> Searcher<'a> {
         let (reference, range) = (self.reference, self.range);
         let area = (16 + 2 * usize::from(range)) * WINDOW_WIDTH;
         let found = if let Some(sums) = &mut self.sums {
-            sums.search(&Block::of(block), reference, place, range, limit)
+            sums.best(&Block::of(block), reference, place, range, limit)
         } else if area <= LEAST_WINDOW {
-            search_in::<LEAST_WINDOW>(block, reference, place, range, limit)
+            best_without_sums::<LEAST_WINDOW>(block, reference, place, range, limit)
         } else if area <= SMALL_WINDOW {
-            search_in::<SMALL_WINDOW>(block, reference, place, range, limit)
+            best_without_sums::<SMALL_WINDOW>(block, reference, place, range, limit)
         } else {
-            search_in::<WHOLE_WINDOW>(block, reference, place, range, limit)
+            best_without_sums::<WHOLE_WINDOW>(block, reference, place, range, limit)
         };
         if found.cost < limit {
             Some(found)
@@ -124,10 +126,25 @@ impl<'a> Searcher<'a> {
             None
         }
     }
+
+    /// Refines a vector of whole pixels, as `search` finds it, to quarter pixels, as `refine_found` does.
+    pub fn refined(&self, block: &[u8; 256], place: Place, found: Found) -> Refined
+        requires columns { 16 * place.column ≤ 16384 }
+        requires rows { 16 * place.row ≤ 16384 }
+        requires near { IsNear 16384 found.vector }
+        requires cost { found.cost ≡ quarter_cost (block16 block.now) self.now.reference place (quarters found.vector) }
+        ensures cost { result.cost ≡ quarter_cost (block16 block.now) self.now.reference place result.vector }
+        ensures refined { IsRefined (quarter_cost (block16 block.now) self.now.reference place) found.vector
+            result.vector }
+        ensures row { unsigned_abs (result.vector.row -ℤ pos 4 *ℤ found.vector.row) ≤ 3 }
+        ensures column { unsigned_abs (result.vector.column -ℤ pos 4 *ℤ found.vector.column) ≤ 3 }
+    {
+        refine_found(block, self.reference, place, found)
+    }
 }
 
-/// The zero vector, if it leads to the very pixels of the block: it costs nothing, and no vector is shorter. A picture
-/// that does not move needs no window so. In one that moves, most blocks are left after twelve rows.
+/// Measures the zero vector alone, before any window is cut: Some if it leads to the very pixels of the block, as then
+/// it costs nothing and no vector is shorter. In a picture that moves, most blocks are left after twelve rows.
 fn still(block: &[u8; 256], reference: &Plane, place: Place) -> Option<Found>
     requires columns { 16 * place.column ≤ 16384 }
     requires rows { 16 * place.row ≤ 16384 }
@@ -163,10 +180,10 @@ const LEAST_WINDOW: usize = (16 + 2 * 8) * WINDOW_WIDTH;
 /// The number of pixels in the window of a search of the greatest range.
 const WHOLE_WINDOW: usize = (16 + 2 * GREATEST_RANGE) * WINDOW_WIDTH;
 
-/// Searches for the best vector that costs less than `limit` without sums, with a window of `AREA` pixels: at
-/// a small range, where sums cost more than they save, or if their memory was refused.
+/// The best vector, if it costs less than `limit`, of a window of `AREA` pixels that has no sums: at a small range,
+/// where sums cost more than they save, or if their memory was refused.
 #[inline(never)]
-fn search_in<const AREA: usize>(
+fn best_without_sums<const AREA: usize>(
     block: &[u8; 256],
     reference: &Plane,
     place: Place,
@@ -193,7 +210,5 @@ fn search_in<const AREA: usize>(
         limit,
         sums: None,
     };
-    let first = window.centre().limited(limit);
-    let progress = window.walk_outwards(first, Unbounded::none());
-    progress.best
+    window.search(window.centre(), Unbounded::none()).best
 }

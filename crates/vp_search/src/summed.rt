@@ -9,12 +9,12 @@ pub(crate) struct SquareSums<'a> {
     /// Those of the four squares of the block.
     pub(crate) block: [u16; 4],
     /// Those of the squares at each place of the window.
-    pub(crate) window: &'a [u16],
+    pub(crate) places: &'a [u16],
     /// Coarse sums of the squares of the block.
     pub(crate) coarse_block: [u8; 4],
     /// Coarse sums of the squares at each place of the window; none if coarse bounds don't pay.
     pub(crate) coarse: &'a [u8],
     ghost coarse_block_is: { AreCoarse 4 block coarse_block },
-    ghost coarse_size: { 0 < length coarse.now → length coarse.now ≡ length window.now },
-    ghost coarse_is: { 0 < length coarse.now → AreCoarse (length window.now) window.now coarse.now },
+    ghost coarse_size: { 0 < length coarse.now → length coarse.now ≡ length places.now },
+    ghost coarse_is: { 0 < length coarse.now → AreCoarse (length places.now) places.now coarse.now },
 }

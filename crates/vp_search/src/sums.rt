@@ -259,15 +259,15 @@ pub(crate) fn next_within(
     groups: usize,
     limit: u32,
 ) -> Option<Group>
-    requires room { at + 8 * groups + 8 * WINDOW_WIDTH + 16 ≤ length sums.window.now }
+    requires room { at + 8 * groups + 8 * WINDOW_WIDTH + 16 ≤ length sums.places.now }
     requires start { start ≤ groups }
     ensures place { IfSome result (λ next. (start ≤ next.number) × (next.number < groups)) }
     ensures skipped { IfSome result (λ next. (g t : ℕ) → start ≤ g → g < next.number → t < 8
-        → limit < bound_of sums.entry.block sums.entry.window.now (at + 8 * g + t)) }
+        → limit < bound_of sums.entry.block sums.entry.places.now (at + 8 * g + t)) }
     ensures bounds { IfSome result (λ next. (t : ℕ) → t < 8 → slice_index next.bounds t
-        ≡ bound_of sums.entry.block sums.entry.window.now (at + 8 * next.number + t)) }
+        ≡ bound_of sums.entry.block sums.entry.places.now (at + 8 * next.number + t)) }
     ensures none { result ≡ None → (g t : ℕ) → start ≤ g → g < groups → t < 8
-        → limit < bound_of sums.entry.block sums.entry.window.now (at + 8 * g + t) }
+        → limit < bound_of sums.entry.block sums.entry.places.now (at + 8 * g + t) }
 {
     let mut g = start;
     while g < groups {
@@ -275,7 +275,7 @@ pub(crate) fn next_within(
             g = next_coarse(sums, at, g, groups, limit);
         }
         if g < groups {
-            let bounds = bounds_at(sums.block, sums.window, at + 8 * g);
+            let bounds = bounds_at(sums.block, sums.places, at + 8 * g);
             if within(bounds, limit) != 0 {
                 return Some(Group { number: g, bounds });
             }

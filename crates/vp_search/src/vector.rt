@@ -1,6 +1,6 @@
 //! Motion vectors of a luma block, and search results.
 
-ghost use Rattle.std.specs.Prelude.{◌≡◌, ◌+◌, ◌*◌, ◌≤◌, min};
+ghost use Rattle.std.specs.Prelude.{◌≡◌, ◌+◌, ◌*◌, ◌≤◌};
 ghost use Rattle.vp_search.specs.Vectors.{quarters, vector_length, IsNear};
 ghost use Rattle.vp_search.specs.Window.{vector_at};
 
@@ -40,19 +40,6 @@ pub struct Refined {
     pub vector: QuarterVector,
     /// Its sum of absolute differences.
     pub cost: u32,
-}
-
-impl Found {
-    /// This vector, its cost capped at `limit`: a search begins with it, so that dearer vectors are not compared.
-    pub(crate) fn limited(self, limit: u32) -> Found
-        ensures vector { result.vector ≡ self.vector }
-        ensures cost { result.cost ≡ min self.cost limit }
-    {
-        Found {
-            vector: self.vector,
-            cost: self.cost.min(limit),
-        }
-    }
 }
 
 /// A row and a column of a window. Eight places side by side are named by the first.

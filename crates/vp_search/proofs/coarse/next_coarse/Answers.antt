@@ -16,7 +16,7 @@ loop-pair-preserved c g t low high within eight =
           let here : get_or c.coarse_bounds_at-bounds.result j 0 ≡ coarse_bound_of c.args.sums.coarse_block c.args.sums.coarse.now (c.args.at + 8 * g + t) =
           c.coarse_bounds_at-bounds.ensures j in_lanes ∙ ap (λ (i : ℕ). coarse_bound_of c.args.sums.coarse_block c.args.sums.coarse.now i) place in
           let over = c.any_within.ensures c.if-any_within.false j in_lanes in
-          coarse_excludes c.args.sums.block c.args.sums.window.now c.args.sums.coarse_block c.args.sums.coarse.now (c.args.at + 8 * g + t) c.args.limit
+          coarse_excludes c.args.sums.block c.args.sums.places.now c.args.sums.coarse_block c.args.sums.coarse.now (c.args.at + 8 * g + t) c.args.limit
           c.args.sums.coarse_block_is (λ k h. let e = c.args.sums.coarse_size (omega arith) in c.args.sums.coarse_is (omega arith) k (omega arith))
           (subst (λ (n : ℕ). c.args.limit + 252 < 64 * n) here over)
     ]

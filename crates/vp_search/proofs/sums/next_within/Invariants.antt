@@ -6,7 +6,7 @@ abbrev pub invariant-loop-g : goal.invariant-loop-g
 invariant-loop-g l = record {
   later : l.start ≤ l.g;
   bound : l.g ≤ l.groups;
-  skipped : (g t : ℕ) → l.start ≤ g → g < l.g → t < 8 → l.limit < bound_of l.sums.block l.sums.window.now (l.at + 8 * g + t);
+  skipped : (g t : ℕ) → l.start ≤ g → g < l.g → t < 8 → l.limit < bound_of l.sums.block l.sums.places.now (l.at + 8 * g + t);
 }
 
 abbrev pub decreases-loop-g : goal.decreases-loop-g

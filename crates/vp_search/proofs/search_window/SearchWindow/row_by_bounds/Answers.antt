@@ -7,7 +7,7 @@ use Rattle.vp_search.proofs.search_window.SearchWindow.row_by_bounds.Goals as go
 
 pub best_of_eight-requires-clause-bounds : goal.best_of_eight-requires-clause-bounds
 best_of_eight-requires-clause-bounds c t h within =
-    bounds_are c.args.self.now c.args.sums.window.now c.args.sums.block c.in-Some.next.bounds c.args.row (8 * c.in-Some.next.number)
+    bounds_are c.args.self.now c.args.sums.places.now c.args.sums.block c.in-Some.next.bounds c.args.row (8 * c.in-Some.next.number)
     (c.args.self.now.summed c.args.sums c.requires.sums).0 (c.args.self.now.summed c.args.sums c.requires.sums).1 c.requires.row c.in-Some.ensures.bounds t h within
 
 pub loop-next-init : goal.loop-next-init
@@ -29,7 +29,7 @@ loop-next-preserved c =
       seen = further w i 0 (8 * m) (8 * (m + 1)) c.args.best f h
           (further w i 0 (8 * g) (8 * m) c.args.best f f inv.seen
           (skipped w i (8 * g) (8 * m) f
-          (bounds_above w c.args.sums.window.now c.args.sums.block i g m f.cost (c.args.self.now.summed c.args.sums c.requires.sums).0 (c.args.self.now.summed c.args.sums c.requires.sums).1 c.requires.row c.in-Some.ensures.skipped)))
+          (bounds_above w c.args.sums.places.now c.args.sums.block i g m f.cost (c.args.self.now.summed c.args.sums c.requires.sums).0 (c.args.self.now.summed c.args.sums c.requires.sums).1 c.requires.row c.in-Some.ensures.skipped)))
           (subst (λ (k : ℕ). IsBestInRow w i (8 * m) k f h) e c.best_of_eight.ensures);
     }
 
@@ -40,5 +40,5 @@ returns c =
     let m : c.from.result ≡ w.range = c.from.ensures in
     further w i 0 (8 * g) (2 * w.range + 1) c.args.best f f c.loop-next.invariant.seen
     (skipped w i (8 * g) (2 * w.range + 1) f
-    (λ j low high within. bounds_above w c.args.sums.window.now c.args.sums.block i g (c.from.result / 4 + 1) f.cost (c.args.self.now.summed c.args.sums c.requires.sums).0 (c.args.self.now.summed c.args.sums c.requires.sums).1 c.requires.row
+    (λ j low high within. bounds_above w c.args.sums.places.now c.args.sums.block i g (c.from.result / 4 + 1) f.cost (c.args.self.now.summed c.args.sums c.requires.sums).0 (c.args.self.now.summed c.args.sums c.requires.sums).1 c.requires.row
     (c.in_default.ensures.none (search rules)) j low (omega arith) within))

@@ -2,7 +2,7 @@ use Rattle.std.proofs.Common.{◌≡◌, ℕ, ◌+◌, ◌*◌, sym, ap, ap₂, 
 use Rattle.vp_search.specs.Sums.{sum_below}
 use Rattle.vp_search.specs.Differences.{squared_difference}
 use Rattle.vp_search.proofs.SumLemmas.{sum_below-none, sum_below-add}
-use Rattle.vp_search.proofs.squares.sse.Goals as goal
+use Rattle.vp_search.proofs.squared_error.sse.Goals as goal
 
 pub loop-i-init : goal.loop-i-init
 loop-i-init c = record {

@@ -1,7 +1,7 @@
 use Rattle.std.proofs.Common.{◌+◌, ap₂, sym, ◌∙◌, arith}
 use Rattle.vp_search.specs.Differences.{squared_difference}
 use Rattle.vp_search.proofs.SumLemmas.{sum_below-more}
-use Rattle.vp_search.proofs.squares.add_rest.Goals as goal
+use Rattle.vp_search.proofs.squared_error.add_rest.Goals as goal
 
 pub loop-i-preserved : goal.loop-i-preserved
 loop-i-preserved c =

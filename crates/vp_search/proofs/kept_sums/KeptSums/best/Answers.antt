@@ -8,8 +8,8 @@ use Rattle.vp_search.proofs.SearchLemmas.{best_below}
 use Rattle.vp_search.proofs.WindowLemmas.{IsFilled}
 use Rattle.vp_search.proofs.SquareLemmas.{kept_summed, summed_kept}
 use Rattle.vp_search.proofs.CoarseLemmas.{part_coarse}
-use Rattle.vp_search.proofs.kept_sums.KeptSums.search.Goals.{After-deref}
-use Rattle.vp_search.proofs.kept_sums.KeptSums.search.Goals as goal
+use Rattle.vp_search.proofs.kept_sums.KeptSums.best.Goals.{After-deref}
+use Rattle.vp_search.proofs.kept_sums.KeptSums.best.Goals as goal
 
 -- the window is cut
 filled : (c : After-deref) → IsFilled c.deref.result.now c.args.reference.now c.args.place c.args.range
@@ -17,7 +17,7 @@ filled c = rw (c.deref.ensures.value ∙ with_items_is c.args.self.now.window c.
 
 pub returns-then-unbounded-gt0-clause-chosen : goal.returns-then-unbounded-gt0-clause-chosen
 returns-then-unbounded-gt0-clause-chosen c =
-    best_below _ c.args.reference.now c.args.place c.walk_outwards.result.best (filled (goal.at.returns-then-unbounded-gt0-clause-chosen c).After-deref) c.centre.ensures.bytes c.walk_outwards.ensures
+    best_below _ c.args.reference.now c.args.place c.search.result.best (filled (goal.at.returns-then-unbounded-gt0-clause-chosen c).After-deref) c.centre.ensures.bytes c.search.ensures
 
 pub fill_sums-requires-clause-columns : goal.fill_sums-requires-clause-columns
 fill_sums-requires-clause-columns c = (c.moved_to-moved.ensures.kept _ _ _ _ c.requires.ready.sums).few
@@ -83,5 +83,5 @@ pub returns-clause-chosen : goal.returns-clause-chosen
 returns-clause-chosen c =
     let same = c.with_sums-summed.ensures in
     rw (← same.block, ← same.range, ← same.limit)
-    (best_below c.with_sums-summed.result c.args.reference.now c.args.place c.walk_outwards-2.result.best (rw (same.pixels, same.range) (filled (goal.at.returns-clause-chosen c).After-deref))
-    (rw (same.pixels) c.centre.ensures.bytes) c.walk_outwards-2.ensures)
+    (best_below c.with_sums-summed.result c.args.reference.now c.args.place c.search-2.result.best (rw (same.pixels, same.range) (filled (goal.at.returns-clause-chosen c).After-deref))
+    (rw (same.pixels) c.centre.ensures.bytes) c.search-2.ensures)
