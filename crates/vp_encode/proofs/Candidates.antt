@@ -1,25 +1,42 @@
--- The motion of the macroblocks before a place; candidates look at that of those above and to the left alone.
-use Rattle.std.proofs.Common.{◌≡◌, ◌≢◌, ◌∙◌, ℕ, zero, suc, ◌+◌, ◌*◌, ◌<◌, ◌++◌, replicate, cond, refl, sym, ap, subst, arith, inl, inr}
+-- The motion of the macroblocks before a place. Candidates, and how motion without split is read, look at that of those
+-- above and to the left alone.
+use Rattle.std.proofs.Common.{◌≡◌, ◌≢◌, ◌∙◌, ℕ, zero, suc, ◌+◌, ◌*◌, ◌<◌, ◌++◌, List, false, length, length-set, replicate, cond, refl, sym, ap, subst, arith, inl, inr}
 use Rattle.std.specs.Prelude.{Option, Some, None, option_map, unwrap_or, nat_lt, slice_get, neg_ℤ, pos, ◌-◌}
 use Rattle.std.proofs.lemmas.Bool.{cases_Bool}
+use Rattle.std.proofs.lemmas.List.{length-replicate}
 use Rattle.std.proofs.lemmas.Option.{slice_get-map}
 use Rattle.std.specs.Int.{from_bool}
 use Rattle.std.specs.Option.{option_and_then}
 use Rattle.vp_base.specs.declared.place.Place.{Place}
 use Rattle.vp_base.specs.Place.{above, left, corner}
-use Rattle.vp_base.specs.Grid.{Grid, Has, at, look, entry, mapped, repeated, all as everywhere}
+use Rattle.vp_base.specs.Grid.{Grid, Has, at, look, entry, changed, with_entry, mapped, repeated, all as everywhere}
+use Rattle.vp_base.proofs.GridLemmas.{entry-here, entry-elsewhere}
+use Rattle.vp_base.proofs.OverLemmas.{over-none, over-more}
+use Rattle.vp_bool.specs.Bools.{State}
+use Rattle.vp_bool.specs.Intervals.{Interval}
+use Rattle.vp_bool.specs.Reader.{bind}
+use Rattle.vp_bool.specs.Writing.{Writes}
+use Rattle.vp_tables.specs.declared.modes.VectorMode.{VectorMode}
+use Rattle.vp_tables.specs.declared.modes.VectorMode.TheVariants as vector_is
+use Rattle.vp_tables.specs.Modes.{is_split}
+use Rattle.vp_head.specs.declared.fields.Header.{Header}
+use Rattle.vp_head.specs.Reference.{is_intra}
 use Rattle.vp_base.proofs.NearLemmas.{above-some, left-some}
 use Rattle.vp_head.specs.declared.fields.Reference.{Reference}
 use Rattle.vp_head.specs.declared.fields.SignBiases.{SignBiases}
 use Rattle.vp_modes.specs.Entry.{plain}
-use Rattle.vp_motion.specs.Vector.{MacroblockMotion, Vector, zero_vector}
+use Rattle.vp_motion.specs.Vector.{Candidates, MacroblockMotion, Motion, Vector, last_of, zero_vector}
+use Rattle.vp_motion.specs.Motion.{motion_at, motion_by, vector_mode, vectors_by}
+use Rattle.vp_motion.specs.Spelled.{CanBeWritten, GivesVector}
 use Rattle.vp_motion.specs.Map.{intra}
 use Rattle.vp_motion.specs.Near.{neighbours, weighted_neighbour, split_count, splits, clamped_vector, clamped, candidates, first_vector, from_two, weight_of, without}
 use Rattle.vp_decode.specs.MacroblockInfo.{place}
 use Rattle.vp_choose.specs.declared.frame.Choice.{Choice}
 use Rattle.vp_encode.specs.CodedFrame.{nothing, choice_at, saved_motion, saved_motions}
-use Rattle.vp_encode.specs.FrameChoices.{IsBeforeInRaster, IsMotionBefore}
-use Rattle.vp_encode.proofs.RasterOrder.{none_before, before_next, apart, row_over}
+use Rattle.vp_choose.specs.Frame.{choice_motion}
+use Rattle.vp_encode.specs.FrameChoices.{IsBeforeInRaster, IsMotionBefore, IsMotionOf}
+use Rattle.vp_encode.specs.Written.{IsOnlyMotionBefore, motion_before, with_motion, with_row}
+use Rattle.vp_encode.proofs.RasterOrder.{none_before, before_next, apart, row_over, not_itself, not_last, earlier_next, earlier_row, in_rows}
 
 look-same : (g h : Grid MacroblockMotion) (o : Option Place) → ((q : Place) → o ≡ Some q → at intra g q ≡ at intra h q) → look intra g o ≡ look intra h o
 look-same g h None same = refl
@@ -120,3 +137,104 @@ pub motion_candidates : (g : Grid Choice) (p : Place) (k : Grid MacroblockMotion
 motion_candidates g p k r b has before =
     candidates-same k (saved_motions g) p r b before.columns before.rows (omega (arith, has.column, before.columns))
     (λ q within earlier. before.moved q (record { column = omega (arith, within, before.columns); row = omega (arith, earlier.row, has.row) }) earlier ∙ sym (motion_by-at g q))
+
+-- the motion of all macroblocks has that of those before p
+pub motion_until : (g : Grid Choice) (p : Place) (k : Grid MacroblockMotion) → IsMotionOf g k → IsMotionBefore g p k
+motion_until g p k all = record {
+  columns = all.columns;
+  rows = all.rows;
+  moved = λ q has earlier. all.moved q has (in_rows q g.rows has.row);
+}
+
+-- ---- the motion of the macroblocks before a place, and no other
+
+pub motion_before-none : (g : Grid Choice) → motion_before g (place 0 0) ≡ everywhere g.columns g.rows intra
+unfolding motion_before
+motion_before-none g = over-none _ _ ∙ over-none _ _
+
+pub motion_before-next : (g : Grid Choice) (row n : ℕ) → motion_before g (place row (n + 1)) ≡ with_motion g (place row n) (motion_before g (place row n))
+unfolding motion_before
+motion_before-next g row n = over-more n _ _
+
+pub motion_before-row : (g : Grid Choice) (row : ℕ) → motion_before g (place (row + 1) 0) ≡ motion_before g (place row g.columns)
+unfolding motion_before
+motion_before-row g row = over-none _ _ ∙ over-more row (with_row g g.columns) _
+
+pub only_none : (g : Grid Choice) (k : Grid MacroblockMotion) → k ≡ everywhere g.columns g.rows intra → IsOnlyMotionBefore g (place 0 0) k
+unfolding repeated
+only_none g k still = record {
+  before = motion_none g.columns g.rows g k refl refl still;
+  unmoved = λ q later. ap (λ (m : Grid MacroblockMotion). at intra m q) still ∙ all_still g.columns g.rows q;
+  whole = subst (λ (m : Grid MacroblockMotion). length m.entries ≡ m.rows * m.columns) (sym still) (length-replicate (g.rows * g.columns) intra);
+}
+
+-- with a macroblock's motion at its place
+only_moved : (g : Grid Choice) (row n : ℕ) (k l : Grid MacroblockMotion) → IsOnlyMotionBefore g (place row n) k → l.columns ≡ k.columns → l.rows ≡ k.rows
+    → at intra l (place row n) ≡ saved_motion (choice_at g (place row n)) → ((q : Place) → q ≢ place row n → at intra l q ≡ at intra k q) → length l.entries ≡ length k.entries
+    → IsOnlyMotionBefore g (place row (n + 1)) l
+only_moved g row n k l only columns rows here elsewhere long = record {
+  before = motion_next g row n k l only.before columns rows here elsewhere;
+  unmoved = λ q later. elsewhere q (not_last q row n later) ∙ only.unmoved q (λ old. later (earlier_next q row n old));
+  whole = long ∙ only.whole ∙ (λ i. sym rows i * sym columns i);
+}
+
+pub only_next : (g : Grid Choice) (row n : ℕ) (k : Grid MacroblockMotion) → Has g (place row n) → IsOnlyMotionBefore g (place row n) k
+    → IsOnlyMotionBefore g (place row (n + 1)) (with_motion g (place row n) k)
+unfolding changed
+only_next g row n k has only =
+    let p : Place = place row n in
+    let c : Choice = choice_at g p in
+    let inside : Has k p = record { column = omega (arith, has.column, only.before.columns); row = omega (arith, has.row, only.before.rows) } in
+    elim (cases_Bool (is_intra c.modes.reference)) [
+      | inl own ↦ rw own (only_moved g row n k k only refl refl (only.unmoved p (not_itself p) ∙ rw own refl) (λ q far. refl) refl)
+      | inr away ↦ rw away (only_moved g row n k (with_entry k p (choice_motion c)) only refl refl
+          (ap (λ o. unwrap_or o intra) (entry-here k p (choice_motion c) only.whole inside) ∙ rw away refl)
+          (λ q far. ap (λ o. unwrap_or o intra) (entry-elsewhere k p (choice_motion c) q inside far))
+          (length-set k.entries (p.row * k.columns + p.column) (choice_motion c)))
+    ]
+
+pub only_row : (g : Grid Choice) (row n : ℕ) (k : Grid MacroblockMotion) → n ≡ g.columns → IsOnlyMotionBefore g (place row n) k → IsOnlyMotionBefore g (place (row + 1) 0) k
+only_row g row n k all only = record {
+  before = motion_row g row n k all only.before;
+  unmoved = λ q later. only.unmoved q (λ old. later (earlier_row q row n old));
+  whole = only.whole;
+}
+
+-- ---- motion that is read with another map
+
+vectors-same : (probabilities : List (List ℕ)) (g k : Grid MacroblockMotion) (p : Place) (c : Candidates) (mode : VectorMode) (s : State) → is_split mode ≡ false
+    → vectors_by probabilities g p c mode s ≡ vectors_by probabilities k p c mode s
+vectors-same probabilities g k p c vector_is.Zero s whole = refl
+vectors-same probabilities g k p c vector_is.Nearest s whole = refl
+vectors-same probabilities g k p c vector_is.Near s whole = refl
+vectors-same probabilities g k p c vector_is.New s whole = refl
+vectors-same probabilities g k p c vector_is.Split s whole = absurd cc
+
+motion_by-same : (probabilities : List (List ℕ)) (g k : Grid MacroblockMotion) (p : Place) (c : Candidates) (s : State) → is_split (motion_by probabilities g p c s).0.mode ≡ false
+    → motion_by probabilities k p c s ≡ motion_by probabilities g p c s
+unfolding motion_by bind
+motion_by-same probabilities g k p c s whole =
+    let mode = vector_mode c.counts s in
+    let give_motion : List Vector × State → Motion × State = λ v. (record { mode = mode.0; vectors = v.0 }, v.1) in
+    ap give_motion (sym (vectors-same probabilities g k p c mode.0 mode.1 whole))
+
+whole_given : (c : Candidates) (mode : VectorMode) (v : Vector) → GivesVector c mode v → is_split mode ≡ false
+whole_given c vector_is.Zero v given = refl
+whole_given c vector_is.Nearest v given = refl
+whole_given c vector_is.Near v given = refl
+whole_given c vector_is.New v given = refl
+whole_given c vector_is.Split v given = absurd given
+
+-- what is written over a map is read over another with the same candidates
+pub written_over : (h : Header) (g k : Grid MacroblockMotion) (p : Place) (r : Reference) (m : Motion) {old new : Interval} → candidates k p r h.biases ≡ candidates g p r h.biases
+    → CanBeWritten (candidates g p r h.biases) m → Writes (motion_at h g p r) old new m → Writes (motion_at h k p r) old new m
+unfolding motion_at
+written_over h g k p r m same given w = record {
+  bools = w.bools;
+  probabilities = w.probabilities;
+  appended = w.appended;
+  taken = λ s t reads.
+      let was : motion_at h g p r s ≡ (m, t) = w.taken s t reads in
+      let whole : is_split (motion_at h g p r s).0.mode ≡ false = ap (λ (x : Motion × State). is_split x.0.mode) was ∙ whole_given (candidates g p r h.biases) m.mode (last_of m.vectors) given in
+      ap (λ (c : Candidates). motion_by h.probabilities.vectors k p c s) same ∙ motion_by-same h.probabilities.vectors g k p (candidates g p r h.biases) s whole ∙ was;
+}

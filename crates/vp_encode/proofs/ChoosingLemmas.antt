@@ -33,7 +33,7 @@ use Rattle.vp_encode.specs.declared.settings.Settings.{Settings}
 use Rattle.vp_encode.specs.declared.coded_frame.CodedFrame.{CodedFrame}
 use Rattle.vp_encode.specs.CodedFrame.{choice_at, choice_has_y2, AreModesSpelled, AreTokensSpelled, CanBeEncoded, nothing, saved_motion, saved_motions}
 use Rattle.vp_encode.specs.Encoder.{AreAllowed, header_over, log2_of, context_over, search_in, continued, frame_over}
-use Rattle.vp_encode.specs.FrameChoices.{picture_before, AreChosen, AreUnsegmented, macroblock_by, picture_by, IsChosenAt, IsBeforeInRaster, IsChosenUpTo, IsContinuedAt, AreChosenBefore}
+use Rattle.vp_encode.specs.FrameChoices.{picture_before, AreChosen, AreUnsegmented, macroblock_by, picture_by, IsChosenAt, IsBeforeInRaster, IsMotionBefore, IsMotionOf, IsChosenUpTo, IsContinuedAt, AreChosenBefore}
 use Rattle.vp_encode.proofs.RasterOrder.{apart, same_or_not, none_before, before_next, earlier_next, row_over, earlier_row, in_rows}
 use Rattle.vp_encode.proofs.Candidates.{at-mapped, all_still, motion_none, motion_next, motion_row, motion_candidates}
 use Rattle.std.proofs.lemmas.Int.{ints}
@@ -458,10 +458,11 @@ next_row frame row n b all before = record {
 }
 
 pub all_chosen : (frame : FrameSearch) (rows : ℕ) (b : FrameChoices) → rows ≡ b.chosen.rows → AreChosenBefore frame (place rows 0) b
-    → AreChosen frame b.chosen × (b.picture ≡ picture_by frame b.chosen)
+    → AreChosen frame b.chosen × IsMotionOf b.chosen b.motion × (b.picture ≡ picture_by frame b.chosen)
 all_chosen frame rows b all before =
     let made = before.up_to b.chosen (record { columns = refl; rows = refl; same = λ q earlier. refl }) in (
       record { columns = before.columns; rows = before.rows; each = λ p has. made.each p has (in_rows p rows (omega (arith, has.row))) },
+      subst (λ (k : ℕ). IsMotionBefore b.chosen (place k 0) b.motion) all made.motion,
       made.picture
           ∙ ap (λ (k : ℕ). picture_before frame b.chosen (place k 0)) (all ∙ before.rows)
           ∙ rebuilt_before-all frame.source.width frame.source.height (λ q. macroblock_by frame (choice_at b.chosen q)),

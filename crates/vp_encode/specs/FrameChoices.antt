@@ -16,6 +16,7 @@ use Rattle.vp_recon.specs.Rebuilt.{all_rebuilt}
 use Rattle.vp_choose.specs.declared.frame.Choice.{Choice}
 use Rattle.vp_choose.specs.Frame.{FrameSearch, source_by, no_biases, choice_motion}
 use Rattle.vp_choose.specs.Choice.{IsChoice}
+use Rattle.vp_decode.specs.MacroblockInfo.{place}
 use Rattle.vp_encode.specs.declared.frame_choices.FrameChoices.{FrameChoices}
 use Rattle.vp_encode.specs.CodedFrame.{choice_at, saved_motion, saved_motions}
 use Rattle.vp_encode.specs.Choice.{rebuilt_before}
@@ -67,6 +68,10 @@ pub record IsMotionBefore (g : Grid Choice) (p : Place) (k : Grid MacroblockMoti
   pub columns : k.columns ≡ g.columns
   pub rows : k.rows ≡ g.rows
   pub moved : (q : Place) → Has g q → IsBeforeInRaster q p → at intra k q ≡ saved_motion (choice_at g q)
+
+-- k has the motion of all macroblocks
+abbrev pub IsMotionOf : Grid Choice → Grid MacroblockMotion → Type 0
+IsMotionOf g k = IsMotionBefore g (place g.rows 0) k
 
 -- the macroblocks before p are chosen, and have this picture and this motion
 pub record IsChosenUpTo (frame : FrameSearch) (p : Place) (g : Grid Choice) (z : Image) (k : Grid MacroblockMotion)

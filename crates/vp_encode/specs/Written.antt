@@ -1,13 +1,14 @@
 -- The bytes of a packet: tag, first partition and token partitions (RFC 6386, chapters 9.1, 9.5 and 19). The state of
 -- writing is inside the crate. Pinned by the tests `eight_partitions` and `flat_macroblock`.
 use Rattle.std.specs.Prelude.{◌≡◌, ◌<◌, ◌≤◌, ◌⊎◌, ◌*◌, ◌^◌, ◌+◌, ◌-◌, ◌/◌, ◌%◌, ℕ, Bool, true, List, []}
-use Rattle.std.specs.Prelude.{◌∷◌, ◌++◌, length, map, slice_index_or, Option, Some, None, Ok}
+use Rattle.std.specs.Prelude.{◌∷◌, ◌++◌, length, map, slice_index_or, Option, Some, None, Ok, if◌then◌else◌}
 use Rattle.vp_bool.specs.Bools.{State, initial_state}
 use Rattle.vp_bool.specs.Reader.{Reader, ◌>>=◌, give, Reads}
 use Rattle.vp_bool.specs.Intervals.{Interval, whole_interval, interval_bytes}
 use Rattle.vp_bool.specs.Writing.{write_all, AreProbabilities, HasWritten, TakesBools, Writes}
 use Rattle.vp_base.specs.declared.place.Place.{Place}
-use Rattle.vp_base.specs.Grid.{Grid, Has, all as everywhere}
+use Rattle.vp_base.specs.Grid.{Grid, Has, at, with_entry, all as everywhere}
+use Rattle.vp_base.specs.Over.{over}
 use Rattle.vp_head.specs.declared.fields.Tag.{Tag}
 use Rattle.vp_head.specs.declared.fields.KeyTag.{KeyTag}
 use Rattle.vp_head.specs.declared.fields.Header.{Header}
@@ -16,37 +17,58 @@ use Rattle.vp_head.specs.Header.{header}
 use Rattle.vp_head.specs.Saved.{kept_after}
 use Rattle.vp_head.specs.Spelled.{kept_before}
 use Rattle.vp_head.specs.Reference.{is_intra}
-use Rattle.vp_modes.specs.Entry.{Modes}
+use Rattle.vp_modes.specs.Entry.{Modes, plain}
 use Rattle.vp_modes.specs.Spelled.{AreWritableModes}
 use Rattle.vp_motion.specs.Vector.{MacroblockMotion}
 use Rattle.vp_motion.specs.Map.{intra}
 use Rattle.vp_tokens.specs.Blocks.{Blocks, no_blocks_read}
 use Rattle.vp_tokens.specs.Contexts.{Contexts, AreContextsAt}
 use Rattle.vp_tokens.specs.Partitions.{cut_of}
-use Rattle.vp_decode.specs.MacroblockInfo.{MacroblockInfo, modes_in, motion_in, place, maps_read}
+use Rattle.vp_decode.specs.MacroblockInfo.{MacroblockInfo, place, maps_read}
 use Rattle.vp_decode.specs.Frame.{FrameInfo, all_tokens_read, tokens_of}
 use Rattle.vp_decode.specs.TokenRows.{row_seen, row_tokens, readings, tokens_when_read}
 use Rattle.vp_decode.specs.Step.{count_of}
 use Rattle.vp_encode.specs.declared.coded_frame.CodedFrame.{CodedFrame}
-use Rattle.vp_encode.specs.CodedFrame.{coded_choice}
+use Rattle.vp_choose.specs.declared.frame.Choice.{Choice}
+use Rattle.vp_choose.specs.Frame.{choice_motion}
+use Rattle.vp_encode.specs.CodedFrame.{choice_at, coded_choice}
 use Rattle.vp_encode.specs.FrameChoices.{IsBeforeInRaster, IsMotionBefore}
 use Rattle.vp_encode.specs.PacketContents.{AreMapsOf}
 
 -- ---- modes and motion
 
--- these modes and this motion of all macroblocks
-abbrev pub maps_of : Grid Modes → Grid MacroblockMotion → MacroblockInfo
-maps_of modes motion = record { modes = modes; motion = motion }
+-- k with the motion of the macroblock at p; an intra macroblock has none
+abbrev pub with_motion : Grid Choice → Place → Grid MacroblockMotion → Grid MacroblockMotion
+with_motion g p k =
+    if is_intra (choice_at g p).modes.reference then k else with_entry k p (choice_motion (choice_at g p))
 
--- the macroblocks before p are written; those from p on can be written, and have no motion yet
-pub record AreWrittenBefore (c : CodedFrame) (p : Place) (m : MacroblockInfo) : Type 0 where
-  pub columns : m.modes.columns ≡ c.macroblocks.columns
-  pub rows : m.modes.rows ≡ c.macroblocks.rows
-  pub motion : IsMotionBefore c.macroblocks p m.motion
-  pub modes : (q : Place) → Has c.macroblocks q → IsBeforeInRaster q p → modes_in m q ≡ (coded_choice c q).modes
+-- k with the motion of the first macroblocks of a row
+abbrev pub with_row : Grid Choice → ℕ → ℕ → Grid MacroblockMotion → Grid MacroblockMotion
+with_row g columns row = over columns (λ column. with_motion g (place row column))
+
+-- the motion of the macroblocks before p, and no other
+unfoldable pub motion_before : Grid Choice → Place → Grid MacroblockMotion
+motion_before g p =
+    with_row g p.column p.row (over p.row (with_row g g.columns) (everywhere g.columns g.rows intra))
+
+-- these modes, and the motion of the macroblocks before p
+abbrev pub maps_at : CodedFrame → Place → Grid Modes → MacroblockInfo
+maps_at c p m = record { modes = m; motion = motion_before c.macroblocks p }
+
+-- k has the motion of the macroblocks before p, and no other
+pub record IsOnlyMotionBefore (g : Grid Choice) (p : Place) (k : Grid MacroblockMotion) : Type 0 where
+  pub before : IsMotionBefore g p k
+  pub unmoved : (q : Place) → ¬ IsBeforeInRaster q p → at intra k q ≡ intra
+  pub whole : length k.entries ≡ k.rows * k.columns
+
+-- the modes of the macroblocks before p are written; those from p on can be written
+pub record AreWrittenBefore (c : CodedFrame) (p : Place) (m : Grid Modes) : Type 0 where
+  pub columns : m.columns ≡ c.macroblocks.columns
+  pub rows : m.rows ≡ c.macroblocks.rows
+  pub motion : IsOnlyMotionBefore c.macroblocks p (motion_before c.macroblocks p)
+  pub modes : (q : Place) → Has c.macroblocks q → IsBeforeInRaster q p → at plain m q ≡ (coded_choice c q).modes
   pub ahead : (q : Place) → Has c.macroblocks q → ¬ IsBeforeInRaster q p
-      → AreWritableModes c.header m.modes q (coded_choice c q).modes
-  pub unmoved : (q : Place) → ¬ IsBeforeInRaster q p → motion_in m q ≡ intra
+      → AreWritableModes c.header m q (coded_choice c q).modes
 
 -- ---- the first partition
 

@@ -10,7 +10,7 @@ ghost use Rattle.vp_encode.specs.declared.fault.EncodeFault.{EncodeFault};
 ghost use Rattle.vp_encode.specs.declared.fault.PacketError.{PacketError};
 ghost use Rattle.vp_encode.specs.CodedFrame.{CanBeEncoded};
 ghost use Rattle.vp_encode.specs.Encoder.{AreAllowed, next_is_key, kept_for, context_for, frame_for, refreshes_golden};
-ghost use Rattle.vp_encode.specs.FrameChoices.{picture_by};
+ghost use Rattle.vp_encode.specs.FrameChoices.{IsMotionOf, picture_by};
 ghost use Rattle.vp_encode.specs.TooLong.{IsFrameFor, IsTooLong, IsTooLongOver};
 ghost use Rattle.vp_encode.specs.Between.{HasSize, IsPacketOver, IsKeptFor, ShowsNewest};
 ghost use Rattle.vp_encode.specs.Choice.{IsChosen, squared_distance};
@@ -20,13 +20,16 @@ use crate::coded_frame::CodedFrame;
 use crate::distance::squared_distance;
 use crate::fault::{EncodeFault, PacketError, SettingsFault};
 use crate::frame::{ChosenFrame, choose_frame};
-use crate::packet::{write_inter_packet, write_key_packet};
+use crate::packet::{key_tag, write_packet};
 use crate::settings::Settings;
 use std::alloc::{AllocError, Global};
 use std::marker::Model;
 use std::rc::Rc;
 use vp_base::{ByteList, Dim, Limits, Picture};
 use vp_decode::{Decoder, DecoderState};
+use vp_head::Saved;
+use vp_modes::ModeMap;
+use vp_motion::VectorMap;
 use vp_recon::unfiltered_picture_solves_its_equation;
 
 /// An encoded frame.
@@ -163,7 +166,7 @@ impl Encoder {
         unfiltered_picture_solves_its_equation();
         let since = self.next_since();
         let chosen = self.choose(source)?;
-        let packet = self.write(&chosen.coded)?;
+        let packet = self.write(&chosen.coded, &chosen.motion)?;
         let recon = self.decode(packet.as_slice(), chosen.rebuilt, since)?;
         let squared_error = squared_distance(source, &recon);
         Ok(Encoded {
@@ -235,6 +238,7 @@ impl Encoder {
     fn choose(&self, source: &Picture) -> Result<ChosenFrame, AllocError>
         requires { HasSize self.now.dim source.now }
         ensures frame { IfOk result (λ f. IsFrameFor self.now source.now f.coded) }
+        ensures motion { IfOk result (λ f. IsMotionOf f.coded.macroblocks f.motion) }
         ensures rebuilt { IfOk result (λ f. f.rebuilt ≡ picture_by (frame_for self.now source.now)
             f.coded.macroblocks) }
         ensures told { IfOk result (λ f. CanBeEncoded (next_is_key self.now) (context_for self.now).saved
@@ -247,21 +251,27 @@ impl Encoder {
         choose_frame(self.alloc, self.dim, &self.settings, kept, golden, source)
     }
 
-    /// Writes the packet of the next frame.
-    fn write(&self, coded: &CodedFrame) -> Result<ByteList, PacketError>
+    /// Writes the packet of the next frame, which has this motion.
+    fn write(&self, coded: &CodedFrame, motion: &VectorMap) -> Result<ByteList, PacketError>
         requires columns { coded.now.macroblocks.columns ≡ macroblocks self.now.dim.w }
         requires rows { coded.now.macroblocks.rows ≡ macroblocks self.now.dim.h }
         requires told { CanBeEncoded (next_is_key self.now) (context_for self.now).saved
             (context_for self.now).modes coded.now }
+        requires motion { IsMotionOf coded.now.macroblocks motion.now }
         ensures packet { IfOk result (λ v. IsPacketOver self.now.dim (kept_for self.now) coded.now v) }
         ensures too_long { IfErr result (λ e. e ≡ PacketError.TooLong
             → IsTooLongOver self.now.dim (kept_for self.now) coded.now) }
     {
         match self.kept() {
             Some(kept) => {
-                write_inter_packet(self.alloc, self.dim, kept.saved(), kept.segments(), coded)
+                let before = ModeMap::of_segments(self.alloc, kept.segments())?;
+                write_packet(self.alloc, None, kept.saved(), before, coded, motion)
             }
-            None => write_key_packet(self.alloc, self.dim, coded),
+            None => {
+                let before = ModeMap::new(self.alloc, self.dim)?;
+                let key = Some(key_tag(self.dim));
+                write_packet(self.alloc, key, &Saved::defaults(), before, coded, motion)
+            }
         }
     }
 }

@@ -6,7 +6,7 @@ ghost use Rattle.vp_choose.specs.Frame.{search_of};
 ghost use Rattle.vp_decode.specs.Step.{DecoderState};
 ghost use Rattle.vp_encode.specs.CodedFrame.{CanBeEncoded};
 ghost use Rattle.vp_encode.specs.Encoder.{AreAllowed, context_over, header_over, search_in, frame_over};
-ghost use Rattle.vp_encode.specs.FrameChoices.{AreChosen, AreUnsegmented, picture_by};
+ghost use Rattle.vp_encode.specs.FrameChoices.{AreChosen, AreUnsegmented, IsMotionOf, picture_by};
 
 use crate::coded_frame::CodedFrame;
 use crate::frame_choices::choose_macroblocks;
@@ -18,6 +18,7 @@ use vp_base::{Dim, Picture};
 use vp_choose::{FrameSearch, Search};
 use vp_decode::DecoderState;
 use vp_head::Saved;
+use vp_motion::VectorMap;
 use vp_quant::Factors;
 
 /// A frame that is chosen for a source.
@@ -25,6 +26,8 @@ use vp_quant::Factors;
 pub(crate) struct ChosenFrame {
     /// The frame to be written.
     pub coded: CodedFrame,
+    /// The motion of its macroblocks.
+    pub motion: VectorMap,
     /// Its picture before the loop filter.
     pub rebuilt: Picture,
 }
@@ -74,6 +77,7 @@ pub(crate) fn choose_frame(
         (context_over dim (option_map (λ k. k.now) kept.entry)).saved (is_none kept.entry) golden settings.now) }
     ensures chosen { IfOk result (λ f. AreChosen (frame_over (option_map
         (λ k. k.now) kept.entry) settings.now source.now) f.coded.macroblocks) }
+    ensures motion { IfOk result (λ f. IsMotionOf f.coded.macroblocks f.motion) }
     ensures rebuilt { IfOk result (λ f. f.rebuilt ≡ picture_by (frame_over (option_map
         (λ k. k.now) kept.entry) settings.now source.now) f.coded.macroblocks) }
     ensures told { IfOk result (λ f. CanBeEncoded (is_none kept.entry)
@@ -87,13 +91,14 @@ pub(crate) fn choose_frame(
         factors: &factors,
         search: search_in(settings, kept),
     };
-    let (macroblocks, rebuilt) = choose_macroblocks(alloc, &frame)?;
+    let (macroblocks, motion, rebuilt) = choose_macroblocks(alloc, &frame)?;
     let header = header_over(&saved_in(kept), kept.is_none(), golden, settings);
     Ok(ChosenFrame {
         coded: CodedFrame {
             header,
             macroblocks,
         },
+        motion,
         rebuilt,
     })
 }

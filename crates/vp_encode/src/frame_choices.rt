@@ -6,7 +6,7 @@ ghost use Rattle.vp_choose.specs.Frame.{lent_frame};
 ghost use Rattle.vp_choose.specs.Levels.{ArePositive};
 ghost use Rattle.vp_decode.specs.MacroblockInfo.{place};
 ghost use Rattle.vp_encode.specs.CodedFrame.{nothing};
-ghost use Rattle.vp_encode.specs.FrameChoices.{AreChosen, AreChosenBefore, picture_by};
+ghost use Rattle.vp_encode.specs.FrameChoices.{AreChosen, AreChosenBefore, IsMotionOf, picture_by};
 
 use std::alloc::{AllocError, Global};
 use vp_base::{Grid, Picture, Place};
@@ -80,7 +80,7 @@ impl FrameChoices {
     {
         let choice = chooser.choose(&mut self.picture, &self.motion, place);
         self.chosen.set(place, choice);
-        // The motion of an intra macroblock is zero, as that of one that isn't chosen yet.
+        // An intra macroblock has zero motion, like a macroblock that isn't chosen yet.
         let motion = &choice.motion;
         self.motion.set(place, choice.modes.reference, motion.mode, &motion.vectors);
     }
@@ -99,21 +99,22 @@ impl FrameChoices {
     }
 }
 
-/// Chooses all macroblocks of a frame, and returns the choices and their picture before the loop filter. Each is
-/// predicted from the reconstruction of those before it, and its vectors are coded relative to theirs.
+/// Chooses all macroblocks of a frame, and returns the choices, their motion, and their picture before the loop filter.
+/// Each is predicted from the reconstruction of those before it, and its vectors are coded relative to theirs.
 pub(crate) fn choose_macroblocks(
     alloc: Global,
     frame: &FrameSearch,
-) -> Result<(Grid<Choice>, Picture), AllocError>
+) -> Result<(Grid<Choice>, VectorMap, Picture), AllocError>
     requires factors { ArePositive (lent_frame frame.now).factors }
     requires range { IfSome (lent_frame frame.now).search (λ s. s.range ≤ 64) }
     ensures chosen { IfOk result (λ r. AreChosen (lent_frame frame.now) r.0) }
-    ensures rebuilt { IfOk result (λ r. r.1 ≡ picture_by (lent_frame frame.now) r.0) }
+    ensures motion { IfOk result (λ r. IsMotionOf r.0 r.1) }
+    ensures rebuilt { IfOk result (λ r. r.2 ≡ picture_by (lent_frame frame.now) r.0) }
 {
     let mut choosing = FrameChoices::new(alloc, frame)?;
     let mut chooser = FrameChooser::new(alloc, frame);
     for row in 0..choosing.chosen.rows() {
         choosing.row(&mut chooser, row);
     }
-    Ok((choosing.chosen, choosing.picture))
+    Ok((choosing.chosen, choosing.motion, choosing.picture))
 }

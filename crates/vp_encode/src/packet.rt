@@ -6,6 +6,7 @@ ghost use Rattle.vp_modes.specs.Map.{of_segments};
 ghost use Rattle.vp_tokens.specs.Partitions.{lists, AreBelow24Bits};
 ghost use Rattle.vp_decode.specs.Step.{key_context, maps_before};
 ghost use Rattle.vp_encode.specs.CodedFrame.{CanBeEncoded};
+ghost use Rattle.vp_encode.specs.FrameChoices.{IsMotionOf};
 ghost use Rattle.vp_encode.specs.PacketContents.{key_tag, IsKeyFramePacket, IsInterFramePacket};
 ghost use Rattle.vp_encode.specs.Written.{IsFirst, IsPutTogether, IsPacket, HasLongTokenPart, HasLongPartition};
 ghost use Rattle.vp_encode.specs.Written.{encoder_tag, kept_by};
@@ -13,7 +14,7 @@ ghost use Rattle.vp_encode.specs.declared.fault.PacketError.{PacketError};
 
 use crate::coded_frame::CodedFrame;
 use crate::fault::PacketError;
-use crate::modes_and_motion::write_modes_and_motion;
+use crate::modes_and_motion::{motion_of, write_modes_and_motion};
 use crate::tag::put_tag;
 use crate::tokens::{finish, write_tokens};
 use std::alloc::{AllocError, Global};
@@ -47,13 +48,10 @@ pub fn write_key_packet(
         → HasLongPartition (Some (key_tag dim)) (key_context dim).saved
         (maps_before (key_context dim).modes) coded.now) }
 {
-    let key = KeyTag {
-        dim,
-        horizontal_scale: 0,
-        vertical_scale: 0,
-    };
     let before = ModeMap::new(alloc, dim)?;
-    write_packet(alloc, Some(key), dim, &Saved::defaults(), before, coded)
+    let motion = motion_of(alloc, dim, coded)?;
+    let key = Some(key_tag(dim));
+    write_packet(alloc, key, &Saved::defaults(), before, coded, &motion)
 }
 
 /// Writes the packet of an inter frame, coded relative to the saved values and the segment map. Its size must be that
@@ -77,27 +75,39 @@ pub fn write_inter_packet(
         → HasLongPartition None saved.now (maps_before (of_segments segments.now)) coded.now) }
 {
     let before = ModeMap::of_segments(alloc, segments)?;
-    write_packet(alloc, None, dim, saved, before, coded)
+    let motion = motion_of(alloc, dim, coded)?;
+    write_packet(alloc, None, saved, before, coded, &motion)
 }
 
-fn write_packet(
+/// Returns the key part of a tag of this size, without scaling.
+pub(crate) fn key_tag(dim: Dim) -> KeyTag
+    ensures { result ≡ key_tag dim }
+{
+    KeyTag {
+        dim,
+        horizontal_scale: 0,
+        vertical_scale: 0,
+    }
+}
+
+/// Writes the packet of a frame with this motion, coded relative to the saved values and the modes before it.
+pub(crate) fn write_packet(
     alloc: Global,
     key: Option<KeyTag>,
-    dim: Dim,
     saved: &Saved,
     before: ModeMap,
     coded: &CodedFrame,
+    motion: &VectorMap,
 ) -> Result<ByteList, PacketError>
-    requires columns { coded.now.macroblocks.columns ≡ macroblocks dim.w }
-    requires rows { coded.now.macroblocks.rows ≡ macroblocks dim.h }
-    requires before_columns { before.columns ≡ macroblocks dim.w }
-    requires before_rows { before.rows ≡ macroblocks dim.h }
+    requires before_columns { before.columns ≡ coded.now.macroblocks.columns }
+    requires before_rows { before.rows ≡ coded.now.macroblocks.rows }
+    requires motion { IsMotionOf coded.now.macroblocks motion.now }
     requires told { CanBeEncoded (is_some key) (kept_by saved.now key) before coded.now }
     ensures packet { IfOk result (λ v. IsPacket key saved.now (maps_before before) coded.now v) }
     ensures too_long { IfErr result (λ e. e ≡ PacketError.TooLong
         → HasLongPartition key saved.now (maps_before before) coded.now) }
 {
-    let first = write_first(alloc, key, dim, saved, before, coded)?;
+    let first = write_first(alloc, key, saved, before, coded, motion)?;
     if first.len() > MOST_FIRST {
         return Err(PacketError::TooLong);
     }
@@ -109,15 +119,14 @@ fn write_packet(
 fn write_first(
     alloc: Global,
     key: Option<KeyTag>,
-    dim: Dim,
     saved: &Saved,
     before: ModeMap,
     coded: &CodedFrame,
+    motion: &VectorMap,
 ) -> Result<Vec<u8>, AllocError>
-    requires columns { coded.now.macroblocks.columns ≡ macroblocks dim.w }
-    requires rows { coded.now.macroblocks.rows ≡ macroblocks dim.h }
-    requires before_columns { before.columns ≡ macroblocks dim.w }
-    requires before_rows { before.rows ≡ macroblocks dim.h }
+    requires before_columns { before.columns ≡ coded.now.macroblocks.columns }
+    requires before_rows { before.rows ≡ coded.now.macroblocks.rows }
+    requires motion { IsMotionOf coded.now.macroblocks motion.now }
     requires told { CanBeEncoded (is_some key) (kept_by saved.now key) before coded.now }
     ensures { IfOk result (λ v. IsFirst saved.now (encoder_tag key 0) (maps_before before) coded.now v.items) }
 {
@@ -128,12 +137,9 @@ fn write_first(
         key,
     };
     let mut modes = before;
-    // Vectors are written beside those of their neighbours, as a decoder reads them: in a map of their own, since `coded`
-    // may be of any caller.
-    let mut motion = VectorMap::new(alloc, dim)?;
     let mut encoder = BoolEncoder::new(alloc);
     coded.header.write(saved, &tag, &mut encoder)?;
-    write_modes_and_motion(coded, &mut modes, &mut motion, &mut encoder)?;
+    write_modes_and_motion(coded, &mut modes, motion, &mut encoder)?;
     let bytes = finish(encoder)?;
     Ok(bytes)
 }

@@ -9,4 +9,4 @@ returns-clause-packet c =
     let told = c.requires.told in
     IfOk-weaker c.write_packet.result _ _
     (λ v x. key_said c.args.dim c.args.coded.now v x (λ p inside. ap is_intra ((told.modes p inside).reference told.header.kind)))
-    (rw (c.defaults.ensures, c.in_ok-before.ensures) at c.write_packet.ensures.packet)
+    (rw (c.defaults.ensures, c.in_ok-before.ensures, c.key_tag.ensures) at c.write_packet.ensures.packet)
