@@ -25,7 +25,7 @@ module _ (e : MacroblockMotion) (v : Vector) (are : e.vectors ≡ replicate 16 v
   chroma_is k below =
       let first : ℕ = 8 * (k / 2) + 2 * (k % 2) in
       rw (
-        vector_at (8 * (k / 2) + 2 * (k % 2)) (omega arith),
+        vector_at (8 * (k / 2) + 2 * (k % 2) + 0) (omega arith),
         vector_at (8 * (k / 2) + 2 * (k % 2) + 1) (omega arith),
         vector_at (8 * (k / 2) + 2 * (k % 2) + 4) (omega arith),
         vector_at (8 * (k / 2) + 2 * (k % 2) + 5) (omega arith),
