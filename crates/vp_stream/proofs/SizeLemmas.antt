@@ -78,7 +78,7 @@ again_is : (before : Option Image) (p : Image) (z : Option (ℕ × ℕ)) → IfS
 again_is None p z h e = absurd cc
 again_is (Some q) p z h e = h ∙ ap (λ (x : Image). Some (size_of x)) (let same : q ≡ p = cc in same)
 
-repeated_sized : (s : Option DecoderState) (z : Option (ℕ × ℕ)) → HasSize s z → IsSized (repeated_frame (current_state s)) z
+repeated_sized : (s : Option DecoderState) (z : Option (ℕ × ℕ)) → HasSize s z → IsSized (repeated_frame (ok_or s NoReference)) z
 repeated_sized None z h = faulty NoReference z
 repeated_sized (Some k) z h = record { kept = h; shown = λ p e. again_is k.shown p z h.1 e }
 
