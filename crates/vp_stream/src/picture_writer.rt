@@ -12,7 +12,6 @@ ghost use Rattle.vp_stream.specs.Transcode.{first_size, has_size, line_before, t
 
 use crate::fault::Interruption;
 use crate::form::Form;
-use crate::shown_planes::ShownPlanes;
 use std::alloc::Global;
 use std::io::Write;
 use std::marker::Model;
@@ -28,7 +27,7 @@ pub struct PictureWriter {
     alloc: Global,
     form: Form,
     size: Option<Dim>,
-    /// Memory for the pixels of the last picture that was copied to be written. It is used again for the next one of the
+    /// Memory for the pixels of the last picture, if that was written. It is used again for the next picture of the
     /// same size, and freed where no picture is written.
     text: Vec<u8>,
 }
@@ -84,7 +83,7 @@ impl PictureWriter {
         }
     }
 
-    // Writes a picture. As I420 its planes are written where they are, without a copy, if all their columns are shown.
+    // Writes a picture.
     fn write<W: Write>(
         &mut self,
         head: IvfHead,
@@ -103,12 +102,6 @@ impl PictureWriter {
         ensures quiet { result ≢ Err Interruption.Device →
             counted_failures writer.new ≡ counted_failures writer.old }
     {
-        if let Form::I420 = self.form {
-            if let Some(planes) = ShownPlanes::of(picture) {
-                planes.put(writer)?;
-                return Ok(());
-            }
-        }
         let mut text = mem::replace(&mut self.text, Vec::new(self.alloc));
         picture.crop_into(self.alloc, &mut text)?;
         let written = self.write_text(head, picture, &text, writer);
