@@ -36,7 +36,7 @@ pub struct FrameSearch<'a> {
 pub struct Choice {
     /// Whether it is skipped, its reference frame, and the modes of an intra macroblock.
     pub modes: Modes,
-    /// The motion of an inter macroblock. Zero, and meaningless, for an intra macroblock.
+    /// The motion of an inter macroblock. That of an intra macroblock is chosen as zero, and is not written.
     pub motion: Motion,
     /// The levels of its blocks. A skipped macroblock has no tokens.
     pub tokens: Tokens,

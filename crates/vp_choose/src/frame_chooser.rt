@@ -27,7 +27,7 @@ use std::marker::Model;
 use vp_base::{Picture, Place};
 use vp_motion::VectorMap;
 use vp_recon::MacroblockPixels;
-use vp_search::{cut_block, macroblock};
+use vp_search::{cut_block, cut_luma};
 
 /// Copies the source pixels of the macroblock at `place`.
 fn cut_blocks(source: &Picture, place: Place) -> MacroblockPixels
@@ -36,7 +36,7 @@ fn cut_blocks(source: &Picture, place: Place) -> MacroblockPixels
 {
     let _known = source.dim();
     MacroblockPixels {
-        luma: macroblock(source.plane(0), place),
+        luma: cut_luma(source.plane(0), place),
         u: cut_block::<8, 64>(source.plane(1), place),
         v: cut_block::<8, 64>(source.plane(2), place),
     }

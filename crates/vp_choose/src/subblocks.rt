@@ -19,7 +19,7 @@ use vp_base::{Picture, Place};
 use vp_intra::predict_sub_modes;
 use vp_quant::{Factors, ShortFactors};
 use vp_recon::rebuild_subblock_from;
-use vp_search::{first_least, macroblock, sad4};
+use vp_search::{cut_luma, first_least, sad4};
 use vp_tables::SubMode;
 use vp_tokens::Block;
 
@@ -177,9 +177,9 @@ pub(crate) fn choose_subblocks(
     ensures below { IfSome result (λ s. s.subblocks.cost < limit) }
 {
     let _known = [picture.plane(0).width(), picture.plane(0).height()];
-    let kept = macroblock(picture.plane(0), place);
+    let kept = cut_luma(picture.plane(0), place);
     let chosen = choose_all(source, factors, picture, place, limit);
-    let luma = macroblock(picture.plane(0), place);
+    let luma = cut_luma(picture.plane(0), place);
     picture.write_block::<16>(0, 16 * place.column, 16 * place.row, &kept);
     match chosen {
         Some(subblocks) if subblocks.cost < limit => Some(RebuiltSubblocks { subblocks, luma }),

@@ -54,7 +54,7 @@ impl EncodeProgress {
     }
 
     /// Encodes the next picture, which must have the encoder's size.
-    pub(crate) fn picture(&mut self, picture: &Picture) -> Result<(), EncodeAllFault>
+    pub(crate) fn encode(&mut self, picture: &Picture) -> Result<(), EncodeAllFault>
         requires width { picture.now.width ≡ self.old.encoder.dim.w }
         requires height { picture.now.height ≡ self.old.encoder.dim.h }
         ensures { TakesPicture self.old picture.now result self.new }

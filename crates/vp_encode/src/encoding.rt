@@ -135,7 +135,7 @@ fn encode_pictures<R: Read, T: Watcher>(
 {
     let mut source = Source::open(alloc, reader, head);
     while let Some(picture) = source.next_picture()? {
-        run.picture(&picture)?;
+        run.encode(&picture)?;
         watcher.encoded(&head, run.so_far());
     }
     Ok(())

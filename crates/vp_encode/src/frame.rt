@@ -59,14 +59,14 @@ fn saved_in(kept: Option<&DecoderState>) -> Saved
     }
 }
 
-/// Chooses the coding of a frame: a key frame if there is no state, else an inter frame. `golden` says whether an inter
-/// frame refreshes golden.
+/// Chooses the coding of a frame: a key frame if there is no state, else an inter frame. `refresh_golden` says
+/// whether an inter frame refreshes golden.
 pub(crate) fn choose_frame(
     alloc: Global,
     dim: Dim,
     settings: &Settings,
     kept: Option<&DecoderState>,
-    golden: bool,
+    refresh_golden: bool,
     source: &Picture,
 ) -> Result<ChosenFrame, AllocError>
     requires allowed { AreAllowed settings.now }
@@ -74,7 +74,7 @@ pub(crate) fn choose_frame(
     requires height { source.now.height ≡ dim.h }
     requires segments { IfSome (option_map (λ k. k.now) kept) (λ k. AreUnsegmented dim k.segments) }
     ensures header { IfOk result (λ f. f.coded.header ≡ header_over
-        (context_over dim (option_map (λ k. k.now) kept.entry)).saved (is_none kept.entry) golden settings.now) }
+        (context_over dim (option_map (λ k. k.now) kept.entry)).saved (is_none kept.entry) refresh_golden settings.now) }
     ensures chosen { IfOk result (λ f. AreChosen (frame_over (option_map
         (λ k. k.now) kept.entry) settings.now source.now) f.coded.macroblocks) }
     ensures motion { IfOk result (λ f. IsMotionOf f.coded.macroblocks f.motion) }
@@ -92,7 +92,7 @@ pub(crate) fn choose_frame(
         search: search_in(settings, kept),
     };
     let (macroblocks, motion, rebuilt) = choose_macroblocks(alloc, &frame)?;
-    let header = header_over(&saved_in(kept), kept.is_none(), golden, settings);
+    let header = header_over(&saved_in(kept), kept.is_none(), refresh_golden, settings);
     Ok(ChosenFrame {
         coded: CodedFrame {
             header,

@@ -90,6 +90,7 @@ pub(crate) fn header_over(saved: &Saved, key: bool, golden: bool, settings: &Set
         log2_partitions: log2_of(settings.partitions),
         quantiser: quantiser(settings.qi),
         updates: updates(key, golden),
+        // The motion is chosen so that it can be coded without sign biases.
         biases: SignBiases {
             golden: false,
             alt: false,

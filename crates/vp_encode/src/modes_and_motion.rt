@@ -60,7 +60,7 @@ pub(crate) fn motion_of(
 }
 
 /// Writes the modes of the macroblock at a place, and its motion if it is an inter macroblock, and stores the modes.
-fn write_macroblock(
+fn write_modes_and_motion_at(
     coded: &CodedFrame,
     modes: &mut ModeMap,
     motion: &VectorMap,
@@ -98,7 +98,7 @@ fn write_macroblock(
 }
 
 /// Writes a row of macroblocks.
-fn write_row(
+fn write_row_of_modes(
     coded: &CodedFrame,
     modes: &mut ModeMap,
     motion: &VectorMap,
@@ -114,7 +114,7 @@ fn write_row(
     ensures written { OnOk result (AreWrittenBefore coded.now (place (row + 1) 0) modes.new) }
 {
     for column in 0..coded.macroblocks.columns() {
-        write_macroblock(coded, modes, motion, Place { column, row }, e)?;
+        write_modes_and_motion_at(coded, modes, motion, Place { column, row }, e)?;
     }
     Ok(())
 }
@@ -135,7 +135,7 @@ pub(crate) fn write_modes_and_motion(
     ensures written { OnOk result (AreWrittenBefore coded.now (place coded.now.macroblocks.rows 0) modes.new) }
 {
     for row in 0..coded.macroblocks.rows() {
-        write_row(coded, modes, motion, row, e)?;
+        write_row_of_modes(coded, modes, motion, row, e)?;
     }
     Ok(())
 }

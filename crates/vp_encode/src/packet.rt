@@ -130,6 +130,7 @@ fn write_first(
     requires told { CanBeEncoded (is_some key) (kept_by saved.now key) before coded.now }
     ensures { IfOk result (λ v. IsFirst saved.now (encoder_tag key 0) (maps_before before) coded.now v.items) }
 {
+    // Of the tag, the header looks at no more than whether it is a key frame's.
     let tag = Tag {
         version: 0,
         show: true,

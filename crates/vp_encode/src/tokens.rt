@@ -32,7 +32,7 @@ fn has_y2(macroblock: &Choice) -> bool
 }
 
 /// Writes the tokens of a row of macroblocks into the row's partition.
-fn write_row(
+fn write_token_row(
     coded: &CodedFrame,
     row: usize,
     contexts: &mut Contexts,
@@ -64,7 +64,7 @@ fn write_row(
 }
 
 /// Writes the tokens of all rows. Row r goes into partition r modulo the number of partitions (RFC 6386, chapter 9.5).
-fn write_rows(
+fn write_token_rows(
     coded: &CodedFrame,
     contexts: &mut Contexts,
     encoders: &mut [BoolEncoder],
@@ -81,7 +81,7 @@ fn write_rows(
     for row in 0..coded.macroblocks.rows() {
         let at = row % encoders.len();
         let encoder = &mut encoders[at];
-        write_row(coded, row, contexts, encoder)?;
+        write_token_row(coded, row, contexts, encoder)?;
     }
     Ok(())
 }
@@ -129,7 +129,7 @@ pub(crate) fn write_tokens(alloc: Global, coded: &CodedFrame) -> Result<Vec<Vec<
 {
     let mut contexts = Contexts::new(alloc, coded.macroblocks.columns())?;
     let mut encoders = new_encoders(alloc, partition_count(coded.header.log2_partitions))?;
-    write_rows(coded, &mut contexts, &mut encoders)?;
+    write_token_rows(coded, &mut contexts, &mut encoders)?;
     let parts = finish_all(alloc, encoders)?;
     Ok(parts)
 }

@@ -26,8 +26,8 @@ pub fn cut_block<const SIDE: usize, const AREA: usize>(plane: &Plane, place: Pla
     pixels
 }
 
-/// Copies the luma macroblock at `place`, in raster order.
-pub fn macroblock(plane: &Plane, place: Place) -> [u8; 256]
+/// Copies the luma pixels of the macroblock at `place`, in raster order.
+pub fn cut_luma(plane: &Plane, place: Place) -> [u8; 256]
     requires columns { 16 * place.column + 16 ≤ plane.now.width }
     requires rows { 16 * place.row + 16 ≤ plane.now.height }
     ensures { (r c : ℕ) → r < 16 → c < 16 → slice_index result (r * 16 + c) ≡ macroblock_pixels plane.now place r c }

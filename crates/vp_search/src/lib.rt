@@ -26,7 +26,7 @@ mod unbounded_row;
 mod vector;
 mod window;
 
-pub use block::{cut_block, macroblock};
+pub use block::{cut_block, cut_luma};
 pub use difference::{sad4, sad8, sad16};
 pub use laws::{least_vector_is_one, refined_vector_is_one, whole_vectors_are_predicted};
 pub use least::first_least;

@@ -7,7 +7,7 @@ ghost use Rattle.vp_search.specs.Blocks.{macroblock_pixels, whole_cost, quarter_
 ghost use Rattle.vp_search.specs.Least.{IsLeast};
 ghost use Rattle.vp_search.specs.Refined.{IsRefined};
 
-use crate::block::macroblock;
+use crate::block::cut_luma;
 use crate::difference::sad16;
 use crate::refinement::refine_found;
 use crate::searcher::Searcher;
@@ -44,7 +44,7 @@ pub fn full_search(source: &Plane, reference: &Plane, place: Place, range: u8) -
         (quarters result.vector) }
 {
     let _known = [source.width(), source.height()];
-    search_block(&macroblock(source, place), reference, place, range)
+    search_block(&cut_luma(source, place), reference, place, range)
 }
 
 /// Refines a vector as `refine_found` does, for the source macroblock at `place`.
@@ -61,7 +61,7 @@ pub fn refine(source: &Plane, reference: &Plane, place: Place, centre: WholeVect
     ensures column { unsigned_abs (result.vector.column -ℤ pos 4 *ℤ centre.column) ≤ 3 }
 {
     let _known = [source.width(), source.height()];
-    refine_block(&macroblock(source, place), reference, place, centre)
+    refine_block(&cut_luma(source, place), reference, place, centre)
 }
 
 /// Refines a vector as `refine_found` does, which makes its cost.

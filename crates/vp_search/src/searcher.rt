@@ -144,7 +144,7 @@ impl<'a> Searcher<'a> {
 }
 
 /// Measures the zero vector alone, before any window is cut: Some if it leads to the very pixels of the block, as then
-/// it costs nothing and no vector is shorter. In a picture that moves, most blocks are left after twelve rows.
+/// it costs nothing and no vector is shorter. In a picture that moves, most blocks differ within twelve rows.
 fn still(block: &[u8; 256], reference: &Plane, place: Place) -> Option<Found>
     requires columns { 16 * place.column ≤ 16384 }
     requires rows { 16 * place.row ≤ 16384 }

@@ -21,15 +21,15 @@ kept_is factors place p now next xs whole r written are =
 
 pub returns-in_default-clause-kept : goal.returns-in_default-clause-kept
 returns-in_default-clause-kept c =
-    kept_is c.args.factors.now c.args.place c.args.picture.now c.choose_all-chosen.new.picture c.write_block.new.self c.macroblock-kept.result
+    kept_is c.args.factors.now c.args.place c.args.picture.now c.choose_all-chosen.new.picture c.write_block.new.self c.cut_luma-kept.result
     (rw (← c.plane.ensures) c.width.ensures.whole) c.choose_all-chosen.ensures.rebuilt c.write_block.ensures
-    (λ r j rin jin. c.macroblock-kept.ensures r j rin jin ∙ rw c.plane-3.ensures)
+    (λ r j rin jin. c.cut_luma-kept.ensures r j rin jin ∙ rw c.plane-3.ensures)
 
 pub returns-in-Some-clause-kept : goal.returns-in-Some-clause-kept
 returns-in-Some-clause-kept c =
-    kept_is c.args.factors.now c.args.place c.args.picture.now c.choose_all-chosen.new.picture c.write_block.new.self c.macroblock-kept.result
+    kept_is c.args.factors.now c.args.place c.args.picture.now c.choose_all-chosen.new.picture c.write_block.new.self c.cut_luma-kept.result
     (rw (← c.plane.ensures) c.width.ensures.whole) c.choose_all-chosen.ensures.rebuilt c.write_block.ensures
-    (λ r j rin jin. c.macroblock-kept.ensures r j rin jin ∙ rw c.plane-3.ensures)
+    (λ r j rin jin. c.cut_luma-kept.ensures r j rin jin ∙ rw c.plane-3.ensures)
 
 pub returns-in-Some-clause-rebuilt : goal.returns-in-Some-clause-rebuilt
 returns-in-Some-clause-rebuilt c =
@@ -39,7 +39,7 @@ returns-in-Some-clause-rebuilt c =
     let now : c.choose_all-chosen.new.picture ≡ with_plane c.args.picture.now 0 (after_subblocks c.args.factors.now c.args.place p s 16) =
     rw c.in-Some.is at c.choose_all-chosen.ensures.all_rebuilt in
     record {
-      is = written_back c.args.factors.now c.args.place p s 16 (λ r j. get_or c.macroblock-luma.result (r * 16 + j) 0) (omega arith) whole
-          (λ r j rin jin. c.macroblock-luma.ensures r j rin jin ∙ rw (c.plane-4.ensures, now));
+      is = written_back c.args.factors.now c.args.place p s 16 (λ r j. get_or c.cut_luma-luma.result (r * 16 + j) 0) (omega arith) whole
+          (λ r j rin jin. c.cut_luma-luma.ensures r j rin jin ∙ rw (c.plane-4.ensures, now));
       writable = rw c.in-Some.is at c.choose_all-chosen.ensures.writable;
     }

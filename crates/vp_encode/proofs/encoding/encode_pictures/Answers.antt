@@ -42,26 +42,26 @@ returns-in_err-picture-clause-ends g c = λ front line.
     let all = Consumes-trans _ _ _ inv.0 e.0 inv.2 e.1 in
     rw (p.1, p.2) (inv.0 ++ e.0, inv.1, search (rules, all), inv.8, e.2)
 
-pub returns-in_err-picture-2-clause-ends : goal.returns-in_err-picture-2-clause-ends
-returns-in_err-picture-2-clause-ends g c = λ front line.
+pub returns-in_err-encode-clause-ends : goal.returns-in_err-encode-clause-ends
+returns-in_err-encode-clause-ends g c = λ front line.
     let inv = c.loop-picture.invariant in
     let b : IsBegun front (head_model c.args.head) c.args.run.now = record { line = line; first = c.requires.start; allowed = c.requires.allowed; width = c.requires.width; height = c.requires.height } in
-    let p = err_from_is_err_and c.from_residual-in_err-picture-2.result c.from_residual-in_err-picture-2.ensures.1 in
-    let s = shows g (goal.at.returns-in_err-picture-2-clause-ends g c).In-Some in
+    let p = err_from_is_err_and c.from_residual-in_err-encode.result c.from_residual-in_err-encode.ensures.1 in
+    let s = shows g (goal.at.returns-in_err-encode-clause-ends g c).In-Some in
     let all = Consumes-trans _ _ _ inv.0 s.shown.taken inv.2 s.shown.consumed in
     rw (p.1, p.2) (
       inv.0 ++ s.shown.taken,
       inv.1,
       search (rules, all),
       inv.8,
-      refused_behind _ _ _ _ _ _ b inv.3 _ _ _ s c.in_err-picture-2.field-0.0 c.in_err-picture-2.ensures.0,
+      refused_behind _ _ _ _ _ _ b inv.3 _ _ _ s c.in_err-encode.field-0.0 c.in_err-encode.ensures.0,
     )
 
 pub loop-picture-preserved : goal.loop-picture-preserved
 loop-picture-preserved g c =
     let inv = c.loop-picture.invariant in
     let s = shows g (goal.at.loop-picture-preserved g c).In-Some in
-    let f = c.in_ok-picture-2.ensures in
+    let f = c.in_ok-encode.ensures in
     let next = at_next _ _ _ _ _ _ _ _ _ inv.3 s f.0 f.1 f.2 in (
       inv.0 ++ s.shown.taken,
       inv.1 ++ f.0 ∷ [],
@@ -74,7 +74,7 @@ loop-picture-preserved g c =
       told_more (g.T.Watcher.told c.args.watcher.now) (g.T.Watcher.told c.loop-picture.watcher) (g.T.Watcher.told c.encoded.new.self) inv.1 f.0 c.so_far.result inv.8
           (so_far_at _ _ _ _ _ next c.so_far.result c.so_far.ensures) c.encoded.ensures,
       reads_then 0 _ _ _ _ _ _ inv.9 (rw c.in-Some.is at c.in_ok-picture.ensures.reads),
-      within_next (head_model c.args.head) (head_of c.loop-picture.source) _ _ _ c.loop-picture.run c.picture-in-Some.new.self f.0 inv.5 f.2 inv.10 c.in_ok-picture.ensures.within,
+      within_next (head_model c.args.head) (head_of c.loop-picture.source) _ _ _ c.loop-picture.run c.encode.new.self f.0 inv.5 f.2 inv.10 c.in_ok-picture.ensures.within,
     )
 
 pub returns-clause-ends : goal.returns-clause-ends
@@ -96,13 +96,13 @@ returns-in_err-picture-clause-within g c =
     let w = within_more _ c.args.run.now.limits.packets (head_model c.args.head) (head_of c.loop-picture.source) _ _ _ (few_now _ _ _ _ _ inv.3) inv.5 inv.10 c.in_err-picture.ensures.within in
     search (rules, w)
 
-pub returns-in_err-picture-2-clause-reads : goal.returns-in_err-picture-2-clause-reads
-returns-in_err-picture-2-clause-reads g c =
+pub returns-in_err-encode-clause-reads : goal.returns-in_err-encode-clause-reads
+returns-in_err-encode-clause-reads g c =
     let r = reads_then 1 _ _ _ _ _ _ c.loop-picture.invariant.9 (reads_more 0 1 _ _ _ _ none_at_most (rw c.in-Some.is at c.in_ok-picture.ensures.reads)) in
     (r.0, search (rules, r.1), search (rules, r.2))
 
-pub returns-in_err-picture-2-clause-within : goal.returns-in_err-picture-2-clause-within
-returns-in_err-picture-2-clause-within g c =
+pub returns-in_err-encode-clause-within : goal.returns-in_err-encode-clause-within
+returns-in_err-encode-clause-within g c =
     let inv = c.loop-picture.invariant in
     let w = within_more _ c.args.run.now.limits.packets (head_model c.args.head) (head_of c.loop-picture.source) _ _ _ (few_now _ _ _ _ _ inv.3) inv.5 inv.10 c.in_ok-picture.ensures.within in
     search (rules, w)

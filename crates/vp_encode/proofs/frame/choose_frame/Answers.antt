@@ -5,7 +5,7 @@ use Rattle.vp_encode.proofs.frame.choose_frame.Goals as goal
 
 pub returns-clause-told : goal.returns-clause-told
 returns-clause-told c =
-    told_as (λ k. k.now) c.args.kept c.args.dim c.args.golden c.is_none.result c.saved_in.result c.args.settings.now c.args.source.now _ c.in_ok-macroblocks.macroblocks c.header_over-header.result
+    told_as (λ k. k.now) c.args.kept c.args.dim c.args.refresh_golden c.is_none.result c.saved_in.result c.args.settings.now c.args.source.now _ c.in_ok-macroblocks.macroblocks c.header_over-header.result
     c.requires.allowed c.requires.width c.requires.height c.requires.segments
     (λ i. record {
       source = c.in_ok-source.ensures.value i;

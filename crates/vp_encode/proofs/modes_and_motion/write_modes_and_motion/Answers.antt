@@ -12,8 +12,8 @@ loop-row-init c = record { so_far = rows-unwritten _ _ _; before = c.requires.be
 
 pub loop-row-preserved : goal.loop-row-preserved
 loop-row-preserved c = record {
-  so_far = rows-written c.loop-row.row _ _ _ _ c.loop-row.invariant.so_far c.in_ok-write_row.ensures.writes;
-  before = c.in_ok-write_row.ensures.written;
+  so_far = rows-written c.loop-row.row _ _ _ _ c.loop-row.invariant.so_far c.in_ok-write_row_of_modes.ensures.writes;
+  before = c.in_ok-write_row_of_modes.ensures.written;
 }
 
 pub returns-clause-writes : goal.returns-clause-writes

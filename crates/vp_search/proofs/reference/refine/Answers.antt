@@ -9,11 +9,11 @@ use Rattle.vp_search.proofs.reference.refine.Goals as goal
 pub returns-clause-cost : goal.returns-clause-cost
 returns-clause-cost c =
     c.refine_block.ensures.cost
-    ∙ quarter_cost-same (block16 c.macroblock.result) (macroblock_pixels c.args.source.now c.args.place) c.args.reference.now c.args.place c.refine_block.result.vector c.macroblock.ensures
+    ∙ quarter_cost-same (block16 c.cut_luma.result) (macroblock_pixels c.args.source.now c.args.place) c.args.reference.now c.args.place c.refine_block.result.vector c.cut_luma.ensures
 
 pub returns-clause-refined : goal.returns-clause-refined
 returns-clause-refined c =
-    refined_same (quarter_cost (block16 c.macroblock.result) c.args.reference.now c.args.place) (quarter_cost (macroblock_pixels c.args.source.now c.args.place) c.args.reference.now c.args.place)
+    refined_same (quarter_cost (block16 c.cut_luma.result) c.args.reference.now c.args.place) (quarter_cost (macroblock_pixels c.args.source.now c.args.place) c.args.reference.now c.args.place)
     c.args.centre c.refine_block.result.vector
-    (λ (v : QuarterVector). quarter_cost-same (block16 c.macroblock.result) (macroblock_pixels c.args.source.now c.args.place) c.args.reference.now c.args.place v c.macroblock.ensures)
+    (λ (v : QuarterVector). quarter_cost-same (block16 c.cut_luma.result) (macroblock_pixels c.args.source.now c.args.place) c.args.reference.now c.args.place v c.cut_luma.ensures)
     c.refine_block.ensures.refined

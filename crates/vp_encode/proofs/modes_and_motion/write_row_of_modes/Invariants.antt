@@ -2,7 +2,7 @@ use Rattle.vp_bool.specs.Reader.{rows}
 use Rattle.vp_bool.specs.Writing.{Writes}
 use Rattle.vp_decode.specs.MacroblockInfo.{macroblock_read, place}
 use Rattle.vp_encode.specs.Written.{AreWrittenBefore, maps_at}
-use Rattle.vp_encode.proofs.modes_and_motion.write_row.Given as goal
+use Rattle.vp_encode.proofs.modes_and_motion.write_row_of_modes.Given as goal
 
 abbrev pub invariant-loop-column : goal.invariant-loop-column
 invariant-loop-column l = record {

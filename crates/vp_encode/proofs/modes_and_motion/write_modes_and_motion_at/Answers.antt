@@ -8,7 +8,7 @@ use Rattle.vp_choose.specs.declared.frame.Choice.{Choice}
 use Rattle.vp_encode.specs.CodedFrame.{nothing}
 use Rattle.vp_encode.proofs.RasterOrder.{not_itself}
 use Rattle.vp_encode.proofs.ContentLemmas.{gives, intra_written, inter_written, written_next}
-use Rattle.vp_encode.proofs.modes_and_motion.write_macroblock.Goals as goal
+use Rattle.vp_encode.proofs.modes_and_motion.write_modes_and_motion_at.Goals as goal
 
 pub write_modes-requires-clause-spelled : goal.write_modes-requires-clause-spelled
 write_modes-requires-clause-spelled c =

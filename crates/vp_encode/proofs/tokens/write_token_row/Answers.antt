@@ -1,7 +1,7 @@
 use Rattle.std.proofs.Common.{◌∙◌, refl, ap, arith}
 use Rattle.vp_choose.specs.declared.frame.Choice.{Choice}
 use Rattle.vp_encode.proofs.TokenLemmas.{token_row_none, token_row_next}
-use Rattle.vp_encode.proofs.tokens.write_row.Goals as goal
+use Rattle.vp_encode.proofs.tokens.write_token_row.Goals as goal
 
 pub loop-column-init : goal.loop-column-init
 loop-column-init c = record { wide = refl; so_far = λ f g plan wide high stands. token_row_none f c.args.coded.now c.args.row g c.args.contexts.now c.args.e.now stands }

@@ -8,15 +8,15 @@ use Rattle.vp_decode.specs.MacroblockInfo.{MacroblockInfo, macroblock_read, row_
 use Rattle.vp_encode.specs.Written.{maps_at, motion_before}
 use Rattle.vp_encode.proofs.Candidates.{motion_before-row}
 use Rattle.vp_encode.proofs.ContentLemmas.{written_row}
-use Rattle.vp_encode.proofs.modes_and_motion.write_row.Goals as goal
+use Rattle.vp_encode.proofs.modes_and_motion.write_row_of_modes.Goals as goal
 
 pub loop-column-init : goal.loop-column-init
 loop-column-init c = record { so_far = rows-unwritten _ _ _; before = c.requires.before }
 
 pub loop-column-preserved : goal.loop-column-preserved
 loop-column-preserved c = record {
-  so_far = rows-written c.loop-column.column _ _ _ _ c.loop-column.invariant.so_far c.in_ok-write_macroblock.ensures.writes;
-  before = c.in_ok-write_macroblock.ensures.written;
+  so_far = rows-written c.loop-column.column _ _ _ _ c.loop-column.invariant.so_far c.in_ok-write_modes_and_motion_at.ensures.writes;
+  before = c.in_ok-write_modes_and_motion_at.ensures.written;
 }
 
 pub returns : goal.returns

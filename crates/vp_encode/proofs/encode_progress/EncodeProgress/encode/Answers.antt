@@ -4,8 +4,8 @@ use Rattle.vp_encode.specs.declared.report.EncodeAllFault.TheVariants as fault
 use Rattle.vp_encode.specs.Encoded.{EncodedFrame, IsEncoded}
 use Rattle.vp_encode.specs.Calls.{frame_with}
 use Rattle.vp_encode.specs.EncodeProgress.{EncodeProgress, IsAdded, IsPictureRefused}
-use Rattle.vp_encode.proofs.encode_progress.EncodeProgress.picture.Goals.{In-Ok}
-use Rattle.vp_encode.proofs.encode_progress.EncodeProgress.picture.Goals as goal
+use Rattle.vp_encode.proofs.encode_progress.EncodeProgress.encode.Goals.{In-Ok}
+use Rattle.vp_encode.proofs.encode_progress.EncodeProgress.encode.Goals as goal
 
 made : (c : In-Ok) → IsEncoded c.self.inside.encoder (frame_with c.args.picture.now c.in-Ok.encoded) c.encode.new.self
 made c = let f = c.in-Ok.ensures in record { chosen = f.choice; decoded = f.decoded; dim = f.dim; settings = f.settings; since = f.since }

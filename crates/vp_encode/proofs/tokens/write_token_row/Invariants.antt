@@ -5,7 +5,7 @@ use Rattle.vp_tokens.specs.Contexts.{AreContextsAt}
 use Rattle.vp_decode.specs.MacroblockInfo.{place}
 use Rattle.vp_decode.specs.Frame.{FrameInfo}
 use Rattle.vp_encode.specs.Written.{IsPlanOf, IsTokenRow}
-use Rattle.vp_encode.proofs.tokens.write_row.Given as goal
+use Rattle.vp_encode.proofs.tokens.write_token_row.Given as goal
 
 abbrev pub invariant-loop-column : goal.invariant-loop-column
 invariant-loop-column l = record {
