@@ -18,8 +18,13 @@ use std::time::Clock;
 use vp_args::{DecodeArgs, DecodeRangeArgs};
 use vp_base::Counted;
 use vp_frames::RangeReport;
-use vp_lines::{Summer, print_sums};
+use vp_lines::{Arrival, Summer, print_sums};
 use vp_stream::{DecodeFault, Form, Report};
+
+// By which calls a picture is written, given those of a picture as I420.
+fn arrival_of(y4m: bool, i420: Arrival) -> Arrival {
+    if y4m { Arrival::AfterLine } else { i420 }
+}
 
 /// Decodes a file, and prints the sums of its pictures. Returns the exit status.
 pub(crate) fn sum_pictures<H: Files + AllocGlobal + Clock + Eprint, R: Read, W: Write, E: Write>(
@@ -35,7 +40,7 @@ pub(crate) fn sum_pictures<H: Files + AllocGlobal + Clock + Eprint, R: Read, W: 
         (written_side W.contents output.old) (written_side W.contents output.new) }
 {
     let (each, y4m) = (decoding.md5_each, decoding.y4m);
-    let mut summer = Summer::new(outside.alloc(), each, y4m);
+    let mut summer = Summer::new(outside.alloc(), each, arrival_of(y4m, Arrival::Planes));
     let done = sum_file(outside, form_of(y4m), decoding, input, &mut summer);
     let is_told = done.is_ok();
     let status = report_decode(outside, done, decoding, errors);
@@ -128,7 +133,7 @@ pub(crate) fn sum_packets<H: Files + AllocGlobal + Clock + Eprint, R: Read, W: W
         (written_side W.contents output.old) (written_side W.contents output.new) }
 {
     let (each, y4m) = (wanted.decoding.md5_each, wanted.decoding.y4m);
-    let mut summer = Summer::new(outside.alloc(), each, y4m);
+    let mut summer = Summer::new(outside.alloc(), each, arrival_of(y4m, Arrival::Whole));
     let form = form_of(y4m);
     let done = sum_range(outside, form, wanted, input, &mut summer);
     let is_told = done.is_ok();

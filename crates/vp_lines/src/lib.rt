@@ -15,5 +15,5 @@ pub use file_names::names_have_no_control_bytes;
 pub use files::{has_total, is_well, put_done, put_total};
 pub use listing::{print_faults, print_survey, report_fault};
 pub use styles::LineStyle;
-pub use summer::Summer;
+pub use summer::{Arrival, Summer};
 pub use sums::print_sums;

@@ -1,32 +1,57 @@
 //! A writer that sums up pictures.
 
-ghost use Rattle.std.specs.Prelude.{◌<◌};
+ghost use Rattle.std.specs.Prelude.{◌<◌, ◌≤◌};
 
 use md5::{Digest, Md5};
 use std::alloc::Global;
-use std::io;
 use std::io::Write;
+use std::{io, mem};
 
-/// A writer that takes the MD5 sum of what is written, and if that is asked for of each picture. A picture has to be
-/// written by one call. In YUV4MPEG2 the line of its frame is written by the call before.
+/// By which calls a picture is written.
+#[derive(Clone, Copy, Debug, PartialEq, Eq)]
+pub enum Arrival {
+    /// By one call.
+    Whole,
+    /// By three calls, a plane each.
+    Planes,
+    /// By one call after that of the line of its frame, as in YUV4MPEG2.
+    AfterLine,
+}
+
+impl Arrival {
+    // How many calls write a picture that no line comes before.
+    fn calls(self) -> u8
+        ensures { result ≤ 3 }
+    {
+        match self {
+            Arrival::Whole => 1,
+            Arrival::Planes => 3,
+            Arrival::AfterLine => 0,
+        }
+    }
+}
+
+/// A writer that takes the MD5 sum of what is written, and if that is asked for of each picture.
 #[derive(Drop)]
 pub struct Summer {
     all: Md5,
     each: bool,
-    y4m: bool,
-    // Whether the next call writes a picture.
-    is_next: bool,
+    arrival: Arrival,
+    // The sum of what is written of a picture, and how many calls are left of it; 0 before the line of a frame.
+    picture: Md5,
+    left: u8,
     pictures: Vec<[u8; 32]>,
 }
 
 impl Summer {
-    /// Nothing was written yet. The pictures are written as YUV4MPEG2, or else as I420.
-    pub fn new(alloc: Global, each: bool, y4m: bool) -> Summer {
+    /// Nothing was written yet.
+    pub fn new(alloc: Global, each: bool, arrival: Arrival) -> Summer {
         Summer {
             all: Md5::new(),
             each,
-            y4m,
-            is_next: !y4m,
+            arrival,
+            picture: Md5::new(),
+            left: arrival.calls(),
             pictures: Vec::new(alloc),
         }
     }
@@ -36,21 +61,27 @@ impl Summer {
         let Summer {
             all,
             each: _,
-            y4m: _,
-            is_next: _,
+            arrival: _,
+            picture: _,
+            left: _,
             pictures,
         } = self;
         (pictures, digits_of(all))
     }
 
-    // Takes the sum of a picture, if this call writes one.
+    // Takes the sum of a picture, whose last bytes these may be.
     fn sum_picture(&mut self, bytes: &[u8]) -> io::Result<()> {
-        if self.is_next {
-            let mut picture = Md5::new();
-            picture.update(bytes);
-            self.pictures.push(digits_of(picture))?;
+        if self.left == 0 {
+            self.left = u8::from(bytes == b"FRAME\n".as_slice());
+            return Ok(());
         }
-        self.is_next = !self.y4m || (!self.is_next && bytes == b"FRAME\n".as_slice());
+        self.picture.update(bytes);
+        self.left -= 1;
+        if self.left == 0 {
+            let picture = mem::replace(&mut self.picture, Md5::new());
+            self.pictures.push(digits_of(picture))?;
+            self.left = self.arrival.calls();
+        }
         Ok(())
     }
 }

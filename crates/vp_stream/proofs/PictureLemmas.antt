@@ -1,12 +1,13 @@
 -- One picture is written.
-use Rattle.std.proofs.Common.{◌≡◌, ◌≢◌, ℕ, ◌+◌, ◌*◌, ◌/◌, Bool, true, false, List, [], ◌++◌, length, Option, Some, None, refl, sym, ap, subst, ◌∙◌, arith}
+use Rattle.std.proofs.Common.{◌≡◌, ◌≢◌, ℕ, ◌+◌, ◌*◌, ◌/◌, Bool, true, false, List, [], ◌++◌, ◌<◌, ◌≤◌, length, take, get_or, Option, Some, None, refl, sym, ap, subst, ◌∙◌, arith}
 use Rattle.std.specs.Io.KnownBytes.{Appends}
-use Rattle.std.proofs.lemmas.List.{length-append}
+use Rattle.std.proofs.lemmas.List.{length-append, length-take-le, get_or-take}
+use Rattle.std.proofs.lemmas.Nat.{rows}
 use Rattle.vp_base.specs.Image.{Image, i420}
-use Rattle.vp_base.specs.Raster.{pixel}
-use Rattle.vp_base.specs.Block.{numbers}
+use Rattle.vp_base.specs.Raster.{Raster, pixel}
+use Rattle.vp_base.specs.Block.{numbers, IsWhole}
 use Rattle.vp_base.specs.Counted.{AppendsPrefix}
-use Rattle.vp_base.proofs.BlockLemmas.{length-numbers}
+use Rattle.vp_base.proofs.BlockLemmas.{length-numbers, get_or-numbers, same_numbers}
 use Rattle.vp_base.proofs.Writes.{appends_none, front_second}
 use Rattle.vp_y4m.specs.Text.{i420_length}
 use Rattle.vp_y4m.specs.declared.writing.PictureFault.{PictureFault}
@@ -35,6 +36,15 @@ unfolding i420
 length-i420 p = three (numbers p.width p.height (pixel p.luma)) (numbers ((p.width + 1) / 2) ((p.height + 1) / 2) (pixel p.u)) (numbers ((p.width + 1) / 2) ((p.height + 1) / 2) (pixel p.v))
     (p.width * p.height) ((p.width + 1) / 2 * ((p.height + 1) / 2))
     (counted p.width p.height (pixel p.luma)) (counted ((p.width + 1) / 2) ((p.height + 1) / 2) (pixel p.u)) (counted ((p.width + 1) / 2) ((p.height + 1) / 2) (pixel p.v))
+
+-- the first rows of a plane, all of whose columns are shown, lie side by side
+pub whole_rows : (p : Raster) (w h : ℕ) → IsWhole p → p.width ≡ w → h ≤ p.height → take (h * w) p.pixels ≡ numbers w h (pixel p)
+whole_rows p w h whole wide high =
+    let fits : h * w ≤ length p.pixels = rw (whole, wide) (grind (arith, rows)) in
+    same_numbers w h (take (h * w) p.pixels) (numbers w h (pixel p)) (length-take-le (h * w) p.pixels fits) (length-numbers w h (pixel p))
+    (λ x y xin yin.
+    let inside : y * w + x < h * w = grind (arith, rows) in
+    get_or-take (h * w) p.pixels (y * w + x) 0 inside ∙ ap (λ (k : ℕ). get_or p.pixels (y * k + x) 0) (sym wide) ∙ sym (get_or-numbers w h (pixel p) x y xin yin))
 
 -- nothing is a front of all
 pub nothing_written : (old new : Option (List ℕ)) (xs : List ℕ) → new ≡ old → AppendsPrefix old new xs

@@ -12,6 +12,7 @@ mod packet_reader;
 mod picture_writer;
 mod report;
 mod seeking;
+mod shown_planes;
 mod stream;
 mod surveying;
 mod transcode_state;

@@ -12,11 +12,12 @@ ghost use Rattle.vp_stream.specs.Transcode.{first_size, has_size, line_before, t
 
 use crate::fault::Interruption;
 use crate::form::Form;
+use crate::shown_planes::ShownPlanes;
 use std::alloc::Global;
 use std::io::Write;
 use std::marker::Model;
 use std::mem;
-use vp_base::{Counted, Dim, Picture, put_all};
+use vp_base::{Counted, Dim, Picture};
 use vp_decode::Decoder;
 use vp_ivf::IvfHead;
 use vp_y4m::{write_header, write_picture};
@@ -27,7 +28,7 @@ pub struct PictureWriter {
     alloc: Global,
     form: Form,
     size: Option<Dim>,
-    /// Memory for the pixels of the last picture, if that was written. It is used again for the next picture of the
+    /// Memory for the pixels of the last picture that was copied to be written. It is used again for the next one of the
     /// same size, and freed where no picture is written.
     text: Vec<u8>,
 }
@@ -83,7 +84,8 @@ impl PictureWriter {
         }
     }
 
-    // Writes a picture.
+    // Writes a picture. As I420 it is written plane by plane, each by one call: where they are, without a copy, if all
+    // their columns are shown.
     fn write<W: Write>(
         &mut self,
         head: IvfHead,
@@ -102,6 +104,12 @@ impl PictureWriter {
         ensures quiet { result ≢ Err Interruption.Device →
             counted_failures writer.new ≡ counted_failures writer.old }
     {
+        if let Form::I420 = self.form {
+            if let Some(planes) = ShownPlanes::of(picture) {
+                planes.put(writer)?;
+                return Ok(());
+            }
+        }
         let mut text = mem::replace(&mut self.text, Vec::new(self.alloc));
         picture.crop_into(self.alloc, &mut text)?;
         let written = self.write_text(head, picture, &text, writer);
@@ -130,9 +138,10 @@ impl PictureWriter {
         ensures quiet { result ≢ Err Interruption.Device →
             counted_failures writer.new ≡ counted_failures writer.old }
     {
+        let dim = picture.dim();
         match self.form {
-            Form::I420 => Ok(put_all(writer, text)?),
-            Form::Y4m => self.write_y4m(head, picture.dim(), text, writer),
+            Form::I420 => Ok(ShownPlanes::cut(dim, text).put(writer)?),
+            Form::Y4m => self.write_y4m(head, dim, text, writer),
         }
     }
 
