@@ -3,9 +3,8 @@
 ghost use Rattle.std.specs.Prelude.{◌<◌, ◌≤◌};
 
 use crate::check::equal;
-use std::alloc::{AllocError, Global};
+use std::alloc::Global;
 use std::process::Abort;
-use std::test::Fail;
 use vp_base::{Dim, Limits, Picture, Plane};
 use vp_inter::{
     PlaneVector, chroma_vector, luma_vector, predict_block4, predict_block8, predict_block16,
@@ -38,14 +37,19 @@ fn edge_pixels(plane: &Plane) -> Option<[u8; 4]> {
 /// Three columns of 0, followed by 255.
 #[test]
 fn kernel_examples(rt: HostRuntime) {
-    let Ok(mut plane) = Plane::new(rt.alloc(), 16, 16, 255) else {
-        panic!(rt; "memory");
-    };
-    equal!(rt; (plane.width(), plane.height()), (16, 16));
+    let alloc = rt.alloc();
+    let rt = &rt;
+    let mut plane = Plane::new(alloc, 16, 16, 255).expect(rt, "memory");
     darken(&mut plane);
-    equal!(rt; edge_pixels(&plane), Some([58, 64, 58, 0]));
-    equal!(rt; chroma_vector(0, &[-1, -1, -1, -2], &[1, 2, 3, 4]), PlaneVector { row: -1, column: 3 });
-    equal!(rt; chroma_vector(3, &[-1, -1, -1, -2], &[9, 9, 9, 9]), PlaneVector { row: -8, column: 8 });
+    let sides = (plane.width(), plane.height());
+    equal!(rt; (sides, edge_pixels(&plane)), ((16, 16), Some([58, 64, 58, 0])));
+    let of_quarters = chroma_vector(0, &[-1, -1, -1, -2], &[1, 2, 3, 4]);
+    let of_whole_pixels = chroma_vector(3, &[-1, -1, -1, -2], &[9, 9, 9, 9]);
+    let wanted = [
+        PlaneVector { row: -1, column: 3 },
+        PlaneVector { row: -8, column: 8 },
+    ];
+    equal!(rt; [of_quarters, of_whole_pixels], wanted);
 }
 
 /// Offsets in whole pixels: far outside, across each border, just outside and just inside, for each block size.
@@ -215,13 +219,21 @@ fn fill_rows(rt: &impl Abort, plane: &mut Plane) {
     }
 }
 
-#[test]
-fn lanes_predict_as_pixels(rt: HostRuntime) -> Result<(), Fail> {
-    let mut plane = Plane::new(rt.alloc(), 48, 48, 0)?;
-    fill_rows(&rt, &mut plane);
+/// Returns a plane of 48 by 48 with filled rows.
+fn filled(rt: &impl Abort, alloc: Global) -> Plane
+    ensures wide { 0 < result.width }
+    ensures high { 0 < result.height }
+{
+    let mut plane = Plane::new(alloc, 48, 48, 0).expect(rt, "memory");
+    fill_rows(rt, &mut plane);
     assert!(rt; 0 < plane.width() && 0 < plane.height(), "an empty plane");
-    equal!(rt; first_difference(&plane), None);
-    Ok(())
+    plane
+}
+
+#[test]
+fn lanes_predict_as_pixels(rt: HostRuntime) {
+    let plane = filled(&rt, rt.alloc());
+    equal!(&rt; first_difference(&plane), None);
 }
 
 /// Returns the expected pixel: of the block of `size` by `size` pixels from column and row `at` on, or 7 outside it.
@@ -279,51 +291,33 @@ fn other_pixels(picture: &Picture, reference: &Plane, vector: PlaneVector) -> [O
 /// Writes blocks of each size to the planes of a picture of 7. Returns the first pixel of each plane that isn't as
 /// expected: the blocks at their places, and all other pixels unchanged.
 fn others_of_written(
+    rt: &impl Abort,
     alloc: Global,
     dim: Dim,
     reference: &Plane,
     vector: PlaneVector,
-) -> Result<[Option<Pixel>; 3], AllocError>
+) -> [Option<Pixel>; 3]
     requires wide { 0 < reference.now.width }
     requires high { 0 < reference.now.height }
     requires columns { 48 ≤ dim.w }
     requires rows { 48 ≤ dim.h }
 {
-    let mut picture = Picture::new(alloc, dim, 7)?;
+    let mut picture = Picture::new(alloc, dim, 7).expect(rt, "memory");
     predict_into16(&mut picture, 0, 16, 16, reference, vector, 0);
     predict_into8(&mut picture, 1, 8, 8, reference, vector, 0);
     predict_into4(&mut picture, 2, 8, 8, reference, vector, 0);
-    Ok(other_pixels(&picture, reference, vector))
-}
-
-/// Fails the test if blocks with one of these vectors are written elsewhere.
-fn check_written(
-    rt: &impl Abort,
-    alloc: Global,
-    dim: Dim,
-    reference: &Plane,
-) -> Result<(), AllocError>
-    requires columns { 48 ≤ dim.w }
-    requires rows { 48 ≤ dim.h }
-{
-    assert!(rt;
-        0 < reference.width() && 0 < reference.height(),
-        "an empty plane"
-    );
-    for (row, column) in [(0, 0), (16, -8), (3, 5), (-4000, 4001)] {
-        let vector = PlaneVector { row, column };
-        let others = others_of_written(alloc, dim, reference, vector)?;
-        equal!(rt; (vector, others), (vector, [None; 3]));
-    }
-    Ok(())
+    other_pixels(&picture, reference, vector)
 }
 
 #[test]
-fn blocks_are_written_where_they_stand(rt: HostRuntime) -> Result<(), Fail> {
-    let Ok(dim) = Dim::new(48, 48, &Limits::usual()) else {
-        panic!(rt; "a usual size");
-    };
-    let mut reference = Plane::new(rt.alloc(), 48, 48, 0)?;
-    fill_rows(&rt, &mut reference);
-    Ok(check_written(&rt, rt.alloc(), dim, &reference)?)
+fn blocks_are_written_where_they_stand(rt: HostRuntime) {
+    let alloc = rt.alloc();
+    let rt = &rt;
+    let dim = Dim::new(48, 48, &Limits::usual()).expect(rt, "a usual size");
+    let reference = filled(rt, alloc);
+    for (row, column) in [(0, 0), (16, -8), (3, 5), (-4000, 4001)] {
+        let vector = PlaneVector { row, column };
+        let others = others_of_written(rt, alloc, dim, &reference, vector);
+        equal!(rt; (vector, others), (vector, [None; 3]));
+    }
 }

@@ -3,15 +3,15 @@
 ghost use Rattle.std.specs.Prelude.{◌≡◌};
 
 use crate::check::equal;
-use std::alloc::{AllocError, Global};
+use std::alloc::Global;
 use std::process::Abort;
 use vp_base::Plane;
 use vp_intra::{predict_chroma, predict_luma, predict_sub, predict_sub_modes};
 use vp_tables::{ChromaMode, LumaMode, SubMode};
 
 /// Returns a plane of 32 by 32 different pixels.
-fn sample(alloc: Global) -> Result<Plane, AllocError> {
-    let mut plane = Plane::new(alloc, 32, 32, 0)?;
+fn sample(rt: &impl Abort, alloc: Global) -> Plane {
+    let mut plane = Plane::new(alloc, 32, 32, 0).expect(rt, "memory");
     for y in 0..plane.height() {
         for x in 0..plane.width() {
             if x < plane.width() && y < plane.height() {
@@ -19,7 +19,7 @@ fn sample(alloc: Global) -> Result<Plane, AllocError> {
             }
         }
     }
-    Ok(plane)
+    plane
 }
 
 // The prediction of each subblock mode at column 4 of row 4.
@@ -110,26 +110,28 @@ fn check_size(rt: &impl Abort, plane: &Plane)
     ensures width { plane.now.width ≡ 32 }
     ensures height { plane.now.height ≡ 32 }
 {
-    assert_eq!(rt; plane.width(), 32);
-    assert_eq!(rt; plane.height(), 32);
+    let (width, height) = (plane.width(), plane.height());
+    if width != 32 || height != 32 {
+        panic!(rt; "a plane of {width} by {height} in place of 32 by 32");
+    }
 }
 
 /// Fails the test if a subblock is predicted otherwise.
 fn check_subs(rt: &impl Abort, plane: &Plane) {
     check_size(rt, plane);
     check_modes(rt, plane);
-    equal!(rt; predict_sub(plane, 12, 20, SubMode::Ld), RIGHT_OF_MACROBLOCK);
-    equal!(rt; predict_sub(plane, 28, 20, SubMode::Ld), RIGHT_OF_FRAME);
+    let right = predict_sub(plane, 12, 20, SubMode::Ld);
+    let at_end = predict_sub(plane, 28, 20, SubMode::Ld);
     // The fifth mode is LD.
-    equal!(rt; predict_sub_modes(plane, 12, 20)[4], RIGHT_OF_MACROBLOCK);
+    let fifth = predict_sub_modes(plane, 12, 20)[4];
+    equal!(rt; [right, at_end, fifth], [RIGHT_OF_MACROBLOCK, RIGHT_OF_FRAME, RIGHT_OF_MACROBLOCK]);
 }
 
 #[test]
 fn ten_subblock_modes(rt: HostRuntime) {
-    let Ok(plane) = sample(rt.alloc()) else {
-        panic!(rt; "memory");
-    };
-    check_subs(&rt, &plane);
+    let alloc = rt.alloc();
+    let rt = &rt;
+    check_subs(rt, &sample(rt, alloc));
 }
 
 const ROW_OF_MOTION: [u8; 16] = [
@@ -139,20 +141,17 @@ const ROW_OF_MOTION: [u8; 16] = [
 /// Fails the test if a whole block is predicted otherwise.
 fn check_whole(rt: &impl Abort, plane: &Plane) {
     check_size(rt, plane);
-    let mean = predict_luma(plane, 16, 16, LumaMode::Dc);
-    equal!(rt; mean[255], 108);
+    let mean = predict_luma(plane, 16, 16, LumaMode::Dc)[255];
     let motion = predict_luma(plane, 16, 16, LumaMode::Tm);
-    equal!(rt; &motion[48..64], ROW_OF_MOTION.as_slice());
-    let outside = predict_chroma(plane, 0, 0, ChromaMode::V);
-    equal!(rt; outside[63], 127);
-    let beside = predict_chroma(plane, 0, 8, ChromaMode::H);
-    equal!(rt; beside[0], 129);
+    let outside = predict_chroma(plane, 0, 0, ChromaMode::V)[63];
+    let beside = predict_chroma(plane, 0, 8, ChromaMode::H)[0];
+    let found = (mean, &motion[48..64], outside, beside);
+    equal!(rt; found, (108, ROW_OF_MOTION.as_slice(), 127, 129));
 }
 
 #[test]
 fn whole_modes(rt: HostRuntime) {
-    let Ok(plane) = sample(rt.alloc()) else {
-        panic!(rt; "memory");
-    };
-    check_whole(&rt, &plane);
+    let alloc = rt.alloc();
+    let rt = &rt;
+    check_whole(rt, &sample(rt, alloc));
 }

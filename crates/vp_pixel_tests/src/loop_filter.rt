@@ -4,9 +4,8 @@ ghost use Rattle.std.specs.Prelude.{◌≡◌, ◌*◌, ◌<◌, ◌≤◌, IsTr
 ghost use Rattle.vp_base.specs.Image.{macroblocks};
 
 use crate::check::equal;
-use std::alloc::{AllocError, Global};
+use std::alloc::Global;
 use std::process::Abort;
-use std::test::Fail;
 use vp_base::{Dim, Limits, Picture, Plane};
 use vp_bool::BoolDecoder;
 use vp_head::{Header, KeyTag, LevelDeltas, Reference, Saved, Tag};
@@ -29,6 +28,11 @@ fn header(dim: Dim) -> Header {
     let (mut header, _) = Header::read(&Saved::defaults(), &tag, &mut BoolDecoder::new(&[]));
     header.filter.level = 16;
     header
+}
+
+/// Returns the size of a macroblock.
+fn size(rt: &impl Abort) -> Dim {
+    Dim::new(16, 16, &Limits::usual()).expect(rt, "a size")
 }
 
 fn level(dim: Dim, coded: bool) -> Level {
@@ -64,10 +68,8 @@ fn filter_one_line(rt: HostRuntime) {
         interior: 16,
         hev: 1,
     };
-    let Ok(dim) = Dim::new(16, 16, &Limits::usual()) else {
-        panic!(&rt; "the size is refused");
-    };
-    equal!(rt; level(dim, true), own);
+    let rt = &rt;
+    equal!(rt; level(size(rt), true), own);
     let step = line([100, 100, 100, 100, 110, 110, 110, 110]);
     let table = [
         (
@@ -133,14 +135,18 @@ fn strength(edge: u8, inner: u8, interior: u8, hev: u8) -> Level {
 /// the delta of intra macroblocks too. The interior limit is at least 1.
 #[test]
 fn levels_are_held(rt: HostRuntime) {
-    let Ok(dim) = Dim::new(16, 16, &Limits::usual()) else {
-        panic!(rt; "the size is refused");
-    };
-    equal!(rt; level_with(dim, 16, 0, Some(-5), [10, 0]), strength(34, 30, 10, 0));
-    equal!(rt; level_with(dim, 60, 0, None, [20, -30]), strength(154, 150, 50, 2));
-    equal!(rt; level_with(dim, 60, 0, None, [20, 0]), strength(193, 189, 63, 2));
-    equal!(rt; level_with(dim, 16, 0, None, [4, 0]), strength(64, 60, 20, 1));
-    equal!(rt; level_with(dim, 1, 7, None, [0, 0]), strength(7, 3, 1, 0));
+    let rt = &rt;
+    let dim = size(rt);
+    for (own, sharpness, segment, deltas, wanted) in [
+        (16, 0, Some(-5), [10, 0], strength(34, 30, 10, 0)),
+        (60, 0, None, [20, -30], strength(154, 150, 50, 2)),
+        (60, 0, None, [20, 0], strength(193, 189, 63, 2)),
+        (16, 0, None, [4, 0], strength(64, 60, 20, 1)),
+        (1, 7, None, [0, 0], strength(7, 3, 1, 0)),
+    ] {
+        let found = level_with(dim, own, sharpness, segment, deltas);
+        equal!(rt; (own, segment, deltas, found), (own, segment, deltas, wanted));
+    }
 }
 
 /// Differences and filter values are clamped to -128..127.
@@ -153,7 +159,6 @@ fn steps_are_held(rt: HostRuntime) {
         hev: 0,
     };
     let apart = line([255, 255, 255, 128, 108, 0, 0, 0]);
-    equal!(rt; simple.apply(apart), line([255, 255, 255, 136, 100, 0, 0, 0]));
     let wide = LineStep {
         kind: EdgeKind::Macroblock,
         limit: 193,
@@ -161,7 +166,11 @@ fn steps_are_held(rt: HostRuntime) {
         hev: 3,
     };
     let far = line([90, 90, 90, 90, 160, 160, 160, 160]);
-    equal!(rt; wide.apply(far), line([90, 99, 108, 117, 133, 142, 151, 160]));
+    let wanted = [
+        line([255, 255, 255, 136, 100, 0, 0, 0]),
+        line([90, 99, 108, 117, 133, 142, 151, 160]),
+    ];
+    equal!(&rt; [simple.apply(apart), wide.apply(far)], wanted);
 }
 
 fn flat_block(pixel: u8) -> [u8; 256] {
@@ -169,13 +178,13 @@ fn flat_block(pixel: u8) -> [u8; 256] {
 }
 
 /// Returns a filtered picture of two macroblocks: 100 beside 110 in luma, and 128 in chroma.
-fn two_macroblocks(alloc: Global) -> Option<Picture> {
-    let dim = Dim::new(32, 16, &Limits::usual()).ok()?;
-    let mut picture = Picture::new(alloc, dim, 128).ok()?;
+fn two_macroblocks(rt: &impl Abort, alloc: Global) -> Picture {
+    let dim = Dim::new(32, 16, &Limits::usual()).expect(rt, "a size");
+    let mut picture = Picture::new(alloc, dim, 128).expect(rt, "memory");
     picture.write_block::<16>(0, 0, 0, &flat_block(100));
     picture.write_block::<16>(0, 16, 0, &flat_block(110));
     filter_picture(&mut picture, &[level(dim, false); 2]);
-    Some(picture)
+    picture
 }
 
 /// Returns the first of the plane's first `count` rows that is another one than this: its number and its pixels.
@@ -196,17 +205,17 @@ fn check_two(rt: &impl Abort, picture: &Picture) {
     let mut row = [100; 32];
     row[12..20].copy_from_slice(&[100, 101, 103, 104, 106, 107, 109, 110]);
     row[20..].fill(110);
-    equal!(rt; other_row(picture.plane(0), 16, &row), None);
-    equal!(rt; other_row(picture.plane(1), 8, &[128; 16]), None);
-    equal!(rt; other_row(picture.plane(2), 8, &[128; 16]), None);
+    let luma = other_row(picture.plane(0), 16, &row);
+    let first_chroma = other_row(picture.plane(1), 8, &[128; 16]);
+    let second_chroma = other_row(picture.plane(2), 8, &[128; 16]);
+    equal!(rt; [luma, first_chroma, second_chroma], [None, None, None]);
 }
 
 #[test]
 fn filter_two_macroblocks(rt: HostRuntime) {
-    let Some(picture) = two_macroblocks(rt.alloc()) else {
-        panic!(rt; "a picture");
-    };
-    check_two(&rt, &picture);
+    let alloc = rt.alloc();
+    let rt = &rt;
+    check_two(rt, &two_macroblocks(rt, alloc));
 }
 
 /// Fills a row with (17 x + 31 y) mod 256.
@@ -367,25 +376,16 @@ fn filtered_by_lines(plane: &Plane, k: usize, level: &Level) -> Pixels {
 }
 
 /// Returns the plane and row in which the filtered picture differs from the one filtered line by line.
-fn difference(alloc: Global, dim: Dim, level: Level) -> Result<Option<(usize, usize)>, AllocError> {
-    let mut picture = Picture::new(alloc, dim, 0)?;
+fn difference(rt: &impl Abort, alloc: Global, dim: Dim, level: Level) -> Option<(usize, usize)> {
+    let mut picture = Picture::new(alloc, dim, 0).expect(rt, "memory");
     for k in 0..3 {
         fill_plane(&mut picture, k);
     }
-    filtered_difference(alloc, &mut picture, &level)
-}
-
-/// Filters a picture. Returns the plane and row in which it differs from the one filtered line by line.
-fn filtered_difference(
-    alloc: Global,
-    picture: &mut Picture,
-    level: &Level,
-) -> Result<Option<(usize, usize)>, AllocError> {
-    let before = picture.copy(alloc)?;
-    if picture_fits(picture) {
-        filter_picture(picture, &[*level; 9]);
+    let before = picture.copy(alloc).expect(rt, "memory");
+    if picture_fits(&picture) {
+        filter_picture(&mut picture, &[level; 9]);
     }
-    Ok(first_difference(&before, picture, level))
+    first_difference(&before, &picture, &level)
 }
 
 fn first_difference(before: &Picture, after: &Picture, level: &Level) -> Option<(usize, usize)> {
@@ -407,11 +407,7 @@ fn picture_fits(picture: &Picture) -> bool
 }
 
 /// Returns where they differ for some sharpness, filter type and kind of frame.
-fn difference_at(
-    alloc: Global,
-    dim: Dim,
-    strength: u8,
-) -> Result<Option<(usize, usize)>, AllocError> {
+fn difference_at(rt: &impl Abort, alloc: Global, dim: Dim, strength: u8) -> Option<(usize, usize)> {
     for sharpness in [0, 1, 5, 7] {
         for (simple, key) in [(false, true), (false, false), (true, true)] {
             let mut header = header(dim);
@@ -424,44 +420,39 @@ fn difference_at(
                 prediction: ModeClass::Subblocks,
                 coded: true,
             };
-            let found = difference(alloc, dim, levels(&header, 0, &kind))?;
+            let found = difference(rt, alloc, dim, levels(&header, 0, &kind));
             if found.is_some() {
-                return Ok(found);
+                return found;
             }
         }
     }
-    Ok(None)
+    None
 }
 
 /// The widths and heights of the pictures.
 const SIDES: [u16; 6] = [1, 15, 16, 17, 33, 48];
 
 /// Returns the first height at which they differ on a picture of this width and level.
-fn height_of_difference(
-    alloc: Global,
-    width: u16,
-    strength: u8,
-) -> Result<Option<u16>, AllocError> {
+fn height_of_difference(rt: &impl Abort, alloc: Global, width: u16, strength: u8) -> Option<u16> {
     for height in SIDES {
-        let Ok(dim) = Dim::new(width, height, &Limits::usual()) else {
-            return Ok(Some(height));
-        };
-        if difference_at(alloc, dim, strength)?.is_some() {
-            return Ok(Some(height));
+        let dim = Dim::new(width, height, &Limits::usual()).expect(rt, "a size");
+        if difference_at(rt, alloc, dim, strength).is_some() {
+            return Some(height);
         }
     }
-    Ok(None)
+    None
 }
 
 #[test]
-fn lanes_filter_as_lines(rt: HostRuntime) -> Result<(), Fail> {
+fn lanes_filter_as_lines(rt: HostRuntime) {
+    let alloc = rt.alloc();
+    let rt = &rt;
     for width in SIDES {
         for strength in [0, 1, 16, 63] {
-            let height = height_of_difference(rt.alloc(), width, strength)?;
+            let height = height_of_difference(rt, alloc, width, strength);
             equal!(rt; (width, strength, height), (width, strength, None));
         }
     }
-    Ok(())
 }
 
 /// Returns the high edge variance threshold of a level, in a key frame or an inter frame.
@@ -481,9 +472,8 @@ fn threshold(dim: Dim, key: bool, own: u8) -> u8 {
 /// frames.
 #[test]
 fn thresholds_by_frame(rt: HostRuntime) {
-    let Ok(dim) = Dim::new(16, 16, &Limits::usual()) else {
-        panic!(rt; "the size is refused");
-    };
+    let rt = &rt;
+    let dim = size(rt);
     for (own, key, inter) in [
         (1, 0, 0),
         (14, 0, 0),
@@ -503,9 +493,8 @@ fn thresholds_by_frame(rt: HostRuntime) {
 /// least 1.
 #[test]
 fn interior_limits(rt: HostRuntime) {
-    let Ok(dim) = Dim::new(16, 16, &Limits::usual()) else {
-        panic!(rt; "the size is refused");
-    };
+    let rt = &rt;
+    let dim = size(rt);
     for (own, sharpness, interior) in [
         (63, 0, 63),
         (63, 1, 8),
@@ -546,9 +535,8 @@ fn strength_of(dim: Dim, reference: Reference, prediction: ModeClass) -> Level {
 /// inner edges filtered. The levels are 21, 30, 12, 28 and 31.
 #[test]
 fn deltas_by_kind(rt: HostRuntime) {
-    let Ok(dim) = Dim::new(16, 16, &Limits::usual()) else {
-        panic!(rt; "the size is refused");
-    };
+    let rt = &rt;
+    let dim = size(rt);
     for (reference, prediction, wanted) in [
         (Reference::Intra, ModeClass::Whole, strength(67, 0, 21, 2)),
         (
@@ -568,8 +556,7 @@ fn deltas_by_kind(rt: HostRuntime) {
 /// A frame level of 0 turns the filter off, whatever segments and deltas add.
 #[test]
 fn no_level_no_filter(rt: HostRuntime) {
-    let Ok(dim) = Dim::new(16, 16, &Limits::usual()) else {
-        panic!(rt; "the size is refused");
-    };
+    let rt = &rt;
+    let dim = size(rt);
     equal!(rt; level_with(dim, 0, 0, Some(30), [20, 0]), strength(0, 0, 0, 0));
 }

@@ -49,9 +49,7 @@ fn first_not_empty(bytes: &[u8]) -> Option<(usize, u8, u8)> {
 
 /// Fails the test if this isn't the empty picture.
 fn check_empty(rt: &impl Abort, alloc: Global, picture: &Picture) {
-    let Ok(bytes) = picture.crop_i420(alloc) else {
-        panic!(rt; "memory");
-    };
+    let bytes = picture.crop_i420(alloc).expect(rt, "memory");
     equal!(rt; (bytes.len(), first_not_empty(&bytes)), (768, None));
 }
 
@@ -73,13 +71,11 @@ fn rebuild_empty(rt: &impl Abort, alloc: Global, picture: &mut Picture)
 
 #[test]
 fn two_macroblock_rows(rt: HostRuntime) {
-    let Ok(dim) = Dim::new(16, 32, &Limits::usual()) else {
-        panic!(rt; "a size");
-    };
-    let Ok(mut picture) = Picture::new(rt.alloc(), dim, 0) else {
-        panic!(rt; "memory");
-    };
-    rebuild_empty(&rt, rt.alloc(), &mut picture);
+    let alloc = rt.alloc();
+    let rt = &rt;
+    let dim = Dim::new(16, 32, &Limits::usual()).expect(rt, "a size");
+    let mut picture = Picture::new(alloc, dim, 0).expect(rt, "memory");
+    rebuild_empty(rt, alloc, &mut picture);
 }
 
 /// Returns the 4 by 4 block of the plane at column and row `at`.
@@ -108,14 +104,27 @@ const FIRST_OF_ONES: [[u8; 4]; 4] = [
     [0, 251, 5, 104],
 ];
 
+/// Returns a black picture of one macroblock.
+fn black(rt: &impl Abort, alloc: Global) -> Picture
+    ensures width { result.width ≡ 16 }
+    ensures height { result.height ≡ 16 }
+{
+    let dim = Dim::new(16, 16, &Limits::usual()).expect(rt, "a size");
+    Picture::new(alloc, dim, 0).expect(rt, "memory")
+}
+
 /// Returns a picture of one macroblock, first black, rebuilt with this luma mode.
-fn rebuilt(alloc: Global, luma: LumaMode, tokens: &Tokens) -> Option<Picture> {
-    let dim = Dim::new(16, 16, &Limits::usual()).ok()?;
-    let mut picture = Picture::new(alloc, dim, 0).ok()?;
+fn rebuilt(rt: &impl Abort, alloc: Global, luma: LumaMode, tokens: &Tokens) -> Picture {
+    let mut picture = black(rt, alloc);
     let modes = modes(luma);
-    let source = Predictor::Intra(&modes);
-    rebuild_macroblock(&mut picture, TOP, &source, tokens, &FACTORS);
-    Some(picture)
+    rebuild_macroblock(
+        &mut picture,
+        TOP,
+        &Predictor::Intra(&modes),
+        tokens,
+        &FACTORS,
+    );
+    picture
 }
 
 /// Returns the first block of each plane.
@@ -133,33 +142,37 @@ fn has_y2(luma: LumaMode) -> bool {
 }
 
 /// Returns the first block of each plane, rebuilt from the least levels.
-fn blocks_of_ones(alloc: Global) -> Option<[Option<[[u8; 4]; 4]>; 3]> {
+fn blocks_of_ones(rt: &impl Abort, alloc: Global) -> [Option<[[u8; 4]; 4]>; 3] {
     let tokens = Tokens {
         blocks: [LEAST; 25],
     };
-    let picture = rebuilt(alloc, LumaMode::B, &tokens)?;
-    Some(first_blocks(&picture))
+    first_blocks(&rebuilt(rt, alloc, LumaMode::B, &tokens))
 }
 
 #[test]
 fn all_ones_tokens(rt: HostRuntime) {
-    equal!(rt; has_y2(LumaMode::B), false);
-    let wanted = Some([Some(FIRST_OF_ONES); 3]);
-    equal!(rt; blocks_of_ones(rt.alloc()), wanted);
+    let alloc = rt.alloc();
+    let rt = &rt;
+    let wanted = [Some(FIRST_OF_ONES); 3];
+    equal!(rt; (has_y2(LumaMode::B), blocks_of_ones(rt, alloc)), (false, wanted));
 }
 
 /// Returns a black picture's first subblock, rebuilt from this block.
-fn subblock_of(alloc: Global, block: &Block, factors: &Factors) -> Option<[[u8; 4]; 4]> {
-    let dim = Dim::new(16, 16, &Limits::usual()).ok()?;
-    let mut picture = Picture::new(alloc, dim, 0).ok()?;
+fn subblock_of(
+    rt: &impl Abort,
+    alloc: Global,
+    block: &Block,
+    factors: &Factors,
+) -> Option<[[u8; 4]; 4]> {
+    let mut picture = black(rt, alloc);
     rebuild_subblock(&mut picture, TOP, SubMode::Dc, block, factors);
     block_at(picture.plane(0), 0)
 }
 
 #[test]
 fn one_subblock(rt: HostRuntime) {
-    let found = subblock_of(rt.alloc(), &LEAST, &FACTORS);
-    equal!(rt; found, Some(FIRST_OF_ONES));
+    let found = subblock_of(&rt, rt.alloc(), &LEAST, &FACTORS);
+    equal!(&rt; found, Some(FIRST_OF_ONES));
 }
 
 /// Two levels; the product of the first one exceeds 16 bits.
@@ -177,8 +190,8 @@ fn great_products_do_not_wrap(rt: HostRuntime) {
         y_ac: 284,
         ..FACTORS
     };
-    let found = subblock_of(rt.alloc(), &GREAT, &factors);
-    equal!(rt; found, Some([[255; 4]; 4]));
+    let found = subblock_of(&rt, rt.alloc(), &GREAT, &factors);
+    equal!(&rt; found, Some([[255; 4]; 4]));
 }
 
 const Y2: Block = Block {
@@ -214,16 +227,17 @@ fn corners(plane: &Plane) -> Option<(u8, u8)> {
 }
 
 /// Returns luma where the sixth block is, and in its corners, which show Y2 alone.
-fn luma_of_two_blocks(alloc: Global) -> Option<([[u8; 4]; 4], (u8, u8))> {
-    let tokens = tokens_of_two_blocks();
-    let picture = rebuilt(alloc, LumaMode::Dc, &tokens)?;
-    Some((block_at(picture.plane(0), 4)?, corners(picture.plane(0))?))
+fn luma_of_two_blocks(rt: &impl Abort, alloc: Global) -> (Option<[[u8; 4]; 4]>, Option<(u8, u8)>) {
+    let picture = rebuilt(rt, alloc, LumaMode::Dc, &tokens_of_two_blocks());
+    (block_at(picture.plane(0), 4), corners(picture.plane(0)))
 }
 
 #[test]
 fn first_coefficients_of_y2(rt: HostRuntime) {
-    equal!(rt; has_y2(LumaMode::Dc), true);
-    equal!(rt; luma_of_two_blocks(rt.alloc()), Some((MIXED, (128, 129))));
+    let alloc = rt.alloc();
+    let rt = &rt;
+    let wanted = (Some(MIXED), Some((128, 129)));
+    equal!(rt; (has_y2(LumaMode::Dc), luma_of_two_blocks(rt, alloc)), (true, wanted));
 }
 
 const OTHER: Block = Block {
@@ -301,20 +315,26 @@ const DC_AND_AC: [[u8; 8]; 4] = [
 /// Fails the test if the planes have other pairs.
 fn check_pairs(rt: &impl Abort, picture: &Picture) {
     let luma = picture.plane(0);
-    let left_and_right = (pair_at(luma, 0), pair_at(luma, 8));
-    equal!(rt; left_and_right, (Some(BOTH_WITH_AC), Some(LARGE_AND_AC)));
-    let chroma = (pair_at(picture.plane(1), 0), pair_at(picture.plane(2), 0));
-    equal!(rt; chroma, (Some([BOTH_WITH_DC; 4]), Some(DC_AND_AC)));
-    equal!(rt; corners(luma), Some((127, 128)));
+    let pairs = [
+        pair_at(luma, 0),
+        pair_at(luma, 8),
+        pair_at(picture.plane(1), 0),
+        pair_at(picture.plane(2), 0),
+    ];
+    let wanted = [
+        Some(BOTH_WITH_AC),
+        Some(LARGE_AND_AC),
+        Some([BOTH_WITH_DC; 4]),
+        Some(DC_AND_AC),
+    ];
+    equal!(rt; (pairs, corners(luma)), (wanted, Some((127, 128))));
 }
 
 /// The expected sums come from the formulas of RFC 6386, chapter 14, computed by an independent script. The prediction
 /// is 128 everywhere.
 #[test]
 fn subblocks_side_by_side(rt: HostRuntime) {
-    let tokens = tokens_of_pairs();
-    let Some(picture) = rebuilt(rt.alloc(), LumaMode::Dc, &tokens) else {
-        panic!(rt; "a picture");
-    };
-    check_pairs(&rt, &picture);
+    let alloc = rt.alloc();
+    let rt = &rt;
+    check_pairs(rt, &rebuilt(rt, alloc, LumaMode::Dc, &tokens_of_pairs()));
 }

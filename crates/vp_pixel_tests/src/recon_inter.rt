@@ -38,34 +38,31 @@ fn size(rt: &impl Abort) -> Dim
     ensures width { result.w ≡ 16 }
     ensures height { result.h ≡ 16 }
 {
-    let Ok(dim) = Dim::new(16, 16, &Limits::usual()) else {
-        panic!(rt; "a size");
-    };
-    dim
+    Dim::new(16, 16, &Limits::usual()).expect(rt, "a size")
 }
 
 /// Returns a picture of 16 by 16 pixels, all 7 except for one luma pixel, which is 200.
-fn lit_at(alloc: Global, dim: Dim, x: usize, y: usize) -> Option<Picture>
+fn lit_at(rt: &impl Abort, alloc: Global, dim: Dim, x: usize, y: usize) -> Picture
     requires width { dim.w ≡ 16 }
     requires height { dim.h ≡ 16 }
     requires column { x < 16 }
     requires row { y < 16 }
 {
-    let mut picture = Picture::new(alloc, dim, 7).ok()?;
-    let plane = picture.plane(0);
-    if plane.width() != 16 || plane.height() != 16 {
-        return None;
-    }
+    let mut picture = Picture::new(alloc, dim, 7).expect(rt, "memory");
+    let _known = picture.dim();
     picture.set(0, x, y, 200);
-    Some(picture)
+    picture
 }
 
 /// Returns the number of a picture's pixels, and the first that isn't as expected.
-fn other_pixel(alloc: Global, picture: &Picture, lit: Lit) -> (usize, Option<(usize, u8, u8)>) {
-    match picture.crop_i420(alloc) {
-        Ok(bytes) => (bytes.len(), first_other(&bytes, lit)),
-        Err(_) => (0, None),
-    }
+fn other_pixel(
+    rt: &impl Abort,
+    alloc: Global,
+    picture: &Picture,
+    lit: Lit,
+) -> (usize, Option<(usize, u8, u8)>) {
+    let bytes = picture.crop_i420(alloc).expect(rt, "memory");
+    (bytes.len(), first_other(&bytes, lit))
 }
 
 /// Fails the test if the macroblock rebuilt with this motion, without residue, has other pixels.
@@ -88,11 +85,9 @@ fn check_rebuilt(
         reference,
         version: 0,
     };
-    let Ok(mut rebuilt) = Picture::new(alloc, dim, 0) else {
-        panic!(rt; "memory");
-    };
+    let mut rebuilt = Picture::new(alloc, dim, 0).expect(rt, "memory");
     rebuild_macroblock(&mut rebuilt, TOP, &source, &tokens, &FACTORS);
-    equal!(rt; other_pixel(alloc, &rebuilt, lit), (384, None));
+    equal!(rt; other_pixel(rt, alloc, &rebuilt, lit), (384, None));
 }
 
 /// Fails the test if the macroblock predicted with this motion has other pixels.
@@ -112,11 +107,9 @@ fn check_predicted(
         reference,
         version: 0,
     };
-    let Ok(mut predicted) = Picture::new(alloc, dim, 0) else {
-        panic!(rt; "memory");
-    };
+    let mut predicted = Picture::new(alloc, dim, 0).expect(rt, "memory");
     predict_macroblock(&mut predicted, TOP, &source);
-    equal!(rt; other_pixel(alloc, &predicted, lit), (384, None));
+    equal!(rt; other_pixel(rt, alloc, &predicted, lit), (384, None));
 }
 
 /// Fails the test if the luma pixel at column `x` of row `y` is not moved as expected, by either function.
@@ -132,9 +125,7 @@ fn check_moved(
     requires row { y < 16 }
 {
     let dim = size(rt);
-    let Some(reference) = lit_at(alloc, dim, x, y) else {
-        panic!(rt; "a picture");
-    };
+    let reference = lit_at(rt, alloc, dim, x, y);
     check_rebuilt(rt, alloc, dim, motion, &reference, lit);
     check_predicted(rt, alloc, dim, motion, &reference, lit);
 }

@@ -15,19 +15,25 @@ use vp_transform::{
 fn inverse_examples(rt: HostRuntime) {
     let mut first = [0; 16];
     first[0] = 8;
-    equal!(rt; iwht(&first), [1; 16]);
-    equal!(rt; idct(&first), [1; 16]);
-    equal!(rt; idct_of_first(8), 1);
-    equal!(rt; iwht_of_first(12), 1);
+    let of_first = (
+        iwht(&first),
+        idct(&first),
+        idct_of_first(8),
+        iwht_of_first(12),
+    );
     let block = [
         -700, 123, -45, 6, 77, -888, 99, -10, 11, 12, -1313, 14, -15, 160, 17, -1818,
     ];
-    equal!(rt; idct(&block), [
+    let wanted = [
+        [
             -447, 174, -18, -7, 146, -669, 181, 16, 28, 192, -694, 88, -18, 5, 174, -551,
-        ]);
-    equal!(rt; iwht(&block), [
+        ],
+        [
             -534, 229, -75, 66, 199, -588, 96, -17, -34, 123, -621, 130, 61, -33, 213, -617,
-        ]);
+        ],
+    ];
+    let found = (of_first, [idct(&block), iwht(&block)]);
+    equal!(&rt; found, (([1; 16], [1; 16], 1, 1), wanted));
 }
 
 /// The inverse transforms of that block of 16-bit numbers.
@@ -36,12 +42,15 @@ fn short_example(rt: HostRuntime) {
     let block = [
         -700, 123, -45, 6, 77, -888, 99, -10, 11, 12, -1313, 14, -15, 160, 17, -1818,
     ];
-    equal!(rt; idct_short(&block), [
+    let wanted = (
+        [
             -447, 174, -18, -7, 146, -669, 181, 16, 28, 192, -694, 88, -18, 5, 174, -551,
-        ]);
-    equal!(rt; iwht_short(&block), [
+        ],
+        [
             -534, 229, -75, 66, 199, -588, 96, -17, -34, 123, -621, 130, 61, -33, 213, -617,
-        ]);
+        ],
+    );
+    equal!(&rt; (idct_short(&block), iwht_short(&block)), wanted);
 }
 
 /// Fails the test if the inverse transforms of a pair have other rows.
@@ -50,15 +59,19 @@ fn check_pair(rt: &impl Abort, a: &[i16; 16], b: &[i16; 16], rows: &[[i16; 8]; 4
     requires second { EachWithin 2200 b.now }
 {
     let (top, upper, lower, bottom) = idct_pair(a, b);
-    equal!(rt; top.to_array(), rows[0]);
-    equal!(rt; upper.to_array(), rows[1]);
-    equal!(rt; lower.to_array(), rows[2]);
-    equal!(rt; bottom.to_array(), rows[3]);
+    let found = [
+        top.to_array(),
+        upper.to_array(),
+        lower.to_array(),
+        bottom.to_array(),
+    ];
+    equal!(rt; &found, rows);
 }
 
 /// The inverse transform of that block and the first one as a pair, in either order.
 #[test]
 fn pair_example(rt: HostRuntime) {
+    let rt = &rt;
     let block = [
         -700, 123, -45, 6, 77, -888, 99, -10, 11, 12, -1313, 14, -15, 160, 17, -1818,
     ];
@@ -70,20 +83,21 @@ fn pair_example(rt: HostRuntime) {
         [28, 192, -694, 88, 1, 1, 1, 1],
         [-18, 5, 174, -551, 1, 1, 1, 1],
     ];
-    check_pair(&rt, &block, &first, &after);
+    check_pair(rt, &block, &first, &after);
     let before = [
         [1, 1, 1, 1, -447, 174, -18, -7],
         [1, 1, 1, 1, 146, -669, 181, 16],
         [1, 1, 1, 1, 28, 192, -694, 88],
         [1, 1, 1, 1, -18, 5, 174, -551],
     ];
-    check_pair(&rt, &first, &block, &before);
+    check_pair(rt, &first, &block, &before);
 }
 
 /// Two blocks of extreme numbers, and one of pseudo-random numbers. The expected results come from the formulas of RFC
 /// 6386, chapter 14.4, computed by an independent script.
 #[test]
 fn scattered_pairs(rt: HostRuntime) {
+    let rt = &rt;
     let far = [
         -2200, -2200, 2200, 2200, -2200, -2200, 2200, 2200, 2200, 2200, -2200, -2200, -2200, 2200,
         -2200, 2200,
@@ -94,7 +108,7 @@ fn scattered_pairs(rt: HostRuntime) {
         [810, -161, 161, 32, -362, -1819, 214, -1075],
         [162, -32, 32, 7, 298, 1496, -59, 298],
     ];
-    check_pair(&rt, &[2200; 16], &far, &extreme);
+    check_pair(rt, &[2200; 16], &far, &extreme);
     let scattered = [
         -108, 737, 2142, -1963, 1614, -160, -1776, -916, -1273, 845, 1642, -181, 919, -1365, -158,
         -2093,
@@ -105,7 +119,7 @@ fn scattered_pairs(rt: HostRuntime) {
         [-224, 564, -505, 910, 810, -161, 161, 32],
         [701, -1131, -1413, -150, 162, -32, 32, 7],
     ];
-    check_pair(&rt, &scattered, &[2200; 16], &mixed);
+    check_pair(rt, &scattered, &[2200; 16], &mixed);
 }
 
 /// The expected numbers of the second block come from the formulas, computed by an independent script.
@@ -113,18 +127,21 @@ fn scattered_pairs(rt: HostRuntime) {
 fn forward_examples(rt: HostRuntime) {
     let mut even = [0; 16];
     even[0] = 576;
-    equal!(rt; fdct(&[72; 16]), even);
     let block = [
         -700, 123, -45, 6, 77, -888, 99, -10, 11, 12, -1313, 14, -15, 160, 17, -1818,
     ];
-    equal!(rt; fdct(&block), [
+    let wanted = [
+        even,
+        [
             -2135, 947, -300, -104, 829, -2440, 682, -78, -137, 654, -2482, 292, -80, -143, 642,
             -2382,
-        ]);
-    equal!(rt; fwht(&block), [
+        ],
+        [
             -2135, 915, -300, 266, 797, -2353, 384, -66, -137, 493, -2482, 520, 243, -131, 854,
             -2468,
-        ]);
+        ],
+    ];
+    equal!(&rt; [fdct(&[72; 16]), fdct(&block), fwht(&block)], wanted);
 }
 
 /// These rows in 16-bit lanes.
@@ -132,15 +149,15 @@ fn forward_examples(rt: HostRuntime) {
 fn short_forward_examples(rt: HostRuntime) {
     let mut even = [0i16; 16];
     even[0] = 576;
-    equal!(rt; differences(&[200; 16], &[128; 16]), [72; 16]);
-    equal!(rt; fdct_short(&[72; 16]), even);
     let block = [
         -700, 123, -45, 6, 77, -888, 99, -10, 11, 12, -1313, 14, -15, 160, 17, -1818,
     ];
-    equal!(rt; fwht_short(&block), [
-            -2135, 915, -300, 266, 797, -2353, 384, -66, -137, 493, -2482, 520, 243, -131, 854,
-            -2468,
-        ]);
+    let wanted = [
+        -2135, 915, -300, 266, 797, -2353, 384, -66, -137, 493, -2482, 520, 243, -131, 854, -2468,
+    ];
+    let differing = differences(&[200; 16], &[128; 16]);
+    let found = (differing, fdct_short(&[72; 16]), fwht_short(&block));
+    equal!(&rt; found, ([72; 16], even, wanted));
 }
 
 /// Multiplies by sqrt(2) sin(pi / 8), in the integer form of RFC 6386, chapter 14.4.
@@ -257,17 +274,18 @@ fn check_idct(rt: &impl Abort, block: &[i64; 16])
 /// stream.
 #[test]
 fn narrow_and_wide_blocks(rt: HostRuntime) {
-    check_idct(&rt, &[-2114 * 157; 16]);
+    let rt = &rt;
+    check_idct(rt, &[-2114 * 157; 16]);
     let mut block = [
         8191, -8192, 8191, 8191, -8192, -8192, 8191, -8192, -8192, 8191, -8192, 8191, 8191, 8191,
         -8192, -8192,
     ];
-    check_idct(&rt, &block);
+    check_idct(rt, &block);
     block[15] = -8193;
-    check_idct(&rt, &block);
+    check_idct(rt, &block);
     block[15] = 8192;
     block[0] = 2114 * 157;
-    check_idct(&rt, &block);
+    check_idct(rt, &block);
 }
 
 /// Fails the test if `idct_cut` differs from the direct formula, clamped to 16 bits.
@@ -280,18 +298,18 @@ fn check_idct_cut(rt: &impl Abort, block: &[i64; 16])
 /// Numbers whose transform is clamped, numbers at the bounds of 16-bit arithmetic, and one beyond.
 #[test]
 fn cut_blocks(rt: HostRuntime) {
-    equal!(rt; cut(-32769), -32768);
-    equal!(rt; cut(32768), 32767);
-    check_idct_cut(&rt, &[-2114 * 157; 16]);
+    let rt = &rt;
+    equal!(rt; [cut(-32769), cut(32768)], [-32768, 32767]);
+    check_idct_cut(rt, &[-2114 * 157; 16]);
     let mut block = [
         4095, -4096, 4095, 4095, -4096, -4096, 4095, -4096, -4096, 4095, -4096, 4095, 4095, 4095,
         -4096, -4096,
     ];
-    check_idct_cut(&rt, &block);
+    check_idct_cut(rt, &block);
     block[15] = 4096;
-    check_idct_cut(&rt, &block);
+    check_idct_cut(rt, &block);
     block[15] = -4097;
-    check_idct_cut(&rt, &block);
+    check_idct_cut(rt, &block);
 }
 
 /// Fails the test if `iwht` differs from the direct formula.
@@ -304,17 +322,18 @@ fn check_iwht(rt: &impl Abort, block: &[i64; 16])
 /// Numbers at the bounds of the arithmetic of `iwht` and one beyond.
 #[test]
 fn narrow_and_wide_hadamard_blocks(rt: HostRuntime) {
-    check_iwht(&rt, &[-2114 * 157; 16]);
+    let rt = &rt;
+    check_iwht(rt, &[-2114 * 157; 16]);
     let mut block = [
         67108863, -67108864, 67108863, 67108863, -67108864, -67108864, 67108863, -67108864,
         -67108864, 67108863, -67108864, 67108863, 67108863, 67108863, -67108864, -67108864,
     ];
-    check_iwht(&rt, &block);
+    check_iwht(rt, &block);
     block[15] = -67108865;
-    check_iwht(&rt, &block);
+    check_iwht(rt, &block);
     block[15] = 67108864;
     block[0] = 1 << 40;
-    check_iwht(&rt, &block);
+    check_iwht(rt, &block);
 }
 
 /// Returns a pseudo-random number.
@@ -338,10 +357,11 @@ fn scattered_block(seed: u64) -> [i64; 16]
 /// Both transforms equal their direct formulas, for numbers within the bounds of 16-bit arithmetic and beyond.
 #[test]
 fn scattered_blocks(rt: HostRuntime) {
+    let rt = &rt;
     for seed in 1..50 {
         let block = scattered_block(seed);
-        check_idct(&rt, &block);
-        check_idct_cut(&rt, &block);
-        check_iwht(&rt, &block);
+        check_idct(rt, &block);
+        check_idct_cut(rt, &block);
+        check_iwht(rt, &block);
     }
 }

@@ -4,9 +4,8 @@ ghost use Rattle.std.specs.Prelude.{◌≡◌, ◌<◌, ◌≤◌, length};
 ghost use Rattle.vp_search.specs.Vectors.{IsNear};
 
 use crate::check::equal;
-use std::alloc::{AllocError, Global};
+use std::alloc::Global;
 use std::process::Abort;
-use std::test::Fail;
 use vp_base::{Place, Plane};
 use vp_inter::{luma_vector, predict_block16};
 use vp_search::{
@@ -186,36 +185,26 @@ fn first_wrong_length(a: &[u8; 256], b: &[u8; 256]) -> Option<usize> {
     None
 }
 
-/// A frame and the one in which its blocks are searched for, of 48 by 48 pixels.
-#[derive(Drop)]
-struct Planes {
-    source: Plane,
-    reference: Plane,
+/// Returns a flat plane of 48 by 48 pixels.
+fn flat(rt: &impl Abort, alloc: Global, pixel: u8) -> Plane {
+    Plane::new(alloc, 48, 48, pixel).expect(rt, "memory")
 }
 
-/// Returns flat planes of these pixels.
-fn flat_planes(alloc: Global, source: u8, reference: u8) -> Result<Planes, AllocError> {
-    let source = Plane::new(alloc, 48, 48, source)?;
-    let reference = Plane::new(alloc, 48, 48, reference)?;
-    Ok(Planes { source, reference })
-}
-
-/// Fails the test if blocks of flat planes are found elsewhere than in place.
-fn check_flat(rt: &impl Abort, source: &Plane, reference: &Plane) {
-    equal!(rt; search(source, source, 1, 1, 16), Some(found(0, 0, 0)));
-    equal!(rt; search(source, reference, 0, 2, 64), Some(found(0, 0, 768)));
+/// Blocks of flat planes are found in place.
+#[test]
+fn flat_planes_stand_still(rt: HostRuntime) {
+    let alloc = rt.alloc();
+    let rt = &rt;
+    let source = flat(rt, alloc, 100);
+    let reference = flat(rt, alloc, 103);
+    let same = search(&source, &source, 1, 1, 16);
+    let other = search(&source, &reference, 0, 2, 64);
+    equal!(rt; [same, other], [Some(found(0, 0, 0)), Some(found(0, 0, 768))]);
     let still = Refined {
         vector: QuarterVector { row: 0, column: 0 },
         cost: 768,
     };
-    equal!(rt; refined(source, reference, 0, 0), Some(still));
-}
-
-#[test]
-fn flat_planes_stand_still(rt: HostRuntime) -> Result<(), Fail> {
-    let planes = flat_planes(rt.alloc(), 100, 103)?;
-    check_flat(&rt, &planes.source, &planes.reference);
-    Ok(())
+    equal!(rt; refined(&source, &reference, 0, 0), Some(still));
 }
 
 /// Columns and rows of macroblocks, and the rows down and columns to the right by which the noise is shifted.
@@ -229,76 +218,70 @@ const MOVES: [(usize, usize, i32, i32); 7] = [
     (0, 2, 13, -7),
 ];
 
-/// Fails the test if a block is not found where it was moved to.
-fn check_moves(rt: &impl Abort, source: &mut Plane, reference: &mut Plane) {
-    fill(reference, 0, 0);
-    for (column, row, down, right) in MOVES {
-        fill(source, down, right);
-        let wanted = Some(found(down, right, 0));
-        let moved = search(source, reference, column, row, 16);
-        equal!(rt; (column, row, moved), (column, row, wanted));
-    }
+/// Searches a plane of noise for the middle, or another, macroblock of noise that is shifted down and to the right.
+fn moved(source: &mut Plane, reference: &Plane, to: (usize, usize, i32, i32)) -> Option<Found> {
+    let (column, row, down, right) = to;
+    fill(source, down, right);
+    search(source, reference, column, row, 16)
 }
 
+/// Blocks are found where they were moved to.
 #[test]
-fn moved_blocks_are_found(rt: HostRuntime) -> Result<(), Fail> {
-    let mut planes = flat_planes(rt.alloc(), 0, 0)?;
-    check_moves(&rt, &mut planes.source, &mut planes.reference);
-    Ok(())
-}
-
-/// Fails the test if another vector than the shortest is found far outside.
-fn check_far(rt: &impl Abort, source: &mut Plane, reference: &mut Plane) {
-    fill(reference, 0, 0);
-    fill(source, 40, -50);
-    equal!(rt; search(source, reference, 1, 1, 64), Some(found(31, -31, 0)));
+fn moved_blocks_are_found(rt: HostRuntime) {
+    let alloc = rt.alloc();
+    let rt = &rt;
+    let mut source = flat(rt, alloc, 0);
+    let mut reference = flat(rt, alloc, 0);
+    fill(&mut reference, 0, 0);
+    for to in MOVES {
+        let (_, _, down, right) = to;
+        equal!(rt; (to, moved(&mut source, &reference, to)), (to, Some(found(down, right, 0))));
+    }
 }
 
 /// Far below and to the left of the plane all pixels equal its corner: the shortest such vector is chosen.
 #[test]
-fn far_outside_the_shortest_is_taken(rt: HostRuntime) -> Result<(), Fail> {
-    let mut planes = flat_planes(rt.alloc(), 0, 0)?;
-    check_far(&rt, &mut planes.source, &mut planes.reference);
-    Ok(())
-}
-
-/// Fails the test if another one of equal vectors is found along lines.
-fn check_lines(rt: &impl Abort, source: &mut Plane, reference: &mut Plane) {
-    for (slant, later, column) in [(1, 1, 1), (2, 6, 3), (32, 32, -1)] {
-        let wanted = Some(found(0, column, 0));
-        let found = along_lines(source, reference, slant, later);
-        equal!(rt; (slant, later, found), (slant, later, wanted));
-    }
+fn far_outside_the_shortest_is_taken(rt: HostRuntime) {
+    let alloc = rt.alloc();
+    let rt = &rt;
+    let mut source = flat(rt, alloc, 0);
+    let mut reference = flat(rt, alloc, 0);
+    fill(&mut reference, 0, 0);
+    fill(&mut source, 40, -50);
+    equal!(rt; search(&source, &reference, 1, 1, 64), Some(found(31, -31, 0)));
 }
 
 /// Along lines many vectors find equal pixels. A column to the right, or a row down: the least row is chosen. Three
 /// columns to the right, or two and two rows down: the shortest, with both directions added. Every second column: the
 /// least one.
 #[test]
-fn of_equal_vectors_by_length_row_and_column(rt: HostRuntime) -> Result<(), Fail> {
-    let mut planes = flat_planes(rt.alloc(), 0, 0)?;
-    check_lines(&rt, &mut planes.source, &mut planes.reference);
-    Ok(())
-}
-
-/// Fails the test if another one of equal neighbours is chosen.
-fn check_neighbours(rt: &impl Abort, source: &mut Plane, reference: &mut Plane) {
-    fill_lines(reference, 1, 0);
-    predict_middle(source, reference, 2, 0);
-    let best = Refined {
-        vector: QuarterVector { row: 0, column: 2 },
-        cost: 0,
-    };
-    equal!(rt; refined(source, reference, 0, 0), Some(best));
+fn of_equal_vectors_by_length_row_and_column(rt: HostRuntime) {
+    let alloc = rt.alloc();
+    let rt = &rt;
+    let mut source = flat(rt, alloc, 0);
+    let mut reference = flat(rt, alloc, 0);
+    for (slant, later, column) in [(1, 1, 1), (2, 6, 3), (32, 32, -1)] {
+        let wanted = Some(found(0, column, 0));
+        let found = along_lines(&mut source, &mut reference, slant, later);
+        equal!(rt; (slant, later, found), (slant, later, wanted));
+    }
 }
 
 /// Along lines that go as far down as to the left, half a pixel to the right equals half a pixel down: the first by
 /// rows is chosen.
 #[test]
-fn of_equal_neighbours_by_rows(rt: HostRuntime) -> Result<(), Fail> {
-    let mut planes = flat_planes(rt.alloc(), 0, 0)?;
-    check_neighbours(&rt, &mut planes.source, &mut planes.reference);
-    Ok(())
+fn of_equal_neighbours_by_rows(rt: HostRuntime) {
+    let alloc = rt.alloc();
+    let rt = &rt;
+    let mut source = flat(rt, alloc, 0);
+    let mut reference = flat(rt, alloc, 0);
+    fill_lines(&mut reference, 1, 0);
+    predict_middle(&mut source, &reference, 2, 0);
+    let best = Refined {
+        vector: QuarterVector { row: 0, column: 2 },
+        cost: 0,
+    };
+    equal!(rt; refined(&source, &reference, 0, 0), Some(best));
 }
 
 /// The vector of predicted blocks in planes of slopes.
@@ -310,37 +293,41 @@ const SLOPED: Refined = Refined {
     cost: 0,
 };
 
-/// Fails the test if a predicted block is refined to another vector.
-fn check_predicted(rt: &impl Abort, source: &mut Plane, reference: &mut Plane) {
+/// Predicts a block of a plane of slopes, and refines a vector that is near it.
+fn refined_slope(source: &mut Plane, reference: &mut Plane) -> Option<Refined> {
     fill_slope(reference);
     predict_middle(source, reference, 10, -11);
-    equal!(rt; refined(source, reference, 2, -3), Some(SLOPED));
+    refined(source, reference, 2, -3)
 }
 
 #[test]
-fn predicted_blocks_are_refined(rt: HostRuntime) -> Result<(), Fail> {
-    let mut planes = flat_planes(rt.alloc(), 0, 0)?;
-    check_predicted(&rt, &mut planes.source, &mut planes.reference);
-    Ok(())
+fn predicted_blocks_are_refined(rt: HostRuntime) {
+    let alloc = rt.alloc();
+    let rt = &rt;
+    let mut source = flat(rt, alloc, 0);
+    let mut reference = flat(rt, alloc, 0);
+    equal!(rt; refined_slope(&mut source, &mut reference), Some(SLOPED));
 }
 
 #[test]
-fn found_blocks_are_refined(rt: HostRuntime) -> Result<(), Fail> {
-    let mut reference = Plane::new(rt.alloc(), 48, 48, 0)?;
+fn found_blocks_are_refined(rt: HostRuntime) {
+    let mut reference = flat(&rt, rt.alloc(), 0);
     fill_slope(&mut reference);
-    equal!(rt; searched(&reference, 10, -11), Some(SLOPED));
-    Ok(())
+    equal!(&rt; searched(&reference, 10, -11), Some(SLOPED));
 }
 
 #[test]
 fn sums_are_the_plain_ones(rt: HostRuntime) {
+    let rt = &rt;
     let a = noise_block(3);
     let b = noise_block(201);
     equal!(rt; sad16(&a, &b), plain_differences(&a, &b));
-    equal!(rt; sad16(&[0; 256], &[255; 256]), 65280);
-    equal!(rt; first_wrong_length(&a, &b), None);
-    equal!(rt; sse(&[0, 3], &[5, 1]), 29);
-    equal!(rt; first_least(&[7, 2, 5, 2]), 1);
+    let found = (
+        sad16(&[0; 256], &[255; 256]),
+        sse(&[0, 3], &[5, 1]),
+        first_least(&[7, 2, 5, 2]),
+    );
+    equal!(rt; (first_wrong_length(&a, &b), found), (None, (65280, 29, 1)));
 }
 
 /// Fills a plane of this size with noise.
@@ -418,22 +405,27 @@ fn first_other_along(
     (28, None)
 }
 
-/// Fails the test if a searcher finds something else in one of these ranges.
-fn check_along(rt: &impl Abort, alloc: Global, reference: &Plane) {
-    for range in [7, 8, 16, 17, 27, 28, 64] {
-        let other = first_other_along(alloc, reference, range);
-        equal!(rt; (range, other), (range, (28, None)));
-    }
+/// Returns a plane of noise.
+fn noisy(rt: &impl Abort, alloc: Global, width: usize, height: usize) -> Plane
+    requires width { width ≤ 16384 }
+    requires height { height ≤ 16384 }
+{
+    let mut plane = Plane::new(alloc, width, height, 0).expect(rt, "memory");
+    fill_with_noise(&mut plane, width, height);
+    plane
 }
 
 /// A searcher keeps sums from one macroblock to the next, leaves them out for some, and finds what a search from
 /// nothing does.
 #[test]
-fn kept_sums_are_the_same(rt: HostRuntime) -> Result<(), Fail> {
-    let mut reference = Plane::new(rt.alloc(), 53, 37, 0)?;
-    fill_with_noise(&mut reference, 53, 37);
-    check_along(&rt, rt.alloc(), &reference);
-    Ok(())
+fn kept_sums_are_the_same(rt: HostRuntime) {
+    let alloc = rt.alloc();
+    let rt = &rt;
+    let reference = noisy(rt, alloc, 53, 37);
+    for range in [7, 8, 16, 17, 27, 28, 64] {
+        let other = first_other_along(alloc, &reference, range);
+        equal!(rt; (range, other), (range, (28, None)));
+    }
 }
 
 /// Returns the first step of a walk at which a searcher finds something else than the best vector below a limit that is
@@ -463,14 +455,14 @@ fn first_unlimited_along(
 
 /// What costs as much as the limit is not found.
 #[test]
-fn limits_are_kept(rt: HostRuntime) -> Result<(), Fail> {
-    let mut reference = Plane::new(rt.alloc(), 53, 37, 0)?;
-    fill_with_noise(&mut reference, 53, 37);
+fn limits_are_kept(rt: HostRuntime) {
+    let alloc = rt.alloc();
+    let rt = &rt;
+    let reference = noisy(rt, alloc, 53, 37);
     for range in [7, 8, 28, 64] {
-        let other = first_unlimited_along(rt.alloc(), &reference, range);
+        let other = first_unlimited_along(alloc, &reference, range);
         equal!(rt; (range, other), (range, (28, None)));
     }
-    Ok(())
 }
 
 /// Returns the first of 67 columns at which a searcher finds something else than `search_block` does, and what both
@@ -494,10 +486,9 @@ fn first_other_across(alloc: Global, reference: &Plane) -> (usize, Option<(Optio
 
 /// Sums slide by 64 macroblocks at most; then all are made anew.
 #[test]
-fn kept_sums_begin_anew(rt: HostRuntime) -> Result<(), Fail> {
-    let mut reference = Plane::new(rt.alloc(), 1072, 16, 0)?;
-    fill_with_noise(&mut reference, 1072, 16);
-    let other = first_other_across(rt.alloc(), &reference);
-    equal!(rt; other, (67, None));
-    Ok(())
+fn kept_sums_begin_anew(rt: HostRuntime) {
+    let alloc = rt.alloc();
+    let rt = &rt;
+    let reference = noisy(rt, alloc, 1072, 16);
+    equal!(rt; first_other_across(alloc, &reference), (67, None));
 }

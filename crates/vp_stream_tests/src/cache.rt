@@ -2,13 +2,12 @@
 
 ghost use Rattle.vp_cache.specs.Cache.{AreAnswersOf};
 
-use crate::check::equal;
+use crate::check::{equal, parts};
 use std::alloc::Global;
 use std::process::Abort;
-use std::test::Fail;
 use vp_base::Limits;
 use vp_cache::Cache;
-use vp_stream::{Answer, Stream};
+use vp_stream::Stream;
 
 // An IVF file of 16 by 16 pixels with those two packets.
 const FILE: [u8; 69] = [
@@ -17,37 +16,28 @@ const FILE: [u8; 69] = [
     0x01, 0x2a, 0x10, 0, 0x10, 0, 3, 0, 0, 0, 0, 0, 0, 0, 0, 0, 0, 0, 0x11, 0, 0,
 ];
 
-/// Returns whether the answer is a picture of 16 by 16 pixels, all 128.
-fn is_grey(answer: &Answer) -> bool {
-    match answer {
-        Answer::Shown(dim, bytes) => {
-            dim.w == 16 && dim.h == 16 && bytes.as_slice() == [128; 384].as_slice()
-        }
-        _ => false,
-    }
-}
-
-fn stream_of(alloc: Global) -> Stream {
+fn stream_of(rt: &impl Abort, alloc: Global) -> Stream {
     let mut stream = Stream::new(alloc, Limits::usual());
-    let _ = stream.feed(&FILE);
+    stream.feed(&FILE).expect(rt, "a file");
     stream
 }
 
-/// Asks for the second packet, which is not kept before.
-fn fills(rt: &impl Abort, cache: &mut Cache, stream: &Stream) -> Result<(), Fail>
+/// Asks for the second packet, which is not kept before: a picture of 16 by 16 pixels, all 128.
+fn fills(rt: &impl Abort, cache: &mut Cache, stream: &Stream)
     requires { AreAnswersOf 0 stream.now cache.old.entries }
 {
     let mut work = 0;
-    assert!(rt; cache.cached(0, 1).is_none());
-    assert!(rt; is_grey(&cache.picture(0, stream, 1, &mut work)?));
-    equal(rt, &work, &2);
-    assert!(rt; cache.cached(0, 1).is_some());
-    Ok(())
+    equal!(rt; cache.cached(0, 1).is_none(), true);
+    let found = cache.picture(0, stream, 1, &mut work).expect(rt, "memory");
+    let wanted = ("shown", None, Some(((16, 16), [128; 384].as_slice())));
+    equal!(rt; parts(&found), wanted);
+    equal!(rt; work, 2);
+    equal!(rt; cache.cached(0, 1).is_some(), true);
 }
 
 #[test]
-fn cache_is_filled(rt: HostRuntime) -> Result<(), Fail> {
-    let mut cache = Cache::new(rt.alloc(), 1)?;
-    let stream = stream_of(rt.alloc());
-    fills(&rt, &mut cache, &stream)
+fn cache_is_filled(rt: HostRuntime) {
+    let mut cache = Cache::new(rt.alloc(), 1).expect(&rt, "memory");
+    let stream = stream_of(&rt, rt.alloc());
+    fills(&rt, &mut cache, &stream);
 }

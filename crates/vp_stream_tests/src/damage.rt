@@ -1,27 +1,35 @@
 //! Tests of a decoder that goes on after damage, and of the facts of frames.
 
-ghost use Rattle.std.specs.Prelude.{◌<◌, ◌≤◌, length};
-
 use crate::check::equal;
-use crate::files::{HIDDEN, INTER, KEY, append_runs};
-use std::alloc::{AllocError, Global};
-use std::test::Fail;
+use crate::files::{HIDDEN, INTER, KEY, key_picture};
+use std::alloc::Global;
+use std::process::Abort;
 use vp_base::Limits;
 use vp_decode::{DecodedPacket, Decoder, FrameFacts, OnFault, Outcome};
 use vp_head::PacketFault;
 
-// Decodes a packet by a decoder that goes on after damage. Appends its picture if it shows one.
+// Returns the bytes of the decoder's picture, and none if it shows none.
+fn shown(rt: &impl Abort, alloc: Global, decoder: &Decoder) -> Vec<u8> {
+    match decoder.picture() {
+        Some(picture) => picture.crop_i420(alloc).expect(rt, "memory"),
+        None => Vec::new(alloc),
+    }
+}
+
+// Decodes a packet by a decoder that goes on after damage. Its outcome, and the bytes that are shown, must be these.
+// The step tells packets apart that come more than once.
 fn play(
+    rt: &impl Abort,
     alloc: Global,
     decoder: &mut Decoder,
-    packet: &[u8],
-    pixels: &mut Vec<u8>,
-) -> Result<Outcome, AllocError> {
-    let outcome = decoder.decode_keeping(packet)?;
-    if let Some(picture) = decoder.picture() {
-        pixels.extend_from_slice(&picture.crop_i420(alloc)?)?;
-    }
-    Ok(outcome)
+    (step, packet): (u32, &[u8]),
+    outcome: Outcome,
+    wanted: &[u8],
+) {
+    let found = decoder.decode_keeping(packet);
+    equal!(rt; (step, packet, found), (step, packet, Ok(outcome)));
+    let bytes = shown(rt, alloc, decoder);
+    equal!(rt; (step, packet, bytes.as_slice()), (step, packet, wanted));
 }
 
 // An inter packet whose first token partition passes its end.
@@ -29,61 +37,63 @@ const CUT_PARTITION: [u8; 25] = [
     0x31, 0, 0, 0xff, 1, 0, 0, 0, 0, 0, 0, 0, 0, 0, 0, 0, 0, 0, 0, 0, 0, 0, 0, 0, 0,
 ];
 
-// Plays a packet with each kind of fault but `NoReference` and `TooLarge`. Returns the outcomes.
-fn play_damage(
-    alloc: Global,
-    decoder: &mut Decoder,
-    pixels: &mut Vec<u8>,
-) -> Result<[Outcome; 7], AllocError> {
-    let packets: [&[u8]; 7] = [
-        &INTER[..2],
-        &[0x18, 0, 0],
+// A packet with each kind of fault but `NoReference` and `TooLarge`.
+const DAMAGED: [(&[u8], PacketFault); 7] = [
+    (&[0x11, 0], PacketFault::Truncated),
+    (&[0x18, 0, 0], PacketFault::Version),
+    (
         &[0x10, 0, 0, 0x9d, 0x01, 0x2b, 0x10, 0, 0x10, 0],
+        PacketFault::StartCode,
+    ),
+    (
         &[0x10, 0, 0, 0x9d, 0x01, 0x2a, 0, 0, 0x10, 0],
-        &[0x31, 0, 0],
+        PacketFault::Size,
+    ),
+    (&[0x31, 0, 0], PacketFault::FirstPartition),
+    (
         &[0x30, 0, 0, 0x9d, 0x01, 0x2a, 0x10, 0, 0x10, 0, 0xff],
-        &CUT_PARTITION,
-    ];
-    let mut outcomes = [Outcome::Hidden; 7];
-    for (outcome, packet) in outcomes.iter_mut().zip(packets) {
-        *outcome = play(alloc, decoder, packet, pixels)?;
+        PacketFault::PartitionTable,
+    ),
+    (&CUT_PARTITION, PacketFault::Partition(0)),
+];
+
+// Plays these packets: they show nothing.
+fn play_damage(rt: &impl Abort, alloc: Global, decoder: &mut Decoder, step: u32) {
+    for (packet, fault) in &DAMAGED {
+        play(
+            rt,
+            alloc,
+            decoder,
+            (step, packet),
+            Outcome::Fault(*fault),
+            &[],
+        );
     }
-    Ok(outcomes)
 }
 
-// The faults of these packets.
-const FAULTS: [Outcome; 7] = [
-    Outcome::Fault(PacketFault::Truncated),
-    Outcome::Fault(PacketFault::Version),
-    Outcome::Fault(PacketFault::StartCode),
-    Outcome::Fault(PacketFault::Size),
-    Outcome::Fault(PacketFault::FirstPartition),
-    Outcome::Fault(PacketFault::PartitionTable),
-    Outcome::Fault(PacketFault::Partition(0)),
-];
+// Plays a stream with damage between its packets.
+fn play_stream(rt: &impl Abort, alloc: Global, decoder: &mut Decoder) {
+    play(
+        rt,
+        alloc,
+        decoder,
+        (0, &KEY),
+        Outcome::Shown,
+        &key_picture(),
+    );
+    play_damage(rt, alloc, decoder, 1);
+    play(rt, alloc, decoder, (2, &[]), Outcome::Shown, &key_picture());
+    play(rt, alloc, decoder, (3, &INTER), Outcome::Shown, &[128; 384]);
+    play_damage(rt, alloc, decoder, 4);
+    play(rt, alloc, decoder, (5, &HIDDEN), Outcome::Hidden, &[]);
+    play(rt, alloc, decoder, (6, &[]), Outcome::Hidden, &[]);
+}
 
 /// Damage between packets shows no picture. The packets after it show the pictures of a stream without it.
 #[test]
-fn a_stream_goes_on_after_damage(rt: HostRuntime) -> Result<(), Fail> {
-    let alloc = rt.alloc();
-    let mut decoder = Decoder::new(alloc, Limits::usual());
-    let mut pixels = Vec::new(alloc);
-    let key = play(alloc, &mut decoder, &KEY, &mut pixels)?;
-    let faults = play_damage(alloc, &mut decoder, &mut pixels)?;
-    let repeated = play(alloc, &mut decoder, &[], &mut pixels)?;
-    let inter = play(alloc, &mut decoder, &INTER, &mut pixels)?;
-    let again = play_damage(alloc, &mut decoder, &mut pixels)?;
-    let hidden = play(alloc, &mut decoder, &HIDDEN, &mut pixels)?;
-    let last = play(alloc, &mut decoder, &[], &mut pixels)?;
-    equal(&rt, &[faults, again], &[FAULTS, FAULTS]);
-    equal(&rt, &[key, repeated, inter], &[Outcome::Shown; 3]);
-    equal(&rt, &[hidden, last], &[Outcome::Hidden; 2]);
-    let mut wanted = Vec::new(alloc);
-    append_runs(&mut wanted, [64, 192, 128])?;
-    append_runs(&mut wanted, [64, 192, 128])?;
-    append_runs(&mut wanted, [384, 0, 0])?;
-    assert!(rt; pixels == wanted);
-    Ok(())
+fn a_stream_goes_on_after_damage(rt: HostRuntime) {
+    let mut decoder = Decoder::new(rt.alloc(), Limits::usual());
+    play_stream(&rt, rt.alloc(), &mut decoder);
 }
 
 // The first packets of a stream of 16 by 16 pixels, from a generator of random syntax. `vp_transcripts` decodes all of
@@ -114,60 +124,45 @@ const STREAM_INTER_3: [u8; 55] = [
     0x7e, 0xe9, 0x8d, 0x1d, 0x50, 0x4e, 0x80, 0, 0, 0, 0, 1, 0x80, 0, 0, 0, 0x38, 0, 0, 0, 0,
 ];
 
-// Plays packets, each after one that is cut in its first partition. Returns the outcomes of these, and appends the
-// pictures.
-fn play_after_damage(
+// These packets.
+const STREAM: [&[u8]; 4] = [
+    &STREAM_KEY,
+    &STREAM_INTER_1,
+    &STREAM_INTER_2,
+    &STREAM_INTER_3,
+];
+
+// Decodes a packet by a decoder, and by one that goes on after damage, which gets a packet that is cut in its first
+// partition before. Both must show the same picture of 384 bytes.
+fn play_both(
+    rt: &impl Abort,
     alloc: Global,
     decoder: &mut Decoder,
-    packets: [&[u8]; 4],
-    pixels: &mut Vec<u8>,
-) -> Result<[Outcome; 4], AllocError> {
-    let mut outcomes = [Outcome::Hidden; 4];
-    for (outcome, packet) in outcomes.iter_mut().zip(packets) {
-        let cut = packet.len().min(12);
-        *outcome = play(alloc, decoder, &packet[..cut], pixels)?;
-        play(alloc, decoder, packet, pixels)?;
-    }
-    Ok(outcomes)
+    keeping: &mut Decoder,
+    packet: &[u8],
+) {
+    let cut = packet.get(..12).expect(rt, "a packet");
+    let fault = Outcome::Fault(PacketFault::FirstPartition);
+    play(rt, alloc, keeping, (0, cut), fault, &[]);
+    let outcome = decoder.decode(packet).expect(rt, "memory");
+    let wanted = shown(rt, alloc, decoder);
+    play(rt, alloc, keeping, (1, packet), outcome, &wanted);
+    equal!(rt; (packet, wanted.len()), (packet, 384));
 }
 
-// Decodes packets, and appends the pictures.
-fn decode(
-    alloc: Global,
-    decoder: &mut Decoder,
-    packets: [&[u8]; 4],
-    pixels: &mut Vec<u8>,
-) -> Result<(), AllocError> {
-    for packet in packets {
-        decoder.decode(packet)?;
-        if let Some(picture) = decoder.picture() {
-            pixels.extend_from_slice(&picture.crop_i420(alloc)?)?;
-        }
+// Does so with each packet of the stream.
+fn play_all(rt: &impl Abort, alloc: Global, decoder: &mut Decoder, keeping: &mut Decoder) {
+    for packet in &STREAM {
+        play_both(rt, alloc, decoder, keeping, packet);
     }
-    Ok(())
 }
 
 /// The pictures of a stream with damage between its packets are those of the stream without it.
 #[test]
-fn pictures_after_damage_are_those_without_it(rt: HostRuntime) -> Result<(), Fail> {
-    let alloc = rt.alloc();
-    let packets: [&[u8]; 4] = [
-        &STREAM_KEY,
-        &STREAM_INTER_1,
-        &STREAM_INTER_2,
-        &STREAM_INTER_3,
-    ];
-    let mut wanted = Vec::new(alloc);
-    let mut decoder = Decoder::new(alloc, Limits::usual());
-    decode(alloc, &mut decoder, packets, &mut wanted)?;
-    let mut pixels = Vec::new(alloc);
-    let mut keeping = Decoder::new(alloc, Limits::usual());
-    let faults = play_after_damage(alloc, &mut keeping, packets, &mut pixels)?;
-    let fault = Outcome::Fault(PacketFault::FirstPartition);
-    equal(&rt, &faults, &[fault; 4]);
-    equal(&rt, &wanted.len(), &1536);
-    assert!(rt; pixels == wanted);
-    Ok(())
+fn pictures_after_damage_are_those_without_it(rt: HostRuntime) {
+    let mut decoder = Decoder::new(rt.alloc(), Limits::usual());
+    let mut keeping = Decoder::new(rt.alloc(), Limits::usual());
+    play_all(&rt, rt.alloc(), &mut decoder, &mut keeping);
 }
 
 // A key packet of 16 by 17 pixels, version 3, with upscaling codes 3 and 1.
@@ -200,12 +195,20 @@ fn refused(fault: PacketFault) -> DecodedPacket {
     decoded(Outcome::Fault(fault), None)
 }
 
-/// The facts of a key frame and of an inter frame. Packets with a fault and empty packets have none.
-#[test]
-fn facts_of_frames(rt: HostRuntime) -> Result<(), Fail> {
-    let mut decoder = Decoder::new(rt.alloc(), Limits::usual());
-    let early = decoder.decode_with_facts(&INTER, OnFault::Keep)?;
-    equal(&rt, &early, &refused(PacketFault::NoReference));
+// Decodes a packet, and compares the result.
+fn check_facts(
+    rt: &impl Abort,
+    decoder: &mut Decoder,
+    packet: &[u8],
+    on_fault: OnFault,
+    wanted: DecodedPacket,
+) {
+    let found = decoder.decode_with_facts(packet, on_fault);
+    equal!(rt; (packet, found), (packet, Ok(wanted)));
+}
+
+// The facts of a key frame and of an inter frame. Packets with a fault and empty packets have none.
+fn check_frames(rt: &impl Abort, decoder: &mut Decoder) {
     let key = FrameFacts {
         key: true,
         version: 3,
@@ -216,20 +219,25 @@ fn facts_of_frames(rt: HostRuntime) -> Result<(), Fail> {
         refreshes_alt: true,
         ..ZEROS
     };
-    let first = decoder.decode_with_facts(&SCALED, OnFault::Forget)?;
-    equal(&rt, &first, &decoded(Outcome::Shown, Some(key)));
-    let second = decoder.decode_with_facts(&INTER, OnFault::Keep)?;
-    equal(&rt, &second, &decoded(Outcome::Shown, Some(ZEROS)));
-    let dropped = decoder.decode_with_facts(&[], OnFault::Keep)?;
-    equal(&rt, &dropped, &decoded(Outcome::Shown, None));
-    Ok(())
+    let early = refused(PacketFault::NoReference);
+    check_facts(rt, decoder, &INTER, OnFault::Keep, early);
+    let first = decoded(Outcome::Shown, Some(key));
+    check_facts(rt, decoder, &SCALED, OnFault::Forget, first);
+    let second = decoded(Outcome::Shown, Some(ZEROS));
+    check_facts(rt, decoder, &INTER, OnFault::Keep, second);
+    let dropped = decoded(Outcome::Shown, None);
+    check_facts(rt, decoder, &[], OnFault::Keep, dropped);
 }
 
-/// The facts of a hidden inter frame whose bools are all 1, with eight partitions.
 #[test]
-fn facts_of_an_inter_frame(rt: HostRuntime) -> Result<(), Fail> {
+fn facts_of_frames(rt: HostRuntime) {
     let mut decoder = Decoder::new(rt.alloc(), Limits::usual());
-    equal(&rt, &decoder.decode(&SCALED)?, &Outcome::Shown);
+    check_frames(&rt, &mut decoder);
+}
+
+// The facts of a hidden inter frame whose bools are all 1, with eight partitions.
+fn check_inter_frame(rt: &impl Abort, decoder: &mut Decoder) {
+    equal!(rt; decoder.decode(&SCALED), Ok(Outcome::Shown));
     let mut packet = [0; 25];
     packet[..4].copy_from_slice(&[0x21, 0, 0, 0xff]);
     let ones = FrameFacts {
@@ -240,15 +248,23 @@ fn facts_of_an_inter_frame(rt: HostRuntime) -> Result<(), Fail> {
         refreshes_alt: true,
         ..ZEROS
     };
-    let cut = decoder.decode_with_facts(&packet[..24], OnFault::Keep)?;
-    equal(&rt, &cut, &refused(PacketFault::PartitionTable));
-    let whole = decoder.decode_with_facts(&packet, OnFault::Keep)?;
-    equal(&rt, &whole, &decoded(Outcome::Hidden, Some(ones)));
-    Ok(())
+    let cut = refused(PacketFault::PartitionTable);
+    check_facts(rt, decoder, &packet[..24], OnFault::Keep, cut);
+    let whole = decoded(Outcome::Hidden, Some(ones));
+    check_facts(rt, decoder, &packet, OnFault::Keep, whole);
 }
 
-// Token partitions of key packets of 17 by 1 pixels, made from random bytes: as many as libvpx 1.12 needs to find the
-// frame complete, after a first partition of 20 zeros. With one byte less it reports damage.
+#[test]
+fn facts_of_an_inter_frame(rt: HostRuntime) {
+    let mut decoder = Decoder::new(rt.alloc(), Limits::usual());
+    check_inter_frame(&rt, &mut decoder);
+}
+
+// The start code and the size of a key packet of 17 by 1 pixels.
+const WIDE: [u8; 7] = [0x9d, 0x01, 0x2a, 17, 0, 1, 0];
+
+// Token partitions of key packets of this size, made from random bytes: as many as libvpx 1.12 needs to find the frame
+// complete, after a first partition of 20 zeros. With one byte less it reports damage.
 const WHOLE: [&[u8]; 4] = [
     &[
         0x1c, 0x2e, 0x2b, 0xb8, 0x56, 0x9d, 0x80, 0x6c, 0x12, 0x51, 0xdc, 0xc9,
@@ -264,84 +280,77 @@ const WHOLE: [&[u8]; 4] = [
     ],
 ];
 
-// Returns whether the key packet with this token partition is corrupt.
-fn is_corrupt(alloc: Global, tokens: &[u8]) -> Result<bool, AllocError> {
-    let mut packet = Vec::new(alloc);
-    packet.extend_from_slice(&[0x90, 2, 0, 0x9d, 0x01, 0x2a, 17, 0, 1, 0])?;
-    packet.extend_from_slice(&[0; 20])?;
-    packet.extend_from_slice(tokens)?;
+// Returns whether the key packet is corrupt.
+fn is_corrupt(rt: &impl Abort, alloc: Global, packet: &[u8], on_fault: OnFault) -> bool {
     let mut decoder = Decoder::new(alloc, Limits::usual());
-    Ok(decoder.decode_checked(&packet, OnFault::Keep)?.corrupt)
+    let checked = decoder.decode_checked(packet, on_fault);
+    checked.expect(rt, "memory").corrupt
+}
+
+// Appends parts of a packet.
+fn append_parts(rt: &impl Abort, packet: &mut Vec<u8>, parts: &[&[u8]]) {
+    for part in parts {
+        packet.extend_from_slice(part).expect(rt, "memory");
+    }
+}
+
+// Returns whether the key packet made of these parts is corrupt.
+fn is_joined_corrupt(rt: &impl Abort, alloc: Global, parts: &[&[u8]]) -> bool {
+    let mut packet = Vec::new(alloc);
+    append_parts(rt, &mut packet, parts);
+    is_corrupt(rt, alloc, &packet, OnFault::Keep)
+}
+
+// Fails the test unless the key packet with this token partition is whole, and corrupt with one byte less.
+fn check_tokens(rt: &impl Abort, alloc: Global, tokens: &[u8]) {
+    let cut = &tokens[..tokens.len().saturating_sub(1)];
+    let whole = is_joined_corrupt(rt, alloc, &[&[0x90, 2, 0], &WIDE, &[0; 20], tokens]);
+    let less = is_joined_corrupt(rt, alloc, &[&[0x90, 2, 0], &WIDE, &[0; 20], cut]);
+    equal!(rt; (tokens, whole, less), (tokens, false, true));
 }
 
 /// A frame is corrupt if its token partition ends too early, and not with one byte more. It is too if its first
 /// partition has no bytes.
 #[test]
-fn corrupt_frames(rt: HostRuntime) -> Result<(), Fail> {
-    let alloc = rt.alloc();
+fn corrupt_frames(rt: HostRuntime) {
     for tokens in &WHOLE {
-        equal(&rt, &is_corrupt(alloc, tokens)?, &false);
-        if let Some((_, cut)) = tokens.split_last() {
-            equal(&rt, &is_corrupt(alloc, cut)?, &true);
-        }
+        check_tokens(&rt, rt.alloc(), tokens);
     }
-    let mut decoder = Decoder::new(alloc, Limits::usual());
-    let empty = decoder.decode_checked(&KEY, OnFault::Forget)?;
-    equal(&rt, &empty.corrupt, &true);
-    Ok(())
-}
-
-// Returns whether the key packet with a first partition of a number of zeros is corrupt.
-fn is_corrupt_after(alloc: Global, zeros: usize) -> Result<bool, AllocError>
-    requires { zeros ≤ 20 }
-{
-    let mut packet = Vec::new(alloc);
-    let size = (zeros * 32) as u16;
-    packet.extend_from_slice(&[0x10 + (size % 256) as u8, (size / 256) as u8, 0])?;
-    packet.extend_from_slice(&[0x9d, 0x01, 0x2a, 17, 0, 1, 0])?;
-    packet.extend_from_slice(&[0; 20][..zeros])?;
-    packet.extend_from_slice(WHOLE[0])?;
-    let mut decoder = Decoder::new(alloc, Limits::usual());
-    Ok(decoder.decode_checked(&packet, OnFault::Keep)?.corrupt)
+    equal!(&rt; is_corrupt(&rt, rt.alloc(), &KEY, OnFault::Forget), true);
 }
 
 /// A frame is corrupt if only its first partition ends too early. Its header and the modes of two macroblocks, all
 /// zeros, shift in 51 bits, counted by another program: 7 bytes after the first one, and not 6.
 #[test]
-fn first_partitions_are_judged(rt: HostRuntime) -> Result<(), Fail> {
-    let alloc = rt.alloc();
-    equal(&rt, &is_corrupt_after(alloc, 8)?, &false);
-    equal(&rt, &is_corrupt_after(alloc, 7)?, &true);
-    Ok(())
+fn first_partitions_are_judged(rt: HostRuntime) {
+    let eight = is_joined_corrupt(&rt, rt.alloc(), &[&[0x10, 1, 0], &WIDE, &[0; 8], WHOLE[0]]);
+    let seven = is_joined_corrupt(&rt, rt.alloc(), &[&[0xf0, 0, 0], &WIDE, &[0; 7], WHOLE[0]]);
+    equal!(&rt; [eight, seven], [false, true]);
 }
 
-// Token partitions of a key packet of 1 by 17 pixels, made from random bytes: one for each row of macroblocks, and as
-// many bytes as libvpx 1.12 needs to find the frame complete. With one byte less of either it reports damage.
+// The first bytes of a key packet of 1 by 17 pixels, up to the size of its first token partition.
+const ROWS: [u8; 29] = [
+    0x70, 2, 0, 0x9d, 0x01, 0x2a, 1, 0, 17, 0, 0, 1, 0x0a, 0, 0, 0, 0, 0, 0, 0, 0, 0, 0, 0, 0, 0,
+    0, 0, 0,
+];
+
+// Its token partitions, made from random bytes: one for each row of macroblocks, and as many bytes as libvpx 1.12 needs
+// to find the frame complete. With one byte less of either it reports damage.
 const FIRST_ROW: [u8; 7] = [0x82, 0xb7, 0x0e, 0xee, 0x7f, 0x1a, 0x50];
 
 const SECOND_ROW: [u8; 10] = [0x40, 0x43, 0, 2, 0x6b, 0x6e, 0x54, 0x55, 0x94, 0xa0];
 
 // Returns whether the key packet with these two token partitions is corrupt.
-fn is_corrupt_by_rows(alloc: Global, first: &[u8], second: &[u8]) -> Result<bool, AllocError>
-    requires { length first.now < 256 }
-{
-    let mut packet = Vec::new(alloc);
-    packet.extend_from_slice(&[0x70, 2, 0, 0x9d, 0x01, 0x2a, 1, 0, 17, 0])?;
-    packet.extend_from_slice(&[0, 1, 0x0a, 0, 0, 0, 0, 0, 0, 0, 0, 0, 0, 0, 0, 0, 0, 0, 0])?;
-    packet.extend_from_slice(&[first.len() as u8, 0, 0])?;
-    packet.extend_from_slice(first)?;
-    packet.extend_from_slice(second)?;
-    let mut decoder = Decoder::new(alloc, Limits::usual());
-    Ok(decoder.decode_checked(&packet, OnFault::Keep)?.corrupt)
+fn is_corrupt_by_rows(rt: &impl Abort, alloc: Global, first: &[u8], second: &[u8]) -> bool {
+    let size = u8::try_from(first.len()).expect(rt, "a short partition");
+    is_joined_corrupt(rt, alloc, &[&ROWS, &[size, 0, 0], first, second])
 }
 
 /// A frame is corrupt if only one of its token partitions ends too early, whichever it is.
 #[test]
-fn token_partitions_are_judged_one_by_one(rt: HostRuntime) -> Result<(), Fail> {
-    let alloc = rt.alloc();
-    let whole = is_corrupt_by_rows(alloc, &FIRST_ROW, &SECOND_ROW)?;
-    let first_cut = is_corrupt_by_rows(alloc, &FIRST_ROW[..6], &SECOND_ROW)?;
-    let second_cut = is_corrupt_by_rows(alloc, &FIRST_ROW, &SECOND_ROW[..9])?;
-    equal(&rt, &[whole, first_cut, second_cut], &[false, true, true]);
-    Ok(())
+fn token_partitions_are_judged_one_by_one(rt: HostRuntime) {
+    let whole = is_corrupt_by_rows(&rt, rt.alloc(), &FIRST_ROW, &SECOND_ROW);
+    let first_cut = is_corrupt_by_rows(&rt, rt.alloc(), &FIRST_ROW[..6], &SECOND_ROW);
+    let second_cut = is_corrupt_by_rows(&rt, rt.alloc(), &FIRST_ROW, &SECOND_ROW[..9]);
+    equal!(&rt; [whole, first_cut, second_cut], [false, true, true]);
 }

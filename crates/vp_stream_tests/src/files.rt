@@ -1,6 +1,7 @@
-//! Test files: empty frames of 16 by 16 pixels, and IVF files of them.
+//! Test files: empty frames of 16 by 16 pixels, IVF files of them, and their pictures.
 
-use std::alloc::{AllocError, Global};
+use std::alloc::Global;
+use std::process::Abort;
 
 /// The head of an IVF file of 16 by 16 pixels, 30 pictures a second.
 pub const HEAD: [u8; 32] = [
@@ -17,50 +18,43 @@ pub const HIDDEN: [u8; 10] = [0, 0, 0, 0x9d, 0x01, 0x2a, 0x10, 0, 0x10, 0];
 /// An inter packet whose first partition is empty.
 pub const INTER: [u8; 3] = [0x11, 0, 0];
 
-/// Returns an IVF file of these packets, with times 0, 1, ..
-pub(crate) fn file(alloc: Global, packets: &[&[u8]]) -> Result<Vec<u8>, AllocError> {
-    let mut bytes = Vec::from_slice(alloc, &HEAD)?;
+/// Returns an IVF file of these packets, each of at most 255 bytes, with times 0, 1, ..
+pub(crate) fn file(rt: &impl Abort, alloc: Global, packets: &[&[u8]]) -> Vec<u8> {
+    let mut bytes = Vec::from_slice(alloc, &HEAD).expect(rt, "memory");
     let mut time = 0u8;
     for packet in packets {
-        let size = u32::try_from(packet.len()).unwrap_or(u32::MAX);
-        bytes.extend_from_slice(&size.to_le_bytes())?;
-        bytes.extend_from_slice(&[time, 0, 0, 0, 0, 0, 0, 0])?;
-        bytes.extend_from_slice(packet)?;
+        let size = u8::try_from(packet.len()).expect(rt, "a short packet");
+        let head = [size, 0, 0, 0, time, 0, 0, 0, 0, 0, 0, 0];
+        bytes.extend_from_slice(&head).expect(rt, "memory");
+        bytes.extend_from_slice(packet).expect(rt, "memory");
         time = time.wrapping_add(1);
     }
-    Ok(bytes)
+    bytes
 }
 
 /// Returns an IVF file of these packets, followed by more bytes.
 pub(crate) fn file_and(
+    rt: &impl Abort,
     alloc: Global,
     packets: &[&[u8]],
     behind: &[u8],
-) -> Result<Vec<u8>, AllocError> {
-    let mut bytes = file(alloc, packets)?;
-    bytes.extend_from_slice(behind)?;
-    Ok(bytes)
+) -> Vec<u8> {
+    let mut bytes = file(rt, alloc, packets);
+    bytes.extend_from_slice(behind).expect(rt, "memory");
+    bytes
 }
 
-/// Appends runs of 128, of 129 and of 128, with these lengths.
-pub(crate) fn append_runs(bytes: &mut Vec<u8>, lengths: [usize; 3]) -> Result<(), AllocError> {
-    let [first, second, third] = lengths;
-    bytes.resize(bytes.len().saturating_add(first), 128)?;
-    bytes.resize(bytes.len().saturating_add(second), 129)?;
-    bytes.resize(bytes.len().saturating_add(third), 128)
+/// Returns the key packet's picture as I420: luma rows 0 to 3 are 128, rows 4 to 15 are 129, chroma is 128.
+pub(crate) fn key_picture() -> [u8; 384] {
+    let mut bytes = [128; 384];
+    bytes[64..256].fill(129);
+    bytes
 }
 
-/// Returns runs of 128, of 129 and of 128, with these lengths.
-pub(crate) fn runs(alloc: Global, lengths: [usize; 3]) -> Result<Vec<u8>, AllocError> {
-    let mut bytes = Vec::new(alloc);
-    append_runs(&mut bytes, lengths)?;
-    Ok(bytes)
-}
-
-/// Returns the key packet's picture as a YUV4MPEG2 file.
-pub(crate) fn y4m(alloc: Global) -> Result<Vec<u8>, AllocError> {
-    let lines = b"YUV4MPEG2 W16 H16 F30:1 Ip A0:0 C420jpeg\nFRAME\n";
-    let mut text = Vec::from_slice(alloc, lines)?;
-    append_runs(&mut text, [64, 192, 128])?;
-    Ok(text)
+/// Returns that picture as a YUV4MPEG2 file.
+pub(crate) fn y4m() -> [u8; 431] {
+    let mut text = [128; 431];
+    text[..47].copy_from_slice(b"YUV4MPEG2 W16 H16 F30:1 Ip A0:0 C420jpeg\nFRAME\n");
+    text[111..303].fill(129);
+    text
 }

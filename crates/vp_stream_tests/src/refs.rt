@@ -1,9 +1,9 @@
 //! Tests of vp_refs: the reference frames, frame by frame.
 
 use crate::check::equal;
-use std::alloc::{AllocError, Global};
+use std::alloc::Global;
+use std::process::Abort;
 use std::rc::Rc;
-use std::test::Fail;
 use vp_base::{Dim, Limits, Picture};
 use vp_bool::BoolDecoder;
 use vp_head::{Header, Reference, ReferenceCopy, ReferenceUpdates, Saved, Tag};
@@ -32,9 +32,11 @@ fn corner(picture: &Picture) -> Option<u8> {
     Some(plane.get(0, 0))
 }
 
-// Returns a picture with one value for all pixels.
-fn flat(alloc: Global, dim: Dim, value: u8) -> Result<Rc<Picture>, AllocError> {
-    Ok(Rc::new(alloc, Picture::new(alloc, dim, value)?)?)
+// Returns a picture of 16 by 16 pixels with one value for all of them.
+fn flat(rt: &impl Abort, alloc: Global, value: u8) -> Rc<Picture> {
+    let dim = Dim::new(16, 16, &Limits::usual()).expect(rt, "a size");
+    let picture = Picture::new(alloc, dim, value).expect(rt, "memory");
+    Rc::new(alloc, picture).expect(rt, "memory")
 }
 
 const NOTHING: ReferenceUpdates = ReferenceUpdates {
@@ -75,61 +77,53 @@ fn first_pixels(pictures: [Option<Picture>; 4]) -> [Option<u8>; 4] {
 }
 
 // Updates the references by a frame with these updates, whose picture has one value.
-fn update(
-    alloc: Global,
-    refs: &mut Refs,
-    dim: Dim,
-    updates: ReferenceUpdates,
-    value: u8,
-) -> Result<(), AllocError> {
-    let picture = flat(alloc, dim, value)?;
+fn update(rt: &impl Abort, alloc: Global, refs: &mut Refs, updates: ReferenceUpdates, value: u8) {
+    let picture = flat(rt, alloc, value);
     refs.update(&asking_for(updates), picture)
+        .expect(rt, "memory");
 }
 
 // Returns the references after a key frame of 1, and one frame for each of these updates, with pictures of 2, 3 and so
 // on.
-fn refs_behind(alloc: Global, dim: Dim, updates: &[ReferenceUpdates]) -> Result<Refs, AllocError> {
-    let mut refs = Refs::of_key(flat(alloc, dim, 1)?)?;
+fn refs_behind(rt: &impl Abort, alloc: Global, updates: &[ReferenceUpdates]) -> Refs {
+    let mut refs = Refs::of_key(flat(rt, alloc, 1)).expect(rt, "memory");
     let mut value = 1u8;
     for asked in updates {
         value = value.wrapping_add(1);
-        update(alloc, &mut refs, dim, *asked, value)?;
+        update(rt, alloc, &mut refs, *asked, value);
     }
-    Ok(refs)
+    refs
 }
 
 // As in libvpx: altref is copied from last, and then golden from the new altref.
-#[test]
-fn altref_is_copied_before_golden(rt: HostRuntime) -> Result<(), Fail> {
-    let dim = Dim::new(16, 16, &Limits::usual()).ok().ok_or("a size")?;
-    let takes_last = ReferenceUpdates {
-        refresh_last: true,
-        ..NOTHING
-    };
+fn check_copies(rt: &impl Abort, alloc: Global, refs: &mut Refs, before: &Refs) {
     let copies = ReferenceUpdates {
         copy_to_golden: ReferenceCopy::Other,
         copy_to_alt: ReferenceCopy::Last,
         ..NOTHING
     };
-    let mut refs = refs_behind(rt.alloc(), dim, &[takes_last])?;
-    let before = refs.share()?;
-    update(rt.alloc(), &mut refs, dim, copies, 3)?;
-    equal(&rt, &corners(&refs), &[Some(2), Some(2), Some(2), Some(3)]);
+    update(rt, alloc, refs, copies, 3);
+    equal!(rt; corners(refs), [Some(2), Some(2), Some(2), Some(3)]);
+    equal!(rt; corners(before), [Some(2), Some(1), Some(1), Some(2)]);
+}
+
+#[test]
+fn altref_is_copied_before_golden(rt: HostRuntime) {
+    let takes_last = ReferenceUpdates {
+        refresh_last: true,
+        ..NOTHING
+    };
+    let mut refs = refs_behind(&rt, rt.alloc(), &[takes_last]);
+    let before = refs.share().expect(&rt, "memory");
+    check_copies(&rt, rt.alloc(), &mut refs, &before);
     // Nothing else refers to the first picture now.
-    equal(
-        &rt,
-        &corners(&before),
-        &[Some(2), Some(1), Some(1), Some(2)],
-    );
     let unshared = first_pixels(before.into_unshared());
-    equal(&rt, &unshared, &[None, None, Some(1), None]);
-    Ok(())
+    equal!(&rt; unshared, [None, None, Some(1), None]);
 }
 
 // Copy flag 3 copies nothing.
 #[test]
-fn unused_number_copies_nothing(rt: HostRuntime) -> Result<(), Fail> {
-    let dim = Dim::new(16, 16, &Limits::usual()).ok().ok_or("a size")?;
+fn unused_number_copies_nothing(rt: HostRuntime) {
     let golden = ReferenceUpdates {
         refresh_golden: true,
         ..NOTHING
@@ -143,7 +137,6 @@ fn unused_number_copies_nothing(rt: HostRuntime) -> Result<(), Fail> {
         copy_to_alt: ReferenceCopy::Unused,
         ..NOTHING
     };
-    let refs = refs_behind(rt.alloc(), dim, &[golden, alt, unused])?;
-    equal(&rt, &corners(&refs), &[Some(1), Some(2), Some(3), Some(4)]);
-    Ok(())
+    let refs = refs_behind(&rt, rt.alloc(), &[golden, alt, unused]);
+    equal!(&rt; corners(&refs), [Some(1), Some(2), Some(3), Some(4)]);
 }

@@ -2,14 +2,14 @@
 //! picture is worked out by hand: luma rows 0 to 3 are 128, rows 4 to 15 are 129, and chroma is 128.
 
 use crate::check::equal;
-use crate::files::{HIDDEN, INTER, KEY, append_runs, file, file_and, runs};
+use crate::files::{HIDDEN, INTER, KEY, file, file_and, key_picture};
 use std::alloc::Global;
-use std::test::Fail;
+use std::process::Abort;
 use vp_base::Limits;
 use vp_head::PacketFault;
 use vp_ivf::FileFault;
 use vp_scale::Scale;
-use vp_still::{Coding, FindFault, find, i420_still, ppm_still, webp_still, y4m_still};
+use vp_still::{Coding, FindFault, Found, find, i420_still, ppm_still, webp_still, y4m_still};
 use vp_webp::WebPFault;
 
 // The WebP file of KEY, by the layout of RFC 9649.
@@ -48,202 +48,172 @@ fn fault_of(alloc: Global, file: &[u8], wanted: Option<u32>) -> Option<FindFault
     find(alloc, file, wanted, Limits::usual()).err()
 }
 
-// Returns the number of the packet that is found, and whether its picture is that of KEY.
-fn found(alloc: Global, file: &[u8], wanted: Option<u32>) -> Result<(u32, bool), Fail> {
-    let picture = runs(alloc, [64, 192, 128])?;
-    let found = find(alloc, file, wanted, Limits::usual()).map_err(|_| "no picture")?;
-    Ok((found.number, found.pixels.as_slice() == picture.as_slice()))
+// Fails the test unless a file gives no picture for each of these numbers, for this reason.
+fn check_faults(rt: &impl Abort, alloc: Global, file: &[u8], cases: &[(Option<u32>, FindFault)]) {
+    for (number, fault) in cases {
+        equal!(rt; (number, fault_of(alloc, file, *number)), (number, Some(*fault)));
+    }
+}
+
+// Returns a picture of a file.
+fn found_in(rt: &impl Abort, alloc: Global, file: &[u8], wanted: Option<u32>) -> Found {
+    find(alloc, file, wanted, Limits::usual()).expect(rt, "a picture")
+}
+
+// Fails the test unless the packet that is found has this number, and its picture is that of KEY.
+fn check_key(rt: &impl Abort, alloc: Global, file: &[u8], wanted: Option<u32>, number: u32) {
+    let picture = key_picture();
+    let found = found_in(rt, alloc, file, wanted);
+    equal!(rt; (found.number, found.pixels.as_slice()), (number, picture.as_slice()));
 }
 
 #[test]
-fn pictures_by_their_numbers(rt: HostRuntime) -> Result<(), Fail> {
-    let file = file(rt.alloc(), &[&HIDDEN, &KEY, &KEY])?;
-    equal(&rt, &found(rt.alloc(), &file, None)?, &(1, true));
-    equal(&rt, &found(rt.alloc(), &file, Some(2))?, &(2, true));
-    equal(&rt, &found(rt.alloc(), &KEY_FILE, None)?, &(0, true));
-    Ok(())
+fn pictures_by_their_numbers(rt: HostRuntime) {
+    let file = file(&rt, rt.alloc(), &[&HIDDEN, &KEY, &KEY]);
+    check_key(&rt, rt.alloc(), &file, None, 1);
+    check_key(&rt, rt.alloc(), &file, Some(2), 2);
+    check_key(&rt, rt.alloc(), &KEY_FILE, None, 0);
 }
 
 #[test]
-fn fault_before_the_first_picture(rt: HostRuntime) -> Result<(), Fail> {
-    let behind = file(rt.alloc(), &[&INTER, &KEY])?;
-    equal(&rt, &found(rt.alloc(), &behind, None)?, &(1, true));
-    let alone = file(rt.alloc(), &[&INTER])?;
-    equal(
-        &rt,
-        &fault_of(rt.alloc(), &alone, None),
-        &Some(FindFault::NoPicture(1)),
-    );
-    equal(
-        &rt,
-        &fault_of(rt.alloc(), &alone, Some(0)),
-        &Some(FindFault::Packet(PacketFault::NoReference)),
-    );
-    Ok(())
+fn fault_before_the_first_picture(rt: HostRuntime) {
+    let faults = [
+        (None, FindFault::NoPicture(1)),
+        (Some(0), FindFault::Packet(PacketFault::NoReference)),
+    ];
+    let behind = file(&rt, rt.alloc(), &[&INTER, &KEY]);
+    check_key(&rt, rt.alloc(), &behind, None, 1);
+    let alone = file(&rt, rt.alloc(), &[&INTER]);
+    check_faults(&rt, rt.alloc(), &alone, &faults);
 }
 
 #[test]
-fn torn_files_without_the_picture(rt: HostRuntime) -> Result<(), Fail> {
-    let file = file_and(rt.alloc(), &[&HIDDEN], &[1, 2, 3])?;
-    let torn = Some(FindFault::File(FileFault::Torn));
-    equal(&rt, &fault_of(rt.alloc(), &file, None), &torn);
-    equal(&rt, &fault_of(rt.alloc(), &file, Some(1)), &torn);
-    equal(
-        &rt,
-        &fault_of(rt.alloc(), &file, Some(0)),
-        &Some(FindFault::Hidden),
-    );
-    Ok(())
+fn torn_files_without_the_picture(rt: HostRuntime) {
+    let faults = [
+        (None, FindFault::File(FileFault::Torn)),
+        (Some(1), FindFault::File(FileFault::Torn)),
+        (Some(0), FindFault::Hidden),
+    ];
+    let file = file_and(&rt, rt.alloc(), &[&HIDDEN], &[1, 2, 3]);
+    check_faults(&rt, rt.alloc(), &file, &faults);
 }
 
 #[test]
-fn packets_of_a_webp_file(rt: HostRuntime) -> Result<(), Fail> {
-    equal(&rt, &found(rt.alloc(), &KEY_FILE, Some(0))?, &(0, true));
-    equal(
-        &rt,
-        &fault_of(rt.alloc(), &KEY_FILE, Some(1)),
-        &Some(FindFault::NoPacket(1)),
-    );
-    let torn = &KEY_FILE[..KEY_FILE.len() - 2];
-    equal(
-        &rt,
-        &fault_of(rt.alloc(), torn, Some(1)),
-        &Some(FindFault::WebP(WebPFault::Torn)),
-    );
-    Ok(())
+fn packets_of_a_webp_file(rt: HostRuntime) {
+    check_key(&rt, rt.alloc(), &KEY_FILE, Some(0), 0);
+    let missing = [(Some(1), FindFault::NoPacket(1))];
+    check_faults(&rt, rt.alloc(), &KEY_FILE, &missing);
+    let torn = [(Some(1), FindFault::WebP(WebPFault::Torn))];
+    check_faults(&rt, rt.alloc(), &KEY_FILE[..28], &torn);
 }
 
 // Returns whether a file has alpha.
-fn has_alpha(alloc: Global, file: &[u8]) -> Result<bool, Fail> {
-    let found = find(alloc, file, None, Limits::usual()).map_err(|_| "no picture")?;
-    Ok(found.has_alpha)
+fn has_alpha(rt: &impl Abort, alloc: Global, file: &[u8]) -> bool {
+    found_in(rt, alloc, file, None).has_alpha
 }
 
 #[test]
-fn alpha_is_told(rt: HostRuntime) -> Result<(), Fail> {
-    equal(&rt, &has_alpha(rt.alloc(), &ALPHA_FILE)?, &true);
-    equal(&rt, &has_alpha(rt.alloc(), &KEY_FILE)?, &false);
-    Ok(())
+fn alpha_is_told(rt: HostRuntime) {
+    equal!(&rt; has_alpha(&rt, rt.alloc(), &ALPHA_FILE), true);
+    equal!(&rt; has_alpha(&rt, rt.alloc(), &KEY_FILE), false);
 }
 
 #[test]
-fn files_without_the_picture(rt: HostRuntime) -> Result<(), Fail> {
-    let file = file(rt.alloc(), &[&HIDDEN])?;
-    equal(
-        &rt,
-        &fault_of(rt.alloc(), &file, None),
-        &Some(FindFault::NoPicture(1)),
-    );
-    equal(
-        &rt,
-        &fault_of(rt.alloc(), &file, Some(0)),
-        &Some(FindFault::Hidden),
-    );
-    equal(
-        &rt,
-        &fault_of(rt.alloc(), &file, Some(1)),
-        &Some(FindFault::NoPacket(1)),
-    );
-    let torn = FindFault::WebP(WebPFault::Torn);
-    equal(
-        &rt,
-        &fault_of(rt.alloc(), &KEY_FILE[..29], None),
-        &Some(torn),
-    );
-    Ok(())
+fn files_without_the_picture(rt: HostRuntime) {
+    let torn = [(None, FindFault::WebP(WebPFault::Torn))];
+    check_faults(&rt, rt.alloc(), &KEY_FILE[..29], &torn);
+    let faults = [
+        (None, FindFault::NoPicture(1)),
+        (Some(0), FindFault::Hidden),
+        (Some(1), FindFault::NoPacket(1)),
+    ];
+    let file = file(&rt, rt.alloc(), &[&HIDDEN]);
+    check_faults(&rt, rt.alloc(), &file, &faults);
 }
 
-// Returns whether the WebP file of the picture of KEY, made smaller, is that of KEY, and how it got there.
-fn webp_of_key(alloc: Global, scale: Scale) -> Result<(bool, Coding), Fail> {
-    let found = find(alloc, &KEY_FILE, None, Limits::usual()).map_err(|_| "no picture")?;
-    let still = webp_still(alloc, &found, scale, 8).map_err(|_| "no file")?;
-    Ok((still.file.as_slice() == KEY_FILE.as_slice(), still.coding))
+// Fails the test unless the WebP file of the picture of KEY is that of KEY.
+fn check_kept(rt: &impl Abort, alloc: Global, found: &Found) {
+    let still = webp_still(alloc, found, Scale::Full, 8).expect(rt, "a file");
+    equal!(rt; (still.file.as_slice(), still.coding), (KEY_FILE.as_slice(), Coding::Kept));
 }
 
 #[test]
-fn key_packet_is_kept(rt: HostRuntime) -> Result<(), Fail> {
-    equal(
-        &rt,
-        &webp_of_key(rt.alloc(), Scale::Full)?,
-        &(true, Coding::Kept),
-    );
-    Ok(())
+fn key_packet_is_kept(rt: HostRuntime) {
+    let found = found_in(&rt, rt.alloc(), &KEY_FILE, None);
+    check_kept(&rt, rt.alloc(), &found);
 }
 
-// Returns whether the picture of KEY, an eighth as wide and high, has these pixels, and whether its file ends in them.
-fn eighth_of_key(alloc: Global, pixels: &[u8]) -> Result<(bool, bool), Fail> {
-    let found = find(alloc, &KEY_FILE, None, Limits::usual()).map_err(|_| "no picture")?;
-    let raw = i420_still(alloc, &found, Scale::Eighth)?;
-    let file = y4m_still(alloc, &found, Scale::Eighth)?;
-    Ok((raw.as_slice() == pixels, file.as_slice().ends_with(pixels)))
-}
-
-#[test]
-fn smaller_pictures(rt: HostRuntime) -> Result<(), Fail> {
+// Compares the picture of KEY, an eighth as wide and high, and the end of its file.
+fn check_smaller(rt: &impl Abort, alloc: Global, found: &Found) {
     let pixels = [129, 129, 129, 129, 128, 128];
-    equal(&rt, &eighth_of_key(rt.alloc(), &pixels)?, &(true, true));
-    Ok(())
+    let raw = i420_still(alloc, found, Scale::Eighth).expect(rt, "memory");
+    equal!(rt; raw.as_slice(), pixels.as_slice());
+    let file = y4m_still(alloc, found, Scale::Eighth).expect(rt, "memory");
+    equal!(rt; file.as_slice().last_chunk::<6>(), Some(&pixels));
 }
 
-// Returns how a picture got into its file, and whether that shows these pixels.
-fn encoded(
+#[test]
+fn smaller_pictures(rt: HostRuntime) {
+    let found = found_in(&rt, rt.alloc(), &KEY_FILE, None);
+    check_smaller(&rt, rt.alloc(), &found);
+}
+
+// Fails the test unless a file shows these pixels.
+fn check_pixels(rt: &impl Abort, alloc: Global, file: &[u8], pixels: &[u8]) {
+    let shown = found_in(rt, alloc, file, None);
+    equal!(rt; shown.pixels.as_slice(), pixels);
+}
+
+// Fails the test unless a picture is encoded at this distance, and its file shows these pixels.
+fn check_encoded(
+    rt: &impl Abort,
     alloc: Global,
-    file: &[u8],
-    wanted: Option<u32>,
+    found: &Found,
     scale: Scale,
+    apart: u64,
     pixels: &[u8],
-) -> Result<(Coding, bool), Fail> {
-    let found = find(alloc, file, wanted, Limits::usual()).map_err(|_| "no picture")?;
-    let still = webp_still(alloc, &found, scale, 8).map_err(|_| "no file")?;
-    let again = find(alloc, still.file.as_slice(), None, Limits::usual());
-    let shown = again.map_err(|_| "not read")?;
-    Ok((still.coding, shown.pixels.as_slice() == pixels))
+) {
+    let still = webp_still(alloc, found, scale, 8).expect(rt, "a file");
+    equal!(rt; still.coding, Coding::Encoded(apart));
+    check_pixels(rt, alloc, still.file.as_slice(), pixels);
 }
 
 // The pixels are those that dwebp shows of the file, and the distance is theirs from the means of the picture that
 // dwebp shows of SMALL_FILE.
 #[test]
-fn smaller_picture_is_encoded(rt: HostRuntime) -> Result<(), Fail> {
+fn smaller_picture_is_encoded(rt: HostRuntime) {
     let pixels = [75, 145, 184, 135, 129, 178, 116, 158, 131, 30];
-    let half = encoded(rt.alloc(), &SMALL_FILE, None, Scale::Half, &pixels)?;
-    equal(&rt, &half, &(Coding::Encoded(22), true));
-    Ok(())
+    let found = found_in(&rt, rt.alloc(), &SMALL_FILE, None);
+    check_encoded(&rt, rt.alloc(), &found, Scale::Half, 22, &pixels);
 }
 
 // All pixels of INTER are 128, and dwebp shows the same of the file.
 #[test]
-fn inter_picture_is_encoded(rt: HostRuntime) -> Result<(), Fail> {
-    let file = file(rt.alloc(), &[&KEY, &INTER])?;
-    let pixels = runs(rt.alloc(), [384, 0, 0])?;
-    let same = encoded(rt.alloc(), &file, Some(1), Scale::Full, &pixels)?;
-    equal(&rt, &same, &(Coding::Encoded(0), true));
-    Ok(())
+fn inter_picture_is_encoded(rt: HostRuntime) {
+    let file = file(&rt, rt.alloc(), &[&KEY, &INTER]);
+    let found = found_in(&rt, rt.alloc(), &file, Some(1));
+    check_encoded(&rt, rt.alloc(), &found, Scale::Full, 0, &[128; 384]);
 }
 
-// Returns whether a whole YUV4MPEG2 file is that of the picture of KEY.
-fn is_y4m_of_key(alloc: Global) -> Result<bool, Fail> {
-    let found = find(alloc, &KEY_FILE, None, Limits::usual()).map_err(|_| "no picture")?;
-    let file = y4m_still(alloc, &found, Scale::Full)?;
-    let mut wanted = Vec::from_slice(alloc, b"YUV4MPEG2 W16 H16 F1:1 Ip A0:0 C420jpeg\nFRAME\n")?;
-    append_runs(&mut wanted, [64, 192, 128])?;
-    Ok(file.as_slice() == wanted.as_slice())
-}
-
-#[test]
-fn y4m_of_a_picture(rt: HostRuntime) -> Result<(), Fail> {
-    equal(&rt, &is_y4m_of_key(rt.alloc())?, &true);
-    Ok(())
-}
-
-// Returns whether the PPM file of SMALL_FILE is that of dwebp.
-fn is_small_ppm(alloc: Global) -> Result<bool, Fail> {
-    let found = find(alloc, &SMALL_FILE, None, Limits::usual()).map_err(|_| "no picture")?;
-    let file = ppm_still(alloc, &found, Scale::Full)?;
-    Ok(file.as_slice() == SMALL_PPM.as_slice())
+// Compares the whole YUV4MPEG2 file of the picture of KEY.
+fn check_y4m(rt: &impl Abort, alloc: Global, found: &Found) {
+    let mut wanted = [128; 430];
+    wanted[..46].copy_from_slice(b"YUV4MPEG2 W16 H16 F1:1 Ip A0:0 C420jpeg\nFRAME\n");
+    wanted[110..302].fill(129);
+    let file = y4m_still(alloc, found, Scale::Full).expect(rt, "memory");
+    equal!(rt; file.as_slice(), wanted.as_slice());
 }
 
 #[test]
-fn ppm_of_a_picture(rt: HostRuntime) -> Result<(), Fail> {
-    equal(&rt, &is_small_ppm(rt.alloc())?, &true);
-    Ok(())
+fn y4m_of_a_picture(rt: HostRuntime) {
+    let found = found_in(&rt, rt.alloc(), &KEY_FILE, None);
+    check_y4m(&rt, rt.alloc(), &found);
+}
+
+// The PPM file of SMALL_FILE is that of dwebp.
+#[test]
+fn ppm_of_a_picture(rt: HostRuntime) {
+    let found = found_in(&rt, rt.alloc(), &SMALL_FILE, None);
+    let file = ppm_still(rt.alloc(), &found, Scale::Full).expect(&rt, "memory");
+    equal!(&rt; file.as_slice(), SMALL_PPM.as_slice());
 }

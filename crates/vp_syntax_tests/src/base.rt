@@ -3,10 +3,9 @@
 ghost use Rattle.std.specs.Prelude.{◌≡◌, ◌<◌};
 
 use crate::check::{equal, size};
-use std::alloc::{AllocError, Global};
+use std::alloc::Global;
 use std::io::{Read, Write};
 use std::process::Abort;
-use std::test::Fail;
 use vp_base::{Counted, Dim, DimFault, FailAt, Grid, Limits, Picture, Plane, put_all};
 
 // Returns a picture of 17 by 1 shown pixels, all of them 128.
@@ -14,10 +13,7 @@ fn seventeen_pixels(rt: &impl Abort, alloc: Global) -> Picture
     ensures wide { result.width ≡ 17 }
     ensures high { result.height ≡ 1 }
 {
-    let Ok(picture) = Picture::new(alloc, size(rt, 17, 1), 128) else {
-        panic!(rt; "memory");
-    };
-    picture
+    Picture::new(alloc, size(rt, 17, 1), 128).expect(rt, "memory")
 }
 
 // The pixels that `mark` writes among the 35 shown ones: positions and values.
@@ -59,99 +55,70 @@ fn first_other(bytes: &[u8], marks: &[(usize, u8)]) -> Option<(usize, u8, u8)> {
 
 // The 35 shown pixels are 128, except for the marks.
 fn check_shown(rt: &impl Abort, alloc: Global, picture: &Picture, marks: &[(usize, u8)]) {
-    let Ok(bytes) = picture.crop_i420(alloc) else {
-        panic!(rt; "memory");
-    };
+    let bytes = picture.crop_i420(alloc).expect(rt, "memory");
     let found = (bytes.len(), first_other(&bytes, marks));
     equal!(rt; (marks, found), (marks, (35, None)));
 }
 
-// Marks a picture. The copy that was made before keeps its pixels.
-fn check_marks(rt: &impl Abort, alloc: Global, picture: &mut Picture, before: &Picture)
-    requires wide { picture.old.width ≡ 17 }
-    requires high { picture.old.height ≡ 1 }
-{
-    equal!(rt; mark(picture), 8);
-    check_shown(rt, alloc, before, &[]);
-    check_shown(rt, alloc, picture, &MARKS);
-}
-
-fn check_copied_picture(rt: &impl Abort, alloc: Global, picture: &mut Picture)
-    requires wide { picture.old.width ≡ 17 }
-    requires high { picture.old.height ≡ 1 }
-{
-    let Ok(before) = picture.copy(alloc) else {
-        panic!(rt; "memory");
-    };
-    check_marks(rt, alloc, picture, &before);
-}
-
+// A picture is marked. The copy that was made before keeps its pixels.
 #[test]
 fn seventeen_by_one(rt: HostRuntime) {
-    let mut picture = seventeen_pixels(&rt, rt.alloc());
-    check_copied_picture(&rt, rt.alloc(), &mut picture);
+    let alloc = rt.alloc();
+    let rt = &rt;
+    let mut picture = seventeen_pixels(rt, alloc);
+    let before = picture.copy(alloc).expect(rt, "memory");
+    equal!(rt; mark(&mut picture), 8);
+    check_shown(rt, alloc, &before, &[]);
+    check_shown(rt, alloc, &picture, &MARKS);
 }
 
 // Returns the length and the capacity of the shown pixels, in memory that had this room before.
-fn size_of_shown(
-    alloc: Global,
-    picture: &Picture,
-    room: usize,
-) -> Result<(usize, usize), AllocError> {
-    let mut shown = Vec::with_capacity(alloc, room)?;
-    picture.crop_into(alloc, &mut shown)?;
-    Ok((shown.len(), shown.capacity()))
+fn size_of_shown(rt: &impl Abort, alloc: Global, picture: &Picture, room: usize) -> (usize, usize) {
+    let mut shown = Vec::with_capacity(alloc, room).expect(rt, "memory");
+    picture.crop_into(alloc, &mut shown).expect(rt, "memory");
+    (shown.len(), shown.capacity())
 }
 
 // The memory of the shown pixels is of their size, whatever memory there was before.
-fn check_memory(rt: &impl Abort, alloc: Global, picture: &Picture) {
-    for room in &[0, 34, 35, 36, 1_000] {
-        let size = size_of_shown(alloc, picture, *room).ok();
-        equal!(rt; (*room, size), (*room, Some((35, 35))));
+#[test]
+fn memory_of_the_size(rt: HostRuntime) {
+    let alloc = rt.alloc();
+    let rt = &rt;
+    let picture = seventeen_pixels(rt, alloc);
+    for room in [0, 34, 35, 36, 1_000] {
+        equal!(rt; (room, size_of_shown(rt, alloc, &picture, room)), (room, (35, 35)));
     }
 }
 
-#[test]
-fn memory_of_the_size(rt: HostRuntime) {
-    let picture = seventeen_pixels(&rt, rt.alloc());
-    check_memory(&rt, rt.alloc(), &picture);
-}
-
 // Copies a block of a plane of nine pixels. Returns its last pixel, which isn't shown.
-fn copy_four(alloc: Global, picture: &mut Picture) -> Result<u8, AllocError>
+fn copy_four(rt: &impl Abort, alloc: Global, picture: &mut Picture) -> u8
     requires wide { picture.old.width ≡ 17 }
     requires high { picture.old.height ≡ 1 }
 {
     let _known = picture.dim();
-    let mut nine = Plane::new(alloc, 3, 3, 0)?;
+    let mut nine = Plane::new(alloc, 3, 3, 0).expect(rt, "memory");
     nine.write_block::<3>(0, 0, &[1, 2, 3, 4, 5, 6, 7, 8, 9]);
     picture.copy_block::<2>(0, 15, 0, &nine, 1, 1);
-    Ok(picture.plane(0).get(16, 1))
-}
-
-fn check_copied_block(rt: &impl Abort, alloc: Global, picture: &mut Picture)
-    requires wide { picture.old.width ≡ 17 }
-    requires high { picture.old.height ≡ 1 }
-{
-    equal!(rt; copy_four(alloc, picture).ok(), Some(9));
-    check_shown(rt, alloc, picture, &[(15, 5), (16, 6)]);
+    picture.plane(0).get(16, 1)
 }
 
 #[test]
 fn copied_block(rt: HostRuntime) {
-    let mut picture = seventeen_pixels(&rt, rt.alloc());
-    check_copied_block(&rt, rt.alloc(), &mut picture);
+    let alloc = rt.alloc();
+    let rt = &rt;
+    let mut picture = seventeen_pixels(rt, alloc);
+    equal!(rt; copy_four(rt, alloc, &mut picture), 9);
+    check_shown(rt, alloc, &picture, &[(15, 5), (16, 6)]);
 }
 
 #[test]
-fn size_limits(rt: HostRuntime) -> Result<(), Fail> {
-    let limits = Limits::new(16_384, 1, 1, 1).ok_or("limits")?;
-    equal!(rt; Dim::new(0, 16, &limits), Err(DimFault::Size));
-    equal!(rt; Dim::new(129, 129, &limits), Err(DimFault::TooLarge));
-    let dim = Dim::new(128, 128, &limits).ok().ok_or("a size")?;
-    equal!(rt; (dim.mb_cols(), dim.mb_rows()), (8, 8));
-    equal!(rt; Limits::new(16_384, 1, 0, 1), None);
-    Ok(())
+fn size_limits(rt: HostRuntime) {
+    let rt = &rt;
+    let limits = Limits::new(16_384, 1, 1, 1).expect(rt, "limits");
+    let refused = [Dim::new(0, 16, &limits), Dim::new(129, 129, &limits)];
+    equal!(rt; refused, [Err(DimFault::Size), Err(DimFault::TooLarge)]);
+    let dim = Dim::new(128, 128, &limits).expect(rt, "a size");
+    equal!(rt; (dim.mb_cols(), dim.mb_rows(), Limits::new(16_384, 1, 0, 1)), (8, 8, None));
 }
 
 // Writes two bytes three times. Returns the number of bytes that are written.
@@ -165,23 +132,23 @@ fn put_three(writer: &mut Counted<FailAt<Vec<u8>>>) -> u64 {
     written
 }
 
-// Writes to a device that fails from its write k on.
-fn check_failures(rt: &impl Abort, alloc: Global, k: u64)
-    requires { k < 3 }
-{
+// Writes to a device that fails from its write k on. Returns the number of bytes that are written and that of failures,
+// whether flushing fails, the number of failures after it, and that of the bytes that are kept.
+fn failures_of(alloc: Global, k: u64) -> (u64, u64, bool, u64, u64) {
     let mut writer = Counted::new(FailAt::new(Vec::new(alloc), k));
     let written = put_three(&mut writer);
-    equal!(rt; (k, written, writer.failures()), (k, 2 * k, 3 - k));
+    let failures = writer.failures();
     let fails = writer.flush().is_err();
-    equal!(rt; (k, fails, writer.failures()), (k, true, 4 - k));
-    let inner = writer.into_inner().into_inner();
-    equal!(rt; (k, inner.len() as u64), (k, 2 * k));
+    let after = writer.failures();
+    let kept = writer.into_inner().into_inner().len() as u64;
+    (written, failures, fails, after, kept)
 }
 
 #[test]
 fn fails_at_each_write(rt: HostRuntime) {
+    let alloc = rt.alloc();
     for k in 0..3u64 {
-        check_failures(&rt, rt.alloc(), k);
+        equal!(&rt; (k, failures_of(alloc, k)), (k, (2 * k, 3 - k, true, 4 - k, 2 * k)));
     }
 }
 
@@ -195,54 +162,56 @@ fn next_two(reader: &mut Counted<FailAt<&[u8]>>) -> (Option<[u8; 2]>, u64) {
     (two, reader.failures())
 }
 
-fn check_reads(rt: &impl Abort, reader: &mut Counted<FailAt<&[u8]>>) {
-    equal!(rt; next_two(reader), (Some(*b"ab"), 0));
-    equal!(rt; next_two(reader), (Some(*b"cd"), 0));
-    equal!(rt; next_two(reader), (None, 1));
-    equal!(rt; reader.reads(), 3);
-}
-
 #[test]
 fn reads_are_passed_on(rt: HostRuntime) {
-    check_reads(&rt, &mut Counted::new(FailAt::new(&b"abcd"[..], 2)));
+    let mut reader = Counted::new(FailAt::new(&b"abcd"[..], 2));
+    let pieces = [
+        next_two(&mut reader),
+        next_two(&mut reader),
+        next_two(&mut reader),
+    ];
+    let wanted = [(Some(*b"ab"), 0), (Some(*b"cd"), 0), (None, 1)];
+    equal!(&rt; (pieces, reader.reads()), (wanted, 3));
 }
 
 // Checks the greatest sides, which have 14 bits.
 fn check_sides(rt: &impl Abort, limits: &Limits) {
     let dim = size(rt, 16_383, 1);
-    equal!(rt; (dim.mb_cols(), dim.mb_rows()), (1_024, 1));
-    equal!(rt; Dim::new(16_384, 1, limits), Err(DimFault::Size));
-    equal!(rt; Dim::new(1, 16_384, limits), Err(DimFault::Size));
+    let farther = [Dim::new(16_384, 1, limits), Dim::new(1, 16_384, limits)];
+    let refused = [Err(DimFault::Size), Err(DimFault::Size)];
+    equal!(rt; (dim.mb_cols(), dim.mb_rows(), farther), (1_024, 1, refused));
 }
 
 // Checks the greatest limits.
 fn check_limits(rt: &impl Abort) {
-    equal!(rt; Limits::new(268_402_689, 268_435_456, 16_777_216, 4_096).is_some(), true);
-    equal!(rt; Limits::new(268_402_690, 1, 1, 1), None);
-    equal!(rt; Limits::new(1, 268_435_457, 1, 1), None);
-    equal!(rt; Limits::new(1, 1, 16_777_217, 1), None);
-    equal!(rt; Limits::new(1, 1, 1, 4_097), None);
+    let is_limits = Limits::new(268_402_689, 268_435_456, 16_777_216, 4_096).is_some();
+    let greater = [
+        Limits::new(268_402_690, 1, 1, 1),
+        Limits::new(1, 268_435_457, 1, 1),
+        Limits::new(1, 1, 16_777_217, 1),
+        Limits::new(1, 1, 1, 4_097),
+    ];
+    equal!(rt; (is_limits, greater), (true, [None, None, None, None]));
 }
 
 // The greatest sides, the greatest limits and the default ones.
 #[test]
 fn greatest_sides_and_limits(rt: HostRuntime) {
+    let rt = &rt;
     let usual = Limits::usual();
-    equal!(rt; (usual.pixels, usual.packet_bytes), (16_777_216, 16_777_216));
-    equal!(rt; (usual.packets, usual.cache), (1_048_576, 16));
-    check_sides(&rt, &usual);
-    check_limits(&rt);
+    let found = (usual.pixels, usual.packet_bytes, usual.packets, usual.cache);
+    equal!(rt; found, (16_777_216, 16_777_216, 1_048_576, 16));
+    check_sides(rt, &usual);
+    check_limits(rt);
 }
 
-// Returns a grid of six places that reuses the memory of one of 35.
-fn refilled_grid(alloc: Global) -> Result<Grid<u8>, AllocError> {
-    Grid::new(alloc, 7, 5, 1)?.refill(3, 2, 2)
-}
-
+// The memory of 35 places is used again for six.
 #[test]
-fn a_grid_refilled(rt: HostRuntime) -> Result<(), Fail> {
-    let grid = refilled_grid(rt.alloc())?;
-    equal!(rt; (grid.columns(), grid.rows()), (3, 2));
-    equal!(rt; grid.into_entries().as_slice(), [2; 6].as_slice());
-    Ok(())
+fn a_grid_refilled(rt: HostRuntime) {
+    let rt = &rt;
+    let large = Grid::new(rt.alloc(), 7, 5, 1).expect(rt, "memory");
+    let grid = large.refill(3, 2, 2).expect(rt, "memory");
+    let (columns, rows) = (grid.columns(), grid.rows());
+    let entries = grid.into_entries();
+    equal!(rt; (columns, rows, entries.as_slice()), (3, 2, [2; 6].as_slice()));
 }

@@ -1,65 +1,80 @@
 //! Tests of vp_bool: worked examples, read and written.
 
-ghost use Rattle.std.specs.Prelude.{◌≤◌};
+ghost use Rattle.std.specs.Prelude.{◌<◌, ◌≤◌, length};
 
 use crate::check::{equal, equal_bytes};
-use std::alloc::{AllocError, Global};
-use std::test::Fail;
+use std::alloc::Global;
+use std::process::Abort;
 use vp_bool::{BoolDecoder, BoolEncoder};
 
 /// Returns the bytes of a single bool of 1.
-fn one_bool(alloc: Global) -> Result<Vec<u8>, AllocError> {
+fn one_bool(rt: &impl Abort, alloc: Global) -> Vec<u8> {
     let mut e = BoolEncoder::new(alloc);
-    e.write(true, 128)?;
-    e.finish()
+    e.write(true, 128).expect(rt, "memory");
+    e.finish().expect(rt, "memory")
 }
 
 /// Returns the bytes of the number 5 in three bits.
-fn five_in_three_bits(alloc: Global) -> Result<Vec<u8>, AllocError> {
+fn five_in_three_bits(rt: &impl Abort, alloc: Global) -> Vec<u8> {
     let mut e = BoolEncoder::new(alloc);
-    e.literal(5, 3)?;
-    e.finish()
+    e.literal(5, 3).expect(rt, "memory");
+    e.finish().expect(rt, "memory")
 }
 
 #[test]
-fn bool_encoder_examples(rt: HostRuntime) -> Result<(), Fail> {
-    equal_bytes!(rt; BoolEncoder::new(rt.alloc()).finish()?, &[0]);
-    equal_bytes!(rt; one_bool(rt.alloc())?, &[0x80, 0]);
-    equal_bytes!(rt; five_in_three_bits(rt.alloc())?, &[0x9f, 0xc0]);
-    Ok(())
+fn bool_encoder_examples(rt: HostRuntime) {
+    let alloc = rt.alloc();
+    let rt = &rt;
+    let nothing = BoolEncoder::new(alloc).finish().expect(rt, "memory");
+    equal_bytes!(rt; nothing, &[0]);
+    equal_bytes!(rt; one_bool(rt, alloc), &[0x80, 0]);
+    equal_bytes!(rt; five_in_three_bits(rt, alloc), &[0x9f, 0xc0]);
 }
 
 #[test]
 fn reads_examples(rt: HostRuntime) {
-    equal!(rt; BoolDecoder::new(&[0x9f, 0xc0]).literal(3), 5);
-    equal!(rt; BoolDecoder::new(&[0x80, 0]).read(128), true);
+    let five = BoolDecoder::new(&[0x9f, 0xc0]).literal(3);
+    let one = BoolDecoder::new(&[0x80, 0]).read(128);
+    equal!(&rt; (five, one), (5, true));
     let mut zeros = BoolDecoder::new(&[]);
     let mut ones = BoolDecoder::new(&[255, 0, 0, 0, 0, 0, 0, 0, 0, 0, 0, 0]);
     for i in 0..1000u32 {
         let probability = (i % 256) as u8;
-        let (zero, one) = (zeros.read(probability), ones.read(probability));
-        equal!(rt; (i, zero, one), (i, false, true));
+        equal!(&rt; (i, zeros.read(probability), ones.read(probability)), (i, false, true));
     }
 }
 
-/// In a partition of zeros the first bool of probability 128 shifts in nothing, and each later one a bit. The first
-/// byte is in the value from the start.
+/// Whether the end of a partition of zeros is passed once its bits are read, after one more bool, and after eight more.
+/// In such a partition the first bool of probability 128 shifts in nothing, and each later one a bit. The first byte is
+/// in the value from the start.
+fn ends_of_zeros(zeros: &[u8]) -> (bool, bool, bool)
+    requires empty { 0 < length zeros.now }
+    requires long { length zeros.now ≤ 20 }
+{
+    let mut decoder = BoolDecoder::new(zeros);
+    decoder.read_even();
+    for _bit in 0..8 * (zeros.len() - 1) {
+        decoder.read_even();
+    }
+    let before = decoder.is_past_end();
+    decoder.read_even();
+    let after_one = decoder.is_past_end();
+    decoder.literal(8);
+    (before, after_one, decoder.is_past_end())
+}
+
 #[test]
 fn partitions_end(rt: HostRuntime) {
     let zeros = [0; 20];
     for length in 1..=20usize {
-        let mut decoder = BoolDecoder::new(&zeros[..length]);
-        decoder.read_even();
-        for _bit in 0..8 * (length - 1) {
-            decoder.read_even();
-        }
-        let before = decoder.is_past_end();
-        decoder.read_even();
-        let after_one = decoder.is_past_end();
-        decoder.literal(8);
-        let found = (length, before, after_one, decoder.is_past_end());
-        equal!(rt; found, (length, false, true, true));
+        let found = ends_of_zeros(&zeros[..length]);
+        equal!(&rt; (length, found), (length, (false, true, true)));
     }
+}
+
+/// Returns the next bool of this probability, and whether the end is passed after it.
+fn next(d: &mut BoolDecoder, probability: u8) -> (bool, bool) {
+    (d.read(probability), d.is_past_end())
 }
 
 /// A partition of one byte ends with the first doubling. With range 255 the split of probability 128 is 128: a byte of
@@ -67,26 +82,19 @@ fn partitions_end(rt: HostRuntime) {
 #[test]
 fn partitions_of_one_byte_end(rt: HostRuntime) {
     let mut above = BoolDecoder::new(&[200]);
-    equal!(rt; above.is_past_end(), false);
-    equal!(rt; above.read(128), true);
-    equal!(rt; above.is_past_end(), true);
+    let of_above = (above.is_past_end(), next(&mut above, 128));
     let mut below = BoolDecoder::new(&[100]);
-    equal!(rt; below.read(128), false);
-    equal!(rt; below.is_past_end(), false);
-    below.read(128);
-    equal!(rt; below.is_past_end(), true);
+    let (of_below, (_, at_end)) = (next(&mut below, 128), next(&mut below, 128));
+    equal!(&rt; (of_above, of_below, at_end), ((false, (true, true)), (false, false), true));
 }
 
 /// Nothing follows a first byte of 255, so that the first doubling passes the end whatever bytes come after it. With
 /// probability 1 the split is 1, and the range that is left, 254, is not doubled; the next one, 127, is.
 #[test]
 fn partitions_that_begin_with_255_end(rt: HostRuntime) {
-    let mut decoder = BoolDecoder::new(&[255, 1, 2, 3, 4, 5, 6, 7, 8, 9]);
-    equal!(rt; decoder.is_past_end(), false);
-    equal!(rt; decoder.read(1), true);
-    equal!(rt; decoder.is_past_end(), false);
-    equal!(rt; decoder.read(128), true);
-    equal!(rt; decoder.is_past_end(), true);
+    let mut d = BoolDecoder::new(&[255, 1, 2, 3, 4, 5, 6, 7, 8, 9]);
+    let found = (d.is_past_end(), next(&mut d, 1), next(&mut d, 128));
+    equal!(&rt; found, (false, (true, false), (true, true)));
 }
 
 /// The number of bools after which `read_rare` and `read` differ, of 4,000 that both read from these bytes with these
@@ -103,32 +111,36 @@ fn first_other(bytes: &[u8], probabilities: [u8; 2]) -> Option<usize> {
     None
 }
 
-#[test]
-fn rare_bools_are_the_same(rt: HostRuntime) {
+/// Returns bytes of many values.
+fn many_bytes() -> [u8; 251] {
     let mut bytes = [0; 251];
     for i in 0..251 {
         bytes[i] = (i * i * 7 % 251) as u8;
     }
+    bytes
+}
+
+#[test]
+fn rare_bools_are_the_same(rt: HostRuntime) {
+    let rt = &rt;
+    let bytes = many_bytes();
     for probability in 0..=255u8 {
         let high = first_other(&bytes, [probability, 255]);
         let low = first_other(&bytes, [254, probability]);
         equal!(rt; (probability, high, low), (probability, None, None));
     }
-    equal!(rt; first_other(&[255], [255, 252]), None);
-    equal!(rt; first_other(&[], [1, 128]), None);
+    equal!(rt; [first_other(&[255], [255, 252]), first_other(&[], [1, 128])], [None, None]);
 }
 
 #[test]
 fn passing_over_rare_bools(rt: HostRuntime) {
     // The range is 255 at first, and each bool takes one from it.
     let mut zeros = BoolDecoder::new(&[]);
-    equal!(rt; zeros.pass_rare(127), true);
-    equal!(rt; zeros.pass_rare(1), false);
+    let of_zeros = (zeros.pass_rare(127), zeros.pass_rare(1));
     // The value is 128.
     let mut half = BoolDecoder::new(&[0x80, 0]);
-    equal!(rt; half.pass_rare(127), false);
-    equal!(rt; half.pass_rare(126), true);
-    equal!(rt; half.read(255), true);
+    let of_half = (half.pass_rare(127), half.pass_rare(126), half.read(255));
+    equal!(&rt; (of_zeros, of_half), ((true, false), (false, true, true)));
 }
 
 /// The number of rounds after which a decoder that passes over `count` bools wherever it can, and one that reads each,
@@ -160,14 +172,11 @@ fn reads_true(d: &mut BoolDecoder, count: u32) -> bool {
 
 #[test]
 fn passed_bools_are_the_same(rt: HostRuntime) {
-    let mut bytes = [0; 251];
-    for i in 0..251 {
-        bytes[i] = (i * i * 7 % 251) as u8;
-    }
+    let bytes = many_bytes();
     for count in [0, 1, 3, 8, 60, 127] {
         let even = first_passed_wrongly(&bytes, count, 128);
         let rare = first_passed_wrongly(&bytes, count, 254);
         let common = first_passed_wrongly(&bytes, count, 3);
-        equal!(rt; (count, even, rare, common), (count, None, None, None));
+        equal!(&rt; (count, even, rare, common), (count, None, None, None));
     }
 }

@@ -26,10 +26,11 @@ pub(crate) fn compare<T: PartialEq + Debug + Drop>(
 }
 
 /// Fails the test if the values differ, and prints the expression of the first one and both. The line of the call
-/// follows them, which a function that asserts would hide.
+/// follows them, which a function that asserts would hide. The handle is lent already: a `&` here would lend a local
+/// of the caller, which its proof pays for at each call.
 macro_rules! equal {
     ($rt:expr; $found:expr, $wanted:expr) => {
-        $crate::check::compare($found, $wanted).expect(&$rt, stringify!($found))
+        $crate::check::compare($found, $wanted).expect($rt, stringify!($found))
     };
 }
 
@@ -54,7 +55,7 @@ pub(crate) fn compare_bytes(found: Vec<u8>, wanted: &[u8]) -> Result<(), OtherBy
 /// Fails the test if these aren't the wanted bytes, and prints the expression of the first ones and both.
 macro_rules! equal_bytes {
     ($rt:expr; $found:expr, $wanted:expr) => {
-        $crate::check::compare_bytes($found, $wanted).expect(&$rt, stringify!($found))
+        $crate::check::compare_bytes($found, $wanted).expect($rt, stringify!($found))
     };
 }
 
@@ -65,8 +66,5 @@ pub(crate) fn size(rt: &impl Abort, w: u16, h: u16) -> Dim
     ensures width { result.w ≡ w }
     ensures height { result.h ≡ h }
 {
-    let Ok(dim) = Dim::new(w, h, &Limits::usual()) else {
-        panic!(rt; "a size");
-    };
-    dim
+    Dim::new(w, h, &Limits::usual()).expect(rt, "a size")
 }

@@ -3,7 +3,6 @@
 use crate::check::equal;
 use std::alloc::Global;
 use std::process::Abort;
-use std::test::Fail;
 use vp_base::Limits;
 use vp_bool::{BoolDecoder, BoolEncoder};
 use vp_head::{
@@ -24,17 +23,26 @@ fn tag_of(packet: &[u8]) -> Result<Tag, PacketFault> {
 
 #[test]
 fn packet_faults(rt: HostRuntime) {
-    equal!(rt; tag_of(&KEY[..9]), Err(PacketFault::Truncated));
-    equal!(rt; tag_of(&[0x11, 0]), Err(PacketFault::Truncated));
-    equal!(rt; tag_of(&[0x18, 0, 0]), Err(PacketFault::Version));
-    equal!(rt; tag_of(&OTHER), Err(PacketFault::StartCode));
-    let wanted = Tag {
-        version: 0,
-        show: true,
-        first_partition: 262_161,
-        key: None,
-    };
-    equal!(rt; tag_of(&[0x31, 0x02, 0x80]), Ok(wanted));
+    let found = [
+        tag_of(&KEY[..9]),
+        tag_of(&[0x11, 0]),
+        tag_of(&[0x18, 0, 0]),
+        tag_of(&OTHER),
+        tag_of(&[0x31, 0x02, 0x80]),
+    ];
+    let wanted = [
+        Err(PacketFault::Truncated),
+        Err(PacketFault::Truncated),
+        Err(PacketFault::Version),
+        Err(PacketFault::StartCode),
+        Ok(Tag {
+            version: 0,
+            show: true,
+            first_partition: 262_161,
+            key: None,
+        }),
+    ];
+    equal!(&rt; found, wanted);
 }
 
 /// Returns the tag of a key packet with these width and height fields.
@@ -56,21 +64,22 @@ fn sides_of(key: Option<KeyTag>) -> Option<(u16, u16, u8, u8)> {
 }
 
 #[test]
-fn size_limits(rt: HostRuntime) -> Result<(), Fail> {
-    let limits = Limits::new(16_384, 1, 1, 1).ok_or("limits")?;
-    equal!(rt; tag_of_size([0, 0, 16, 0], &limits), Err(PacketFault::Size));
-    equal!(rt; tag_of_size([129, 0, 129, 0], &limits), Err(PacketFault::TooLarge));
-    let tag = tag_of_size([128, 0x40, 128, 0xc0], &limits)?;
+fn size_limits(rt: HostRuntime) {
+    let rt = &rt;
+    let limits = Limits::new(16_384, 1, 1, 1).expect(rt, "limits");
+    let empty = tag_of_size([0, 0, 16, 0], &limits);
+    let large = tag_of_size([129, 0, 129, 0], &limits);
+    equal!(rt; [empty, large], [Err(PacketFault::Size), Err(PacketFault::TooLarge)]);
+    let tag = tag_of_size([128, 0x40, 128, 0xc0], &limits).expect(rt, "a tag");
     equal!(rt; sides_of(tag.key), Some((128, 128, 1, 3)));
-    Ok(())
 }
 
 /// Returns the header in a packet's first partition, the values saved after it, and the eight bits that follow it.
-fn header_of(packet: &[u8], partition: &[u8]) -> Result<(Header, Saved, u8), Fail> {
-    let tag = Tag::read(packet, &Limits::usual())?;
+fn header_of(rt: &impl Abort, packet: &[u8], partition: &[u8]) -> (Header, Saved, u8) {
+    let tag = tag_of(packet).expect(rt, "a tag");
     let mut decoder = BoolDecoder::new(partition);
     let (header, saved) = Header::read(&Saved::defaults(), &tag, &mut decoder);
-    Ok((header, saved, decoder.literal(8)))
+    (header, saved, decoder.literal(8))
 }
 
 /// Returns a header's segmentation, filter and quantiser indices.
@@ -109,30 +118,33 @@ fn ones_rows() -> (Segmentation, Filter, QuantiserIndices) {
 
 /// Checks some values of a key packet's header that is read from bools of 1.
 fn check_ones(rt: &impl Abort, header: &Header) {
-    equal!(rt; (header.key, header.color_space, header.clamping_type), (true, true, true));
-    equal!(rt; rows_of(header), ones_rows());
+    let flags = (header.key, header.color_space, header.clamping_type);
+    equal!(rt; (flags, rows_of(header)), ((true, true, true), ones_rows()));
     equal!(rt; &header.probabilities.coefficients, &[[[[255; 11]; 3]; 8]; 4]);
 }
 
 fn check_ones_saved(rt: &impl Abort, saved: &Saved) {
-    equal!(rt; saved.segments, ONES_VALUES);
     let kept = Saved::defaults().probabilities.vectors;
-    equal!(rt; saved.probabilities.vectors, kept);
+    equal!(rt; (saved.segments, saved.probabilities.vectors), (ONES_VALUES, kept));
 }
 
 #[test]
-fn all_ones_header(rt: HostRuntime) -> Result<(), Fail> {
-    let (header, saved, _) = header_of(&KEY, &[255])?;
-    check_ones(&rt, &header);
-    equal!(rt; (header.deltas_enabled, header.refresh_entropy), (true, true));
+fn all_ones_header(rt: HostRuntime) {
+    let rt = &rt;
+    let (header, saved, _) = header_of(rt, &KEY, &[255]);
+    check_ones(rt, &header);
+    check_ones_deltas(rt, &header);
+    check_ones_saved(rt, &saved);
+}
+
+fn check_ones_deltas(rt: &impl Abort, header: &Header) {
     let deltas = LevelDeltas {
         reference: [-63; 4],
         mode: [-63; 4],
     };
-    equal!(rt; header.deltas, deltas);
-    equal!(rt; (header.log2_partitions, header.skip), (3, Some(255)));
-    check_ones_saved(&rt, &saved);
-    Ok(())
+    let flags = (header.deltas_enabled, header.refresh_entropy);
+    let found = (flags, header.deltas, header.log2_partitions, header.skip);
+    equal!(rt; found, ((true, true), deltas, 3, Some(255)));
 }
 
 /// Returns the probabilities of luma modes, chroma modes and vectors.
@@ -145,29 +157,37 @@ fn parts_of(probabilities: &Probabilities) -> ([u8; 4], [u8; 3], [[u8; 19]; 2]) 
 
 /// Checks the flags and the references of an inter packet's header that is read from bools of 1.
 fn check_ones_references(rt: &impl Abort, header: &Header) {
-    equal!(rt; header.key, false);
     let updates = header.updates;
-    equal!(rt; (updates.refresh_golden, updates.refresh_alt, updates.refresh_last), (true, true, true));
-    equal!(rt; updates.copy_to_golden, ReferenceCopy::Nothing);
+    let refreshed = (
+        updates.refresh_golden,
+        updates.refresh_alt,
+        updates.refresh_last,
+    );
     let references = ReferenceProbabilities {
         intra: 255,
         last: 255,
         golden: 255,
     };
-    equal!(rt; header.references, references);
+    let found = (
+        header.key,
+        refreshed,
+        updates.copy_to_golden,
+        header.references,
+    );
+    equal!(rt; found, (false, (true, true, true), ReferenceCopy::Nothing, references));
 }
 
 #[test]
-fn all_ones_inter_header(rt: HostRuntime) -> Result<(), Fail> {
-    let (header, saved, _) = header_of(&[0x31, 0, 0], &[255])?;
-    check_ones_references(&rt, &header);
+fn all_ones_inter_header(rt: HostRuntime) {
+    let rt = &rt;
+    let (header, saved, _) = header_of(rt, &[0x31, 0, 0], &[255]);
+    check_ones_references(rt, &header);
     let biases = SignBiases {
         golden: true,
         alt: true,
     };
-    equal!(rt; saved.biases, biases);
-    equal!(rt; parts_of(&saved.probabilities), ([255; 4], [255; 3], [[254; 19]; 2]));
-    Ok(())
+    let parts = ([255; 4], [255; 3], [[254; 19]; 2]);
+    equal!(rt; (saved.biases, parts_of(&saved.probabilities)), (biases, parts));
 }
 
 /// The first packet of `synth_20008.ivf` in crates/vp_transcripts/data, to the end of its header. The expected values
@@ -230,14 +250,18 @@ fn check_key_coefficients(rt: &impl Abort, header: &Header, saved: &Saved) {
 }
 
 #[test]
-fn key_rows_of_a_stream(rt: HostRuntime) -> Result<(), Fail> {
-    let (header, saved, behind) = header_of(&KEY_PACKET, &KEY_PACKET[10..])?;
-    equal!(rt; (header.color_space, header.clamping_type), (false, true));
-    equal!(rt; (header.deltas_enabled, header.refresh_entropy), (false, false));
-    equal!(rt; rows_of(&header), key_rows());
-    check_key_coefficients(&rt, &header, &saved);
+fn key_rows_of_a_stream(rt: HostRuntime) {
+    let rt = &rt;
+    let (header, saved, behind) = header_of(rt, &KEY_PACKET, &KEY_PACKET[10..]);
+    check_key_rows(rt, &header, behind);
+    check_key_coefficients(rt, &header, &saved);
+}
+
+fn check_key_rows(rt: &impl Abort, header: &Header, behind: u8) {
+    let types = (header.color_space, header.clamping_type);
+    let flags = (header.deltas_enabled, header.refresh_entropy);
+    equal!(rt; (types, flags, rows_of(header)), ((false, true), (false, false), key_rows()));
     equal!(rt; (header.log2_partitions, header.skip, behind), (3, Some(127), 200));
-    Ok(())
 }
 
 fn inter_rows() -> (Segmentation, Filter, QuantiserIndices) {
@@ -275,26 +299,25 @@ fn check_inter_references(rt: &impl Abort, header: &Header) {
         copy_to_alt: ReferenceCopy::Last,
         refresh_last: false,
     };
-    equal!(rt; header.updates, updates);
     let biases = SignBiases {
         golden: false,
         alt: true,
     };
-    equal!(rt; (header.log2_partitions, header.biases), (0, biases));
+    let found = (header.updates, header.log2_partitions, header.biases);
+    equal!(rt; found, (updates, 0, biases));
 }
 
 #[test]
-fn inter_rows_of_a_stream(rt: HostRuntime) -> Result<(), Fail> {
-    let (header, saved, _) = header_of(&INTER_PACKET, &INTER_PACKET[3..])?;
-    equal!(rt; (header.deltas_enabled, header.refresh_entropy), (true, false));
-    equal!(rt; rows_of(&header), inter_rows());
+fn inter_rows_of_a_stream(rt: HostRuntime) {
+    let rt = &rt;
+    let (header, saved, _) = header_of(rt, &INTER_PACKET, &INTER_PACKET[3..]);
     let deltas = LevelDeltas {
         reference: [0, 0, 46, 58],
         mode: [0, 0, 54, 61],
     };
-    equal!(rt; saved.deltas, deltas);
-    check_inter_references(&rt, &header);
-    Ok(())
+    let found = (header.deltas_enabled, header.refresh_entropy, saved.deltas);
+    equal!(rt; (found, rows_of(&header)), ((true, false, deltas), inter_rows()));
+    check_inter_references(rt, &header);
 }
 
 fn change_for_inter(coefficients: &mut [[[[u8; 11]; 3]; 8]; 4]) {
@@ -310,76 +333,86 @@ fn change_for_inter(coefficients: &mut [[[[u8; 11]; 3]; 8]; 4]) {
 }
 
 #[test]
-fn inter_probabilities_of_a_stream(rt: HostRuntime) -> Result<(), Fail> {
-    let (header, _, behind) = header_of(&INTER_PACKET, &INTER_PACKET[3..])?;
+fn inter_probabilities_of_a_stream(rt: HostRuntime) {
+    let rt = &rt;
+    let (header, _, behind) = header_of(rt, &INTER_PACKET, &INTER_PACKET[3..]);
     let references = ReferenceProbabilities {
         intra: 20,
         last: 158,
         golden: 109,
     };
-    equal!(rt; header.references, references);
-    equal!(rt; (header.skip, behind), (Some(46), 183));
+    equal!(rt; (header.references, header.skip, behind), (references, Some(46), 183));
+    check_inter_probabilities(rt, &header.probabilities);
+}
+
+fn check_inter_probabilities(rt: &impl Abort, probabilities: &Probabilities) {
     let mut wanted = Saved::defaults().probabilities;
     change_for_inter(&mut wanted.coefficients);
-    equal!(rt; &header.probabilities.coefficients, &wanted.coefficients);
     wanted.luma = [104, 203, 38, 211];
     wanted.vectors[1][2] = 238;
-    equal!(rt; parts_of(&header.probabilities), parts_of(&wanted));
-    Ok(())
+    equal!(rt; &probabilities.coefficients, &wanted.coefficients);
+    equal!(rt; parts_of(probabilities), parts_of(&wanted));
 }
 
 /// Writes the header of a packet's first partition, and reads it back.
-fn written_back(alloc: Global, packet: &[u8], partition: &[u8]) -> Result<Header, Fail> {
-    let tag = Tag::read(packet, &Limits::usual())?;
+fn written_back(rt: &impl Abort, alloc: Global, packet: &[u8], partition: &[u8]) -> Header {
+    let tag = tag_of(packet).expect(rt, "a tag");
     let saved = Saved::defaults();
     let (header, _) = Header::read(&saved, &tag, &mut BoolDecoder::new(partition));
     let mut encoder = BoolEncoder::new(alloc);
-    header.write(&saved, &tag, &mut encoder)?;
-    let bytes = encoder.finish()?;
+    header
+        .write(&saved, &tag, &mut encoder)
+        .expect(rt, "memory");
+    let bytes = encoder.finish().expect(rt, "memory");
     let (again, _) = Header::read(&saved, &tag, &mut BoolDecoder::new(bytes.as_slice()));
-    Ok(again)
+    again
 }
 
 #[test]
-fn headers_read_back(rt: HostRuntime) -> Result<(), Fail> {
-    check_ones(&rt, &written_back(rt.alloc(), &KEY, &[255])?);
-    let inter = written_back(rt.alloc(), &[0x31, 0, 0], &[255])?;
-    equal!(rt; (inter.key, inter.biases.golden, inter.biases.alt), (false, true, true));
-    equal!(rt; rows_of(&inter), ones_rows());
+fn headers_read_back(rt: HostRuntime) {
+    let alloc = rt.alloc();
+    let rt = &rt;
+    check_ones(rt, &written_back(rt, alloc, &KEY, &[255]));
+    let inter = written_back(rt, alloc, &[0x31, 0, 0], &[255]);
+    let flags = (inter.key, inter.biases.golden, inter.biases.alt);
+    equal!(rt; (flags, rows_of(&inter)), ((false, true, true), ones_rows()));
     equal!(rt; parts_of(&inter.probabilities), ([255; 4], [255; 3], [[254; 19]; 2]));
-    Ok(())
 }
 
 fn check_name(rt: &impl Abort, alloc: Global, fault: PacketFault, name: &str) {
-    let Ok(text) = format!(in alloc; "{fault}") else {
-        panic!(rt; "memory");
-    };
+    let text = format!(in alloc; "{fault}").expect(rt, "memory");
     equal!(rt; text.as_str(), name);
 }
 
 /// The names of the faults; that of a partition includes its number.
+const NAMES: [(PacketFault, &str); 9] = [
+    (PacketFault::Truncated, "Truncated"),
+    (PacketFault::Version, "Version"),
+    (PacketFault::StartCode, "StartCode"),
+    (PacketFault::Size, "Size"),
+    (PacketFault::TooLarge, "TooLarge"),
+    (PacketFault::NoReference, "NoReference"),
+    (PacketFault::FirstPartition, "FirstPartition"),
+    (PacketFault::PartitionTable, "PartitionTable"),
+    (PacketFault::Partition(2), "Partition 2"),
+];
+
 #[test]
 fn names_of_packet_faults(rt: HostRuntime) {
-    let names = [
-        (PacketFault::Truncated, "Truncated"),
-        (PacketFault::Version, "Version"),
-        (PacketFault::StartCode, "StartCode"),
-        (PacketFault::Size, "Size"),
-        (PacketFault::TooLarge, "TooLarge"),
-        (PacketFault::NoReference, "NoReference"),
-        (PacketFault::FirstPartition, "FirstPartition"),
-        (PacketFault::PartitionTable, "PartitionTable"),
-        (PacketFault::Partition(2), "Partition 2"),
-    ];
-    for (fault, name) in &names {
-        check_name(&rt, rt.alloc(), *fault, name);
+    let alloc = rt.alloc();
+    for (fault, name) in NAMES {
+        check_name(&rt, alloc, fault, name);
     }
 }
 
 /// A key packet of fewer than ten bytes is truncated, whatever its start code and size are.
 #[test]
 fn truncated_before_start_code(rt: HostRuntime) {
-    equal!(rt; tag_of(&OTHER[..9]), Err(PacketFault::Truncated));
-    equal!(rt; tag_of(&OTHER[..6]), Err(PacketFault::Truncated));
-    equal!(rt; tag_of(&OTHER[..3]), Err(PacketFault::Truncated));
+    let found = [
+        tag_of(&OTHER[..9]),
+        tag_of(&OTHER[..6]),
+        tag_of(&OTHER[..3]),
+    ];
+    let truncated = Err(PacketFault::Truncated);
+    equal!(&rt; found, [truncated, truncated, truncated]);
 }

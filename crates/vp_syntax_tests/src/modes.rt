@@ -4,7 +4,7 @@ ghost use Rattle.std.specs.Prelude.{◌≡◌, ◌<◌};
 ghost use Rattle.vp_base.specs.Image.{macroblocks};
 
 use crate::check::{equal, equal_bytes, size};
-use std::alloc::{AllocError, Global};
+use std::alloc::Global;
 use std::process::Abort;
 use vp_base::Dim;
 use vp_bool::{BoolDecoder, BoolEncoder};
@@ -18,10 +18,7 @@ fn new_map(rt: &impl Abort, alloc: Global, dim: Dim) -> ModeMap
     ensures columns { result.columns ≡ macroblocks dim.w }
     ensures rows { result.rows ≡ macroblocks dim.h }
 {
-    let Ok(map) = ModeMap::new(alloc, dim) else {
-        panic!(rt; "a map");
-    };
-    map
+    ModeMap::new(alloc, dim).expect(rt, "a map")
 }
 
 fn key_tag(dim: Dim) -> Tag {
@@ -55,9 +52,10 @@ fn modes_of(dim: Dim, map: &ModeMap, of_header: &[u8], of_modes: &[u8]) -> Modes
 /// A partition that begins with 255 gives only bools of 1.
 #[test]
 fn all_ones_header(rt: HostRuntime) {
-    let dim = size(&rt, 16, 16);
-    let map = new_map(&rt, rt.alloc(), dim);
-    let modes = modes_of(dim, &map, &[255], &[255]);
+    let alloc = rt.alloc();
+    let rt = &rt;
+    let dim = size(rt, 16, 16);
+    let modes = modes_of(dim, &new_map(rt, alloc, dim), &[255], &[255]);
     let wanted = Modes {
         segment: 3,
         skip: true,
@@ -89,27 +87,19 @@ fn check_change(rt: &impl Abort, map: &ModeMap, copy: &mut ModeMap)
     let beside = Place { column: 0, row: 2 };
     let plain = *map.get(place);
     copy.set(place, &CHANGED);
-    equal!(rt; *copy.get(place), CHANGED);
-    equal!(rt; (*copy.get(beside), *map.get(place)), (plain, plain));
-}
-
-fn check_copy(rt: &impl Abort, alloc: Global, map: &ModeMap)
-    requires columns { map.now.columns ≡ 2 }
-    requires rows { map.now.rows ≡ 3 }
-{
-    let Ok(mut copy) = map.copy(alloc) else {
-        panic!(rt; "a copy");
-    };
-    check_change(rt, map, &mut copy);
+    let found = [*copy.get(place), *copy.get(beside), *map.get(place)];
+    equal!(rt; found, [CHANGED, plain, plain]);
 }
 
 /// A new map, and one that is copied and then changed.
 #[test]
 fn succeeds_with_memory_maps(rt: HostRuntime) {
-    let dim = size(&rt, 17, 33);
-    let map = new_map(&rt, rt.alloc(), dim);
+    let alloc = rt.alloc();
+    let rt = &rt;
+    let map = new_map(rt, alloc, size(rt, 17, 33));
     equal!(rt; (map.columns(), map.rows()), (2, 3));
-    check_copy(&rt, rt.alloc(), &map);
+    let mut copy = map.copy(alloc).expect(rt, "a copy");
+    check_change(rt, &map, &mut copy);
 }
 
 /// A picture of 16 by 16 pixels, encoded by libwebp.
@@ -133,12 +123,13 @@ fn modes_after_header(dim: Dim, map: &ModeMap, bytes: &[u8]) -> Modes
 
 #[test]
 fn modes_of_a_picture(rt: HostRuntime) {
-    let dim = size(&rt, 16, 16);
-    let map = new_map(&rt, rt.alloc(), dim);
-    let modes = modes_after_header(dim, &map, &PICTURE);
-    equal!(rt; modes.luma, LumaMode::B);
-    equal!(rt; modes.subs, SUBS_OF_PICTURE);
-    equal!(rt; modes.chroma, ChromaMode::V);
+    let alloc = rt.alloc();
+    let rt = &rt;
+    let dim = size(rt, 16, 16);
+    let modes = modes_after_header(dim, &new_map(rt, alloc, dim), &PICTURE);
+    let subs = modes.subs;
+    let found = (modes.luma, subs, modes.chroma);
+    equal!(rt; found, (LumaMode::B, SUBS_OF_PICTURE, ChromaMode::V));
 }
 
 /// A header with segmentation and skipping, and four macroblocks with random modes, the first of them not B_PRED.
@@ -189,14 +180,7 @@ const MODES: [Modes; 4] = [
 ];
 
 /// Reads a macroblock, stores it in the map, and checks it.
-fn put_next(
-    rt: &impl Abort,
-    header: &Header,
-    map: &mut ModeMap,
-    place: Place,
-    wanted: &Modes,
-    d: &mut BoolDecoder,
-)
+fn put_next(rt: &impl Abort, header: &Header, map: &mut ModeMap, place: Place, d: &mut BoolDecoder)
     requires columns { map.old.columns ≡ 2 }
     requires rows { map.old.rows ≡ 2 }
     requires column { place.column < 2 }
@@ -206,7 +190,7 @@ fn put_next(
 {
     let modes = read_modes(header, map, place, d);
     map.set(place, &modes);
-    equal!(rt; (place, modes), (place, *wanted));
+    equal!(rt; (place, modes), (place, MODES[place.row * 2 + place.column]));
 }
 
 /// Reads, stores and checks the four macroblocks.
@@ -214,14 +198,10 @@ fn put_four(rt: &impl Abort, header: &Header, map: &mut ModeMap, d: &mut BoolDec
     requires columns { map.old.columns ≡ 2 }
     requires rows { map.old.rows ≡ 2 }
 {
-    let [first, second, third, fourth] = &MODES;
-    let right = Place { column: 1, row: 0 };
-    let below = Place { column: 0, row: 1 };
-    let last = Place { column: 1, row: 1 };
-    put_next(rt, header, map, FIRST, first, d);
-    put_next(rt, header, map, right, second, d);
-    put_next(rt, header, map, below, third, d);
-    put_next(rt, header, map, last, fourth, d);
+    put_next(rt, header, map, FIRST, d);
+    put_next(rt, header, map, Place { column: 1, row: 0 }, d);
+    put_next(rt, header, map, Place { column: 0, row: 1 }, d);
+    put_next(rt, header, map, Place { column: 1, row: 1 }, d);
 }
 
 /// Checks the four macroblocks of the partition.
@@ -236,18 +216,14 @@ fn check_four(rt: &impl Abort, dim: Dim, map: &mut ModeMap)
 
 #[test]
 fn modes_by_their_neighbours(rt: HostRuntime) {
-    let dim = size(&rt, 32, 32);
-    let mut map = new_map(&rt, rt.alloc(), dim);
-    check_four(&rt, dim, &mut map);
+    let alloc = rt.alloc();
+    let rt = &rt;
+    let dim = size(rt, 32, 32);
+    check_four(rt, dim, &mut new_map(rt, alloc, dim));
 }
 
 /// Reads a partition's header and the first macroblock's modes, and writes them again.
-fn written_again(
-    alloc: Global,
-    dim: Dim,
-    map: &ModeMap,
-    bytes: &[u8],
-) -> Result<Vec<u8>, AllocError>
+fn written_again(rt: &impl Abort, alloc: Global, dim: Dim, map: &ModeMap, bytes: &[u8]) -> Vec<u8>
     requires column { 0 < map.now.columns }
     requires row { 0 < map.now.rows }
 {
@@ -257,18 +233,17 @@ fn written_again(
     let (header, _) = Header::read(&saved, &tag, &mut d);
     let modes = read_modes(&header, map, FIRST, &mut d);
     let mut e = BoolEncoder::new(alloc);
-    header.write(&saved, &tag, &mut e)?;
-    write_modes(&header, map, FIRST, &modes, &mut e)?;
-    e.finish()
+    header.write(&saved, &tag, &mut e).expect(rt, "memory");
+    write_modes(&header, map, FIRST, &modes, &mut e).expect(rt, "memory");
+    e.finish().expect(rt, "memory")
 }
 
 #[test]
 fn a_picture_written_again(rt: HostRuntime) {
-    let dim = size(&rt, 16, 16);
-    let map = new_map(&rt, rt.alloc(), dim);
-    let Ok(bytes) = written_again(rt.alloc(), dim, &map, &PICTURE) else {
-        panic!(rt; "memory");
-    };
+    let alloc = rt.alloc();
+    let rt = &rt;
+    let dim = size(rt, 16, 16);
+    let bytes = written_again(rt, alloc, dim, &new_map(rt, alloc, dim), &PICTURE);
     // libwebp's partition has one more byte of 0.
     equal_bytes!(rt; bytes, &PICTURE[..19]);
 }

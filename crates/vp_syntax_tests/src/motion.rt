@@ -7,14 +7,12 @@ ghost use Rattle.vp_base.specs.Image.{macroblocks};
 use crate::check::{equal, size};
 use std::alloc::{AllocError, Global};
 use std::process::Abort;
-use std::test::Fail;
-use vp_base::{Dim, Limits};
 use vp_bool::{BoolDecoder, BoolEncoder};
 use vp_head::{Header, Reference, Saved, SignBiases, Tag};
 use vp_modes::{ModeMap, Place, read_modes};
 use vp_motion::{
-    Motion, Vector, VectorMap, near, read_into, read_motion, read_split, read_vector, write_motion,
-    write_vector,
+    MacroblockMotion, Motion, Vector, VectorMap, near, read_into, read_motion, read_split,
+    read_vector, write_motion, write_vector,
 };
 use vp_tables::VectorMode::{self, Near, Nearest, New, Split, Zero};
 
@@ -56,49 +54,40 @@ fn map_of(rt: &impl Abort, alloc: Global, w: u16, h: u16) -> VectorMap
     ensures columns { result.columns ≡ macroblocks w }
     ensures rows { result.rows ≡ macroblocks h }
 {
-    let Ok(map) = VectorMap::new(alloc, size(rt, w, h)) else {
-        panic!(rt; "a map");
-    };
-    map
+    VectorMap::new(alloc, size(rt, w, h)).expect(rt, "a map")
 }
 
 /// Reads the reference of the only macroblock of a frame.
-fn reference_of(alloc: Global, header: &Header, d: &mut BoolDecoder) -> Option<Reference> {
-    let dim = Dim::new(16, 16, &Limits::usual()).ok()?;
-    let modes = ModeMap::new(alloc, dim).ok()?;
-    Some(read_modes(header, &modes, FIRST, d).reference)
+fn reference_of(rt: &impl Abort, alloc: Global, header: &Header, d: &mut BoolDecoder) -> Reference {
+    let modes = ModeMap::new(alloc, size(rt, 16, 16)).expect(rt, "a map");
+    read_modes(header, &modes, FIRST, d).reference
 }
 
+/// The motion that the decoder is at, a vector after it, and the vectors of a split after that.
 fn check_far_vectors(rt: &impl Abort, header: &Header, map: &VectorMap, d: &mut BoolDecoder)
     requires { Has map.now FIRST }
 {
+    let probabilities = &header.probabilities.vectors;
     let motion = read_motion(header, map, FIRST, Reference::Alt, d);
+    let far = read_vector(probabilities, d);
+    let split = read_split(probabilities, map, FIRST, BEST, d);
     let wanted = Motion {
         mode: Split,
         vectors: [FAR; 16],
     };
-    equal!(rt; motion, wanted);
-    let probabilities = &header.probabilities.vectors;
-    equal!(rt; read_vector(probabilities, d), FAR);
-    let split = read_split(probabilities, map, FIRST, BEST, d);
-    equal!(rt; split, [SIDE; 16]);
-}
-
-fn check_ones(rt: &impl Abort, alloc: Global, map: &VectorMap)
-    requires { Has map.now FIRST }
-{
-    let mut d = BoolDecoder::new(&[255]);
-    let (header, _) = Header::read(&Saved::defaults(), &INTER, &mut d);
-    let reference = reference_of(alloc, &header, &mut d);
-    equal!(rt; reference, Some(Reference::Alt));
-    check_far_vectors(rt, &header, map, &mut d);
+    equal!(rt; (motion, far, split), (wanted, FAR, [SIDE; 16]));
 }
 
 /// A partition that begins with 255 gives only bools of 1: every optional field of an inter packet is present.
 #[test]
 fn split_vectors_far_outside(rt: HostRuntime) {
-    let map = map_of(&rt, rt.alloc(), 16, 16);
-    check_ones(&rt, rt.alloc(), &map);
+    let alloc = rt.alloc();
+    let rt = &rt;
+    let map = map_of(rt, alloc, 16, 16);
+    let mut d = BoolDecoder::new(&[255]);
+    let (header, _) = Header::read(&Saved::defaults(), &INTER, &mut d);
+    equal!(rt; reference_of(rt, alloc, &header, &mut d), Reference::Alt);
+    check_far_vectors(rt, &header, &map, &mut d);
 }
 
 const FOUR: Vector = Vector { row: 4, column: 0 };
@@ -129,18 +118,19 @@ fn check_neighbours(rt: &impl Abort, map: &mut VectorMap)
 {
     put_neighbours(map);
     let found = near(map, MIDDLE, Reference::Last, UNBIASED);
-    equal!(rt; found.counts, [0, 4, 0, 0]);
-    equal!(rt; found.best, FOUR);
+    let counts = found.counts;
     let last = map.get(Place { column: 2, row: 2 }).reference;
-    equal!(rt; last, Reference::Intra);
+    equal!(rt; (counts, found.best, last), ([0, 4, 0, 0], FOUR, Reference::Intra));
 }
 
 /// A new map, and the motion that is stored in it.
 #[test]
 fn succeeds_with_memory_map(rt: HostRuntime) {
-    let mut map = map_of(&rt, rt.alloc(), 48, 33);
+    let alloc = rt.alloc();
+    let rt = &rt;
+    let mut map = map_of(rt, alloc, 48, 33);
     equal!(rt; (map.columns(), map.rows()), (3, 3));
-    check_neighbours(&rt, &mut map);
+    check_neighbours(rt, &mut map);
 }
 
 // Random bytes, and the motion of the inter macroblocks of three rows of three that libvpx reads from them with the
@@ -210,14 +200,6 @@ fn first_other_block(vectors: &[Vector; 16], i: usize) -> Option<usize>
     None
 }
 
-/// Checks the mode and the vectors of macroblock i.
-fn check_motion(rt: &impl Abort, i: usize, mode: VectorMode, vectors: &[Vector; 16])
-    requires { i < 9 }
-{
-    equal!(rt; (i, mode), (i, MODES[i]));
-    equal!(rt; (i, first_other_block(vectors, i)), (i, None));
-}
-
 /// Returns the next motion. The decoder stays where it is.
 fn next_motion(
     header: &Header,
@@ -231,6 +213,21 @@ fn next_motion(
     read_motion(header, map, place, reference, &mut d.copy())
 }
 
+/// The motion that is read of macroblock i, and the one that is kept, are as expected.
+fn check_motion(rt: &impl Abort, i: usize, read: &Motion, kept: &MacroblockMotion)
+    requires { i < 9 }
+{
+    let of_read = (read.mode, first_other_block(&read.vectors, i));
+    let of_kept = (
+        kept.mode,
+        first_other_block(&kept.vectors, i),
+        kept.reference,
+    );
+    let wanted = (MODES[i], None);
+    equal!(rt; (i, of_read, of_kept), (i, wanted, (MODES[i], None, REFERENCES[i])));
+}
+
+/// Reads a macroblock's motion, and stores it in the map: both are as expected.
 fn put_next(
     rt: &impl Abort,
     header: &Header,
@@ -248,11 +245,8 @@ fn put_next(
     let i = place.row * 3 + place.column;
     let reference = REFERENCES[i];
     let motion = next_motion(header, map, place, reference, d);
-    check_motion(rt, i, motion.mode, &motion.vectors);
     read_into(header, map, place, reference, d);
-    let kept = map.get(place);
-    equal!(rt; (i, kept.reference), (i, reference));
-    check_motion(rt, i, kept.mode, &kept.vectors);
+    check_motion(rt, i, &motion, map.get(place));
 }
 
 /// Puts all macroblocks but the intra one.
@@ -280,25 +274,35 @@ fn empty_header() -> Header {
 fn vectors_by_their_neighbours(rt: HostRuntime) {
     let mut header = empty_header();
     header.biases.golden = true;
-    let mut map = map_of(&rt, rt.alloc(), 48, 48);
-    put_all(&rt, &header, &mut map, &mut BoolDecoder::new(&BYTES));
+    let alloc = rt.alloc();
+    let rt = &rt;
+    let mut map = map_of(rt, alloc, 48, 48);
+    put_all(rt, &header, &mut map, &mut BoolDecoder::new(&BYTES));
 }
 
 const MIXED: Vector = Vector { row: 4, column: -9 };
 
+/// Writes two vectors.
+fn written_vectors(rt: &impl Abort, alloc: Global, probabilities: &[[u8; 19]; 2]) -> Vec<u8> {
+    let mut e = BoolEncoder::new(alloc);
+    write_vector(probabilities, MIXED, &mut e).expect(rt, "memory");
+    write_vector(probabilities, SIDE, &mut e).expect(rt, "memory");
+    e.finish().expect(rt, "memory")
+}
+
 /// Two vectors in one partition, coded with the default probabilities.
 #[test]
-fn write_vector_examples(rt: HostRuntime) -> Result<(), Fail> {
-    let saved = Saved::defaults();
-    let probabilities = &saved.probabilities.vectors;
-    let mut e = BoolEncoder::new(rt.alloc());
-    write_vector(probabilities, MIXED, &mut e)?;
-    write_vector(probabilities, SIDE, &mut e)?;
-    let bytes = e.finish()?;
-    let mut d = BoolDecoder::new(bytes.as_slice());
-    equal!(rt; read_vector(probabilities, &mut d), MIXED);
-    equal!(rt; read_vector(probabilities, &mut d), SIDE);
-    Ok(())
+fn write_vector_examples(rt: HostRuntime) {
+    let alloc = rt.alloc();
+    let rt = &rt;
+    let probabilities = &Saved::defaults().probabilities.vectors;
+    let bytes = written_vectors(rt, alloc, probabilities);
+    let mut d = BoolDecoder::new(&bytes);
+    let found = [
+        read_vector(probabilities, &mut d),
+        read_vector(probabilities, &mut d),
+    ];
+    equal!(rt; found, [MIXED, SIDE]);
 }
 
 /// Writes a motion with the reference `Last`, if its mode can give its vector. Returns whether it is written.
@@ -386,49 +390,31 @@ fn first_other(header: &Header, map: &VectorMap, place: Place, bytes: &[u8]) -> 
     None
 }
 
-/// Writes the motions that can be coded. Returns the first of them that isn't written, and the first other that is.
-fn write_given(
-    header: &Header,
-    map: &VectorMap,
-    place: Place,
-    e: &mut BoolEncoder,
-) -> Result<(Option<usize>, Option<usize>), AllocError>
-    requires { Has map.now place }
-{
-    let given = first_given(header, map, place, &GIVEN, false, e)?;
-    let refused = first_given(header, map, place, &REFUSED, true, e)?;
-    Ok((given, refused))
-}
-
 /// Writes the motions that can be coded, and reads them back. Returns the first of them that isn't written, the first
 /// other that is, and the first that isn't read back.
 fn read_back(
+    rt: &impl Abort,
     alloc: Global,
     header: &Header,
     map: &VectorMap,
     place: Place,
-) -> Result<(Option<usize>, Option<usize>, Option<usize>), AllocError>
+) -> (Option<usize>, Option<usize>, Option<usize>)
     requires { Has map.now place }
 {
     let mut e = BoolEncoder::new(alloc);
-    let (given, refused) = write_given(header, map, place, &mut e)?;
-    let bytes = e.finish()?;
-    Ok((given, refused, first_other(header, map, place, &bytes)))
-}
-
-fn check_read_back(rt: &impl Abort, alloc: Global, map: &mut VectorMap)
-    requires columns { map.old.columns ≡ 2 }
-    requires rows { map.old.rows ≡ 2 }
-{
-    equal!(rt; (map.columns(), map.rows()), (2, 2));
-    put_neighbours(map);
-    let first = read_back(alloc, &empty_header(), map, MIDDLE);
-    equal!(rt; first.ok(), Some((None, None, None)));
+    let given = first_given(header, map, place, &GIVEN, false, &mut e).expect(rt, "memory");
+    let refused = first_given(header, map, place, &REFUSED, true, &mut e).expect(rt, "memory");
+    let bytes = e.finish().expect(rt, "memory");
+    (given, refused, first_other(header, map, place, &bytes))
 }
 
 /// All modes except split.
 #[test]
 fn motions_read_back(rt: HostRuntime) {
-    let mut map = map_of(&rt, rt.alloc(), 32, 32);
-    check_read_back(&rt, rt.alloc(), &mut map);
+    let alloc = rt.alloc();
+    let rt = &rt;
+    let mut map = map_of(rt, alloc, 32, 32);
+    put_neighbours(&mut map);
+    let first = read_back(rt, alloc, &empty_header(), &map, MIDDLE);
+    equal!(rt; (map.columns(), map.rows(), first), (2, 2, (None, None, None)));
 }

@@ -6,7 +6,6 @@ ghost use Rattle.vp_tokens.specs.Spelled.{AreSpelled};
 use crate::check::{equal, equal_bytes};
 use std::alloc::{AllocError, Global};
 use std::process::Abort;
-use std::test::Fail;
 use vp_base::Place;
 use vp_bool::{BoolDecoder, BoolEncoder};
 use vp_head::PacketFault;
@@ -17,29 +16,28 @@ use vp_tokens::{
 
 #[test]
 fn all_ones_partition(rt: HostRuntime) {
-    equal!(rt; Partitions::cut(&[], 8).err(), Some(PacketFault::PartitionTable));
+    let rt = &rt;
+    let fault = Partitions::cut(&[], 8).err();
     let zeros = [0; 21];
-    let Ok(partitions) = Partitions::cut(&zeros, 8) else {
-        panic!(rt; "21 bytes of 0 are eight empty partitions");
-    };
-    equal!(rt; partitions.count(), 8);
+    let partitions = Partitions::cut(&zeros, 8).expect(
+        rt,
+        "21 bytes of 0 are eight empty partitions",
+    );
+    equal!(rt; (fault, partitions.count()), (Some(PacketFault::PartitionTable), 8));
 }
 
 #[test]
 fn packet_faults(rt: HostRuntime) {
     let mut table = [0; 21];
     table[0] = 1;
-    equal!(rt; Partitions::cut(&table, 8).err(), Some(PacketFault::Partition(0)));
+    equal!(&rt; Partitions::cut(&table, 8).err(), Some(PacketFault::Partition(0)));
 }
 
 /// Allocates contexts for this number of columns.
 fn new_contexts(rt: &impl Abort, alloc: Global, columns: usize) -> Contexts
     ensures { length result.above ≡ columns }
 {
-    let Ok(contexts) = Contexts::new(alloc, columns) else {
-        panic!(rt; "memory");
-    };
-    contexts
+    Contexts::new(alloc, columns).expect(rt, "memory")
 }
 
 /// Reads the first macroblock's tokens from a partition of ones.
@@ -85,84 +83,91 @@ fn first_other(blocks: &[Block]) -> Option<(usize, Block)> {
 #[test]
 fn all_ones_tokens(rt: HostRuntime) {
     let tokens = first_tokens_of_ones(&rt, rt.alloc(), false, false);
-    equal!(rt; (tokens.any(), tokens.blocks[0]), (true, Block::NONE));
-    equal!(rt; first_other(&tokens.blocks[1..]), None);
+    let found = (
+        tokens.any(),
+        tokens.blocks[0],
+        first_other(&tokens.blocks[1..]),
+    );
+    equal!(&rt; found, (true, Block::NONE, None));
 }
 
 #[test]
 fn skipped_has_no_tokens(rt: HostRuntime) {
     let tokens = first_tokens_of_ones(&rt, rt.alloc(), true, true);
-    equal!(rt; (tokens.any(), tokens), (false, Tokens::NONE));
+    equal!(&rt; (tokens.any(), tokens), (false, Tokens::NONE));
 }
 
 /// Writes a macroblock of empty blocks that isn't skipped. Its bytes depend on which blocks above have tokens.
-fn bytes_below(contexts: &mut Contexts, alloc: Global) -> Result<Vec<u8>, AllocError>
+fn bytes_below(rt: &impl Abort, alloc: Global, contexts: &mut Contexts) -> Vec<u8>
     requires { 0 < length contexts.old.above }
 {
     let mut e = BoolEncoder::new(alloc);
-    let place = Place { column: 0, row: 3 };
     write_macroblock(
         coefficient_probabilities(),
         contexts,
-        place,
+        Place { column: 0, row: 3 },
         true,
         false,
         &Tokens::NONE,
         &mut e,
-    )?;
-    e.finish()
+    )
+    .expect(rt, "memory");
+    e.finish().expect(rt, "memory")
 }
 
 /// Writes a macroblock whose Y2 block alone has tokens.
-fn put_y2(contexts: &mut Contexts, alloc: Global) -> Result<(), AllocError>
+fn put_y2(rt: &impl Abort, alloc: Global, contexts: &mut Contexts)
     requires { 0 < length contexts.old.above }
     ensures { length contexts.new.above ≡ length contexts.old.above }
 {
     let mut tokens = Tokens::NONE;
     tokens.blocks[0] = Block::of_levels(&[1, 0, 0, 0, 0, 0, 0, 0, 0, 0, 0, 0, 0, 0, 0, 0]);
-    let mut e = BoolEncoder::new(alloc);
-    let place = Place { column: 0, row: 2 };
     write_macroblock(
         coefficient_probabilities(),
         contexts,
-        place,
+        Place { column: 0, row: 2 },
         true,
         false,
         &tokens,
-        &mut e,
+        &mut BoolEncoder::new(alloc),
     )
+    .expect(rt, "memory")
 }
 
 /// Writes an empty macroblock below one whose Y2 block alone has tokens.
-fn bytes_below_y2(alloc: Global) -> Result<Vec<u8>, AllocError> {
-    let mut contexts = Contexts::new(alloc, 1)?;
-    put_y2(&mut contexts, alloc)?;
-    bytes_below(&mut contexts, alloc)
+fn bytes_below_y2(rt: &impl Abort, alloc: Global) -> Vec<u8> {
+    let mut contexts = new_contexts(rt, alloc, 1);
+    put_y2(rt, alloc, &mut contexts);
+    bytes_below(rt, alloc, &mut contexts)
 }
 
 /// Writes an empty macroblock below a skipped one, which is below one whose blocks all have tokens.
-fn bytes_below_skipped(alloc: Global, has_y2: bool) -> Result<Vec<u8>, AllocError> {
-    let mut contexts = Contexts::new(alloc, 1)?;
+fn bytes_below_skipped(rt: &impl Abort, alloc: Global, has_y2: bool) -> Vec<u8> {
+    let mut contexts = new_contexts(rt, alloc, 1);
     let _known = tokens_of_ones(&mut contexts, true, false);
     pass_macroblock(&mut contexts, Place { column: 0, row: 1 }, has_y2);
-    bytes_below(&mut contexts, alloc)
+    bytes_below(rt, alloc, &mut contexts)
 }
 
 /// Checks what is written below skipped macroblocks. `none` is written where no block above has tokens.
-fn check_skipped(rt: &impl Abort, alloc: Global, none: &[u8]) -> Result<(), Fail> {
-    let y2_alone = bytes_below_y2(alloc)?;
-    assert!(rt; none != y2_alone.as_slice(), "both are {none:?}");
-    equal_bytes!(rt; bytes_below_skipped(alloc, false)?, &y2_alone);
-    equal_bytes!(rt; bytes_below_skipped(alloc, true)?, none);
-    Ok(())
+fn check_skipped(rt: &impl Abort, alloc: Global, none: &[u8]) {
+    let y2_alone = bytes_below_y2(rt, alloc);
+    equal!(rt; (none, y2_alone.as_slice() != none), (none, true));
+    equal_bytes!(rt; bytes_below_skipped(rt, alloc, false), &y2_alone);
+    equal_bytes!(rt; bytes_below_skipped(rt, alloc, true), none);
 }
 
 // The RFC's rule, worked by hand: after a skipped macroblock its blocks count as empty. If it has no Y2 block, the Y2
 // context of the macroblock above it, or to its left, is unchanged.
 #[test]
-fn skipped_leaves_y2(rt: HostRuntime) -> Result<(), Fail> {
-    let none = bytes_below(&mut Contexts::new(rt.alloc(), 1)?, rt.alloc())?;
-    check_skipped(&rt, rt.alloc(), &none)
+fn skipped_leaves_y2(rt: HostRuntime) {
+    let alloc = rt.alloc();
+    let rt = &rt;
+    check_skipped(
+        rt,
+        alloc,
+        &bytes_below(rt, alloc, &mut new_contexts(rt, alloc, 1)),
+    );
 }
 
 // The token partition of a row of three macroblocks from another encoder's stream; a third program read the expected
@@ -183,10 +188,9 @@ fn level(block: &Block, position: usize) -> i16
 }
 
 fn check_first(rt: &impl Abort, blocks: &[Block; 25]) {
-    equal!(rt; blocks[1], Block::NONE);
-    equal!(rt; start(&blocks[2], 1), ([-1].as_slice(), 1));
-    equal!(rt; level(&blocks[3], 2), 1);
-    equal!(rt; start(&blocks[7], 4), ([2, 0, -1, 0].as_slice(), 3));
+    equal!(rt; (blocks[1], level(&blocks[3], 2)), (Block::NONE, 1));
+    let starts = [start(&blocks[2], 1), start(&blocks[7], 4)];
+    equal!(rt; starts, [([-1].as_slice(), 1), ([2, 0, -1, 0].as_slice(), 3)]);
 }
 
 fn check_second(rt: &impl Abort, blocks: &[Block; 25]) {
@@ -195,9 +199,8 @@ fn check_second(rt: &impl Abort, blocks: &[Block; 25]) {
 }
 
 fn check_third(rt: &impl Abort, blocks: &[Block; 25]) {
-    equal!(rt; blocks[0], Block::NONE);
     let last = &blocks[14];
-    equal!(rt; (level(last, 10), last.tokens), (1, 11));
+    equal!(rt; (blocks[0], level(last, 10), last.tokens), (Block::NONE, 1, 11));
 }
 
 /// Reads the tokens of a macroblock of the row; it isn't skipped.
@@ -234,8 +237,9 @@ fn check_row(rt: &impl Abort, contexts: &mut Contexts)
 
 #[test]
 fn row_of_a_stream(rt: HostRuntime) {
-    let mut contexts = new_contexts(&rt, rt.alloc(), 3);
-    check_row(&rt, &mut contexts);
+    let alloc = rt.alloc();
+    let rt = &rt;
+    check_row(rt, &mut new_contexts(rt, alloc, 3));
 }
 
 /// Reads a macroblock of the row, and writes it again.
@@ -266,40 +270,33 @@ fn copy_next(
 }
 
 /// Reads the macroblocks of the row, and writes them again.
-fn copy_row(
-    read: &mut Contexts,
-    written: &mut Contexts,
-    e: &mut BoolEncoder,
-) -> Result<(), AllocError>
+fn copy_row(rt: &impl Abort, read: &mut Contexts, written: &mut Contexts, e: &mut BoolEncoder)
     requires read { length read.old.above ≡ 3 }
     requires written { length written.old.above ≡ 3 }
 {
     let mut d = BoolDecoder::new(&ROW);
-    copy_next(read, written, 0, false, &mut d, e)?;
-    copy_next(read, written, 1, false, &mut d, e)?;
-    copy_next(read, written, 2, true, &mut d, e)
+    copy_next(read, written, 0, false, &mut d, e).expect(rt, "memory");
+    copy_next(read, written, 1, false, &mut d, e).expect(rt, "memory");
+    copy_next(read, written, 2, true, &mut d, e).expect(rt, "memory")
 }
 
 /// Returns the row as it is written again.
-fn copied_row(alloc: Global, read: &mut Contexts) -> Result<Vec<u8>, AllocError>
-    requires { length read.old.above ≡ 3 }
-{
-    let mut written = Contexts::new(alloc, 3)?;
+fn copied_row(rt: &impl Abort, alloc: Global) -> Vec<u8> {
+    let mut read = new_contexts(rt, alloc, 3);
+    let mut written = new_contexts(rt, alloc, 3);
     let mut e = BoolEncoder::new(alloc);
-    copy_row(read, &mut written, &mut e)?;
-    e.finish()
+    copy_row(rt, &mut read, &mut written, &mut e);
+    e.finish().expect(rt, "memory")
 }
 
 // The row is written exactly as the other encoder wrote it.
 #[test]
-fn writes_row_of_a_stream(rt: HostRuntime) -> Result<(), Fail> {
-    let mut read = Contexts::new(rt.alloc(), 3)?;
-    equal_bytes!(rt; copied_row(rt.alloc(), &mut read)?, &ROW);
-    Ok(())
+fn writes_row_of_a_stream(rt: HostRuntime) {
+    equal_bytes!(&rt; copied_row(&rt, rt.alloc()), &ROW);
 }
 
 #[test]
-fn puts_empty_parts(rt: HostRuntime) -> Result<(), Fail> {
+fn puts_empty_parts(rt: HostRuntime) {
     let a = rt.alloc();
     let parts = [
         Vec::new(a),
@@ -311,14 +308,12 @@ fn puts_empty_parts(rt: HostRuntime) -> Result<(), Fail> {
         Vec::new(a),
         Vec::new(a),
     ];
-    equal_bytes!(rt; Partitions::put(a, &parts)?, &[0; 21]);
-    Ok(())
+    equal_bytes!(&rt; Partitions::put(a, &parts).expect(&rt, "memory"), &[0; 21]);
 }
 
 #[test]
 fn tokens_end_with_the_last_level(rt: HostRuntime) {
     let block = Block::of_levels(&[0, -3, 0, 2114, 0, 0, 0, 0, 0, 0, 0, 0, 0, 0, 0, 0]);
-    equal!(rt; block.tokens, 4);
     let tokens = Tokens::of_levels(&[[-2114; 16]; 25]);
-    equal!(rt; first_other(&tokens.blocks), None);
+    equal!(&rt; (block.tokens, first_other(&tokens.blocks)), (4, None));
 }

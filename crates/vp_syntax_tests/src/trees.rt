@@ -1,8 +1,8 @@
 //! Tests of vp_tree: paths, and leaves read and written.
 
 use crate::check::{equal, equal_bytes};
-use std::alloc::{AllocError, Global};
-use std::test::Fail;
+use std::alloc::Global;
+use std::process::Abort;
 use vp_bool::{BoolDecoder, BoolEncoder};
 use vp_tree::TreeEntry::{self, Leaf, Pair};
 use vp_tree::{Step, path, path_from, read_tree, read_tree_from, write_tree, write_tree_from};
@@ -41,12 +41,13 @@ fn leaves_of_zeros() -> (Season, Season) {
 fn reads_leaves(rt: HostRuntime) {
     let even = [128; 3];
     // The bools 1, 0, 1: the number 5 in three bits.
-    equal!(rt; leaf_of(&[0x9f, 0xc0], &even), Season::Autumn);
-    equal!(rt; leaves_of_zeros(), (Season::Spring, Season::Summer));
-    equal!(rt; leaf_of(&[255], &[255, 0, 1]), Season::Winter);
+    let of_five = leaf_of(&[0x9f, 0xc0], &even);
+    let of_ones = leaf_of(&[255], &[255, 0, 1]);
     // A single bool of 1.
-    let mut one = BoolDecoder::new(&[0x80, 0]);
-    equal!(rt; read_tree_from(&SEASONS, &even, 4, &mut one), Season::Autumn);
+    let of_one = read_tree_from(&SEASONS, &even, 4, &mut BoolDecoder::new(&[0x80, 0]));
+    let found = (of_five, leaves_of_zeros(), of_ones, of_one);
+    let of_zeros = (Season::Spring, Season::Summer);
+    equal!(&rt; found, (Season::Autumn, of_zeros, Season::Winter, Season::Autumn));
 }
 
 #[test]
@@ -59,27 +60,30 @@ fn finds_paths(rt: HostRuntime) {
         },
         Step { pair: 4, bit: true },
     ];
-    equal!(rt; path(&SEASONS, Season::Autumn).as_slice(), to_autumn.as_slice());
-    equal!(rt; path_from(&SEASONS, 2, Season::Autumn).as_slice(), &to_autumn[1..]);
+    let from_root = path(&SEASONS, Season::Autumn);
+    let from_pair = path_from(&SEASONS, 2, Season::Autumn);
+    let found = (from_root.as_slice(), from_pair.as_slice());
+    equal!(&rt; found, (to_autumn.as_slice(), &to_autumn[1..]));
 }
 
 /// Writes the bools 1, 0, 1: the number 5 in three bits.
-fn autumn(alloc: Global) -> Result<Vec<u8>, AllocError> {
+fn autumn(rt: &impl Abort, alloc: Global) -> Vec<u8> {
     let mut e = BoolEncoder::new(alloc);
-    write_tree(&SEASONS, &[128; 3], Season::Autumn, &mut e)?;
-    e.finish()
+    write_tree(&SEASONS, &[128; 3], Season::Autumn, &mut e).expect(rt, "memory");
+    e.finish().expect(rt, "memory")
 }
 
 /// Writes a single bool of 1.
-fn autumn_from_its_pair(alloc: Global) -> Result<Vec<u8>, AllocError> {
+fn autumn_from_its_pair(rt: &impl Abort, alloc: Global) -> Vec<u8> {
     let mut e = BoolEncoder::new(alloc);
-    write_tree_from(&SEASONS, &[128; 3], 4, Season::Autumn, &mut e)?;
-    e.finish()
+    write_tree_from(&SEASONS, &[128; 3], 4, Season::Autumn, &mut e).expect(rt, "memory");
+    e.finish().expect(rt, "memory")
 }
 
 #[test]
-fn writes_leaves(rt: HostRuntime) -> Result<(), Fail> {
-    equal_bytes!(rt; autumn(rt.alloc())?, &[0x9f, 0xc0]);
-    equal_bytes!(rt; autumn_from_its_pair(rt.alloc())?, &[0x80, 0]);
-    Ok(())
+fn writes_leaves(rt: HostRuntime) {
+    let alloc = rt.alloc();
+    let rt = &rt;
+    equal_bytes!(rt; autumn(rt, alloc), &[0x9f, 0xc0]);
+    equal_bytes!(rt; autumn_from_its_pair(rt, alloc), &[0x80, 0]);
 }

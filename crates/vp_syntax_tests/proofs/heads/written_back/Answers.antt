@@ -4,7 +4,7 @@ use Rattle.vp_head.proofs.SpelledLemmas.{header-spelled}
 use Rattle.vp_syntax_tests.proofs.heads.written_back.Goals as goal
 
 pub write-requires : goal.write-requires
-write-requires c =
-    let tag = c.in_ok-tag.tag in
+write-requires g c =
+    let tag = c.expect-tag.result in
     let saved = c.defaults-saved.result in
-    subst (λ r. IsWritableHeader (is_some tag.key) (kept_before saved tag) r.0) (sym c.read-2.ensures.value) (header-spelled saved tag _)
+    subst (λ r. IsWritableHeader (is_some tag.key) (kept_before saved tag) r.0) (sym c.read.ensures.value) (header-spelled saved tag _)
