@@ -22,10 +22,11 @@ pub(crate) fn compare<T: PartialEq + Debug + Drop>(
 }
 
 /// Fails the test if the values differ, and prints the expression of the first one and both. The line of the call
-/// follows them, which a function that asserts would hide.
+/// follows them, which a function that asserts would hide. The handle is lent already: a `&` here would lend a local
+/// of the caller, which its proof pays for at each call.
 macro_rules! equal {
     ($rt:expr; $found:expr, $wanted:expr) => {
-        $crate::check::compare($found, $wanted).expect(&$rt, stringify!($found))
+        $crate::check::compare($found, $wanted).expect($rt, stringify!($found))
     };
 }
 

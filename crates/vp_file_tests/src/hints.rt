@@ -18,29 +18,39 @@ const TWO: [u8; 59] = [
     0, 0, 0, 0, 0, 1, 0, 0, 0, 0, 0, 0,
 ];
 
+// The first bytes of files, and their kinds.
+const KINDS: [(&[u8], FileKind); 13] = [
+    (b"", FileKind::Empty),
+    (&TWO, FileKind::Ivf),
+    (b"\x1a\x45\xdf\xa3\x01", FileKind::WebM),
+    (b"\x00\x00\x00\x20ftypisom", FileKind::Mp4),
+    (b"RIFF\x24\x00\x00\x00AVI LIST", FileKind::Avi),
+    (b"RIFF\x24\x00\x00\x00WEBPVP8 ", FileKind::WebP),
+    (b"YUV4MPEG2 W16 H16", FileKind::Y4m),
+    (b"OggS\x00\x02", FileKind::Ogg),
+    (b"\x00\x00\x00\x01\x67", FileKind::H264),
+    (b"\x89PNG\r\n\x1a\n", FileKind::Png),
+    (b"\xff\xd8\xff\xe0", FileKind::Jpeg),
+    (b"GIF89a", FileKind::Gif),
+    (b"DKI", FileKind::Unknown),
+];
+
 #[test]
 fn kinds_of_files(rt: HostRuntime) {
-    equal!(rt; kind_of(b""), FileKind::Empty);
-    equal!(rt; kind_of(&TWO), FileKind::Ivf);
-    equal!(rt; kind_of(b"\x1a\x45\xdf\xa3\x01"), FileKind::WebM);
-    equal!(rt; kind_of(b"\x00\x00\x00\x20ftypisom"), FileKind::Mp4);
-    equal!(rt; kind_of(b"RIFF\x24\x00\x00\x00AVI LIST"), FileKind::Avi);
-    equal!(rt; kind_of(b"RIFF\x24\x00\x00\x00WEBPVP8 "), FileKind::WebP);
-    equal!(rt; kind_of(b"YUV4MPEG2 W16 H16"), FileKind::Y4m);
-    equal!(rt; kind_of(b"OggS\x00\x02"), FileKind::Ogg);
-    equal!(rt; kind_of(b"\x00\x00\x00\x01\x67"), FileKind::H264);
-    equal!(rt; kind_of(b"\x89PNG\r\n\x1a\n"), FileKind::Png);
-    equal!(rt; kind_of(b"\xff\xd8\xff\xe0"), FileKind::Jpeg);
-    equal!(rt; kind_of(b"GIF89a"), FileKind::Gif);
-    equal!(rt; kind_of(b"DKI"), FileKind::Unknown);
+    for (bytes, kind) in KINDS {
+        equal!(&rt; (bytes, kind_of(bytes)), (bytes, kind));
+    }
 }
 
 #[test]
 fn heads_with_faults(rt: HostRuntime) {
-    equal!(rt; head_fault(&TWO), None);
-    equal!(rt; head_fault(&TWO[..31]), None);
-    equal!(rt; head_fault(&TWO[1..]), Some(FileFault::Signature));
-    equal!(rt; head_fault(b"DKIF....VP90...................."), Some(FileFault::Codec));
+    let found = [
+        head_fault(&TWO),
+        head_fault(&TWO[..31]),
+        head_fault(&TWO[1..]),
+        head_fault(b"DKIF....VP90...................."),
+    ];
+    equal!(&rt; found, [None, None, Some(FileFault::Signature), Some(FileFault::Codec)]);
 }
 
 // The number of packets in some bytes.
@@ -59,13 +69,12 @@ fn last_time_in(bytes: &[u8]) -> u64 {
 
 #[test]
 fn packets_are_counted(rt: HostRuntime) {
-    equal!(rt; last_time_in(&TWO), 256);
-    equal!(rt; last_time_in(&TWO[..47]), 0x8000_0102_0000_0304);
-    equal!(rt; packets_in(&TWO), 2);
-    equal!(rt; packets_in(&TWO[..58]), 1);
-    equal!(rt; packets_in(&TWO[..47]), 1);
-    equal!(rt; packets_in(&TWO[..46]), 0);
-    equal!(rt; packets_in(&TWO[..32]), 0);
+    let rt = &rt;
+    let times = [last_time_in(&TWO), last_time_in(&TWO[..47])];
+    equal!(rt; times, [256, 0x8000_0102_0000_0304]);
+    for (length, packets) in [(59, 2), (58, 1), (47, 1), (46, 0), (32, 0)] {
+        equal!(rt; (length, packets_in(&TWO[..length])), (length, packets));
+    }
 }
 
 // Reads into 40 bytes, and then once more. Returns the number of bytes, and whether the second read fails.
@@ -78,13 +87,14 @@ fn read_twice(reader: &mut Witness<FailAt<&[u8]>>) -> (usize, bool) {
 #[test]
 fn a_witness_remembers(rt: HostRuntime) {
     let mut reader = Witness::new(FailAt::new(&TWO[..], 1));
-    equal!(rt; reader.error().is_some(), false);
-    equal!(rt; read_twice(&mut reader), (40, true));
-    equal!(rt; reader.error().map(|error| error.kind()), Some(io::ErrorKind::Other));
+    let rt = &rt;
+    let fails_before = reader.error().is_some();
+    let read = read_twice(&mut reader);
+    let kind = reader.error().map(|error| error.kind());
+    equal!(rt; (fails_before, read, kind), (false, (40, true), Some(io::ErrorKind::Other)));
     let (_, seen) = reader.into_parts();
-    equal!(rt; seen.bytes(), 40);
-    equal!(rt; seen.head(), &TWO[..40]);
-    equal!(rt; seen.kind(), FileKind::Ivf);
+    let found = (seen.bytes(), seen.head(), seen.kind());
+    equal!(rt; found, (40, &TWO[..40], FileKind::Ivf));
 }
 
 #[test]
@@ -93,17 +103,16 @@ fn a_metered_reader_reads_on(rt: HostRuntime) {
     meter.count(Unit::Packets);
     let mut reader = Metered::new(&TWO[..], &meter);
     let mut buffer = [0; 58];
-    equal!(rt; reader.read(&mut buffer).unwrap_or(0), 58);
-    equal!(rt; reader.into_witness().seen().packets().whole, 1);
+    let read = reader.read(&mut buffer).unwrap_or(0);
+    equal!(&rt; (read, reader.into_witness().seen().packets().whole), (58, 1));
 }
 
 #[test]
 fn a_tally_remembers(rt: HostRuntime) {
     let mut tally = Tally::new(Vec::new(rt.alloc()));
-    equal!(rt; tally.write(&TWO).unwrap_or(0), TWO.len());
+    let written = tally.write(&TWO).unwrap_or(0);
     let seen = tally.into_seen();
-    equal!(rt; seen.packets().whole, 2);
-    equal!(rt; seen.head(), &TWO[..]);
+    equal!(&rt; (written, seen.packets().whole, seen.head()), (TWO.len(), 2, &TWO[..]));
 }
 
 // Overwrites an old file. Returns the numbers of bytes that two writes take, of none and of one, and what the file
@@ -134,12 +143,11 @@ fn check_bytes(rt: &impl Abort, before: Vec<u8>, after: Vec<u8>, wanted: &[u8]) 
 }
 
 #[test]
-fn an_old_file_is_emptied_late(rt: HostRuntime) -> io::Result<()> {
-    let (taken, before, after) = overwritten(&rt, "late.tmp")?;
-    equal!(rt; taken, (0, 1));
+fn an_old_file_is_emptied_late(rt: HostRuntime) {
+    let (taken, before, after) = overwritten(&rt, "late.tmp").expect(&rt, "a file");
+    equal!(&rt; taken, (0, 1));
     check_bytes(&rt, before, after, b"n");
-    let (before, after) = finished(&rt, "late.tmp")?;
+    let (before, after) = finished(&rt, "late.tmp").expect(&rt, "a file");
     check_bytes(&rt, before, after, b"");
     let _ = fs::remove_file(&rt, "late.tmp");
-    Ok(())
 }

@@ -6,7 +6,7 @@ use crate::check::equal;
 use std::alloc::Global;
 use std::process::Abort;
 use vp_base::{Counted, Dim, FailAt, Limits};
-use vp_ivf::{FeedError, FileFault, IvfHead, Reader, WriteFault, Writer};
+use vp_ivf::{FeedError, FileFault, IvfHead, Packet, Reader, WriteFault, Writer};
 
 // A file of one packet, 16 by 16 pixels, whose frame is an empty key frame of ten bytes.
 const FILE: [u8; 54] = [
@@ -32,18 +32,25 @@ fn fed(reader: &mut Reader, byte: &[u8]) -> (bool, Result<(), FeedError>) {
     }
 }
 
+/// Returns the time and the bytes of a packet.
+fn parts_of(packet: &Option<Packet>) -> Option<(u64, &[u8])> {
+    match packet {
+        Some(packet) => Some((packet.time, packet.bytes.as_slice())),
+        None => None,
+    }
+}
+
 /// The next packet has this time and these bytes.
 fn check_next(rt: &impl Abort, reader: &mut Reader, time: u64, bytes: &[u8]) {
-    let Some(packet) = reader.next_packet() else {
-        panic!(rt; "no packet of time {time}");
-    };
-    equal!(rt; (packet.time, packet.bytes.as_slice()), (time, bytes));
+    let packet = reader.next_packet();
+    equal!(rt; parts_of(&packet), Some((time, bytes)));
 }
 
 /// Marking the end succeeds, twice, and no more bytes are taken.
 fn check_end(rt: &impl Abort, reader: &mut Reader) {
-    equal!(rt; (reader.next_packet().is_none(), reader.refusal()), (true, None));
-    equal!(rt; (reader.finish(), reader.finish()), (Ok(()), Ok(())));
+    let before = (reader.next_packet().is_none(), reader.refusal());
+    let ends = (reader.finish(), reader.finish());
+    equal!(rt; (before, ends), ((true, None), (Ok(()), Ok(()))));
     let ended = FileFault::Ended;
     let found = (reader.refusal(), reader.feed(&[]));
     equal!(rt; found, (Some(ended), Err(FeedError::Fault(ended))));
@@ -52,12 +59,13 @@ fn check_end(rt: &impl Abort, reader: &mut Reader) {
 #[test]
 fn fed_byte_by_byte(rt: HostRuntime) {
     let mut reader = Reader::new(rt.alloc(), Limits::usual());
+    let rt = &rt;
     for i in 0..54 {
         let fed = fed(&mut reader, &FILE[i..i + 1]);
         equal!(rt; (i, fed), (i, (true, Ok(()))));
     }
-    check_next(&rt, &mut reader, 0, &FILE[44..]);
-    check_end(&rt, &mut reader);
+    check_next(rt, &mut reader, 0, &FILE[44..]);
+    check_end(rt, &mut reader);
 }
 
 /// What a reader says of a prefix of the file: its answer, whether the head is there, whether no packet is, and the
@@ -75,10 +83,12 @@ fn end_of(alloc: Global, front: &[u8]) -> End {
 
 #[test]
 fn file_cut_short(rt: HostRuntime) {
+    let alloc = rt.alloc();
     let torn = Err(FileFault::Torn);
-    equal!(rt; end_of(rt.alloc(), &FILE[..31]), (Ok(()), false, true, torn));
-    equal!(rt; end_of(rt.alloc(), &FILE[..32]), (Ok(()), true, true, Ok(())));
-    equal!(rt; end_of(rt.alloc(), &FILE[..53]), (Ok(()), true, true, torn));
+    for (length, has_head, end) in [(31, false, torn), (32, true, Ok(())), (53, true, torn)] {
+        let found = end_of(alloc, &FILE[..length]);
+        equal!(&rt; (length, found), (length, (Ok(()), has_head, true, end)));
+    }
 }
 
 /// The file with another byte in its head has this fault, once the head is complete.
@@ -90,15 +100,16 @@ fn check_head_fault(rt: &impl Abort, alloc: Global, at: usize, letter: u8, fault
     let mut reader = Reader::new(alloc, Limits::usual());
     let refused = Err(FeedError::Fault(fault));
     let fed = (reader.feed(&bytes[..31]), reader.feed(&bytes[31..]));
-    equal!(rt; (at, fed), (at, (Ok(()), refused)));
     let after = (reader.head(), reader.finish(), reader.feed(&[]));
-    equal!(rt; (at, after), (at, (None, Err(fault), refused)));
+    equal!(rt; (at, fed, after), (at, (Ok(()), refused), (None, Err(fault), refused)));
 }
 
 #[test]
 fn head_faults(rt: HostRuntime) {
-    check_head_fault(&rt, rt.alloc(), 3, b'X', FileFault::Signature);
-    check_head_fault(&rt, rt.alloc(), 10, b'9', FileFault::Codec);
+    let alloc = rt.alloc();
+    let rt = &rt;
+    check_head_fault(rt, alloc, 3, b'X', FileFault::Signature);
+    check_head_fault(rt, alloc, 10, b'9', FileFault::Codec);
 }
 
 const HEAD: IvfHead = IvfHead {
@@ -114,23 +125,20 @@ fn check_fault(rt: &impl Abort, reader: &mut Reader, fault: FileFault) {
     equal!(rt; (fault, one), (fault, (Ok(()), Some(HEAD))));
     let front = reader.feed(&[11, 0, 0, 0, 1, 0, 0, 0, 0, 0, 0]);
     let back = reader.feed(&[0]);
-    equal!(rt; (front, back), (Ok(()), Err(FeedError::Fault(fault))));
     let end = (reader.next_packet().is_some(), reader.finish());
-    equal!(rt; end, (true, Err(fault)));
+    let refused = Err(FeedError::Fault(fault));
+    equal!(rt; (front, back, end), (Ok(()), refused, (true, Err(fault))));
 }
 
-/// A reader with a limit of `packets` packets of ten bytes meets this fault.
-fn check_limit(rt: &impl Abort, alloc: Global, packets: u32, fault: FileFault) {
-    let Some(limits) = Limits::new(256, 10, packets, 1) else {
-        panic!(rt; "limits of {packets} packets");
-    };
-    check_fault(rt, &mut Reader::new(alloc, limits), fault);
-}
-
+/// Readers with a limit of one or two packets of ten bytes.
 #[test]
 fn packet_limits(rt: HostRuntime) {
-    check_limit(&rt, rt.alloc(), 1, FileFault::TooMany);
-    check_limit(&rt, rt.alloc(), 2, FileFault::PacketTooLarge);
+    let alloc = rt.alloc();
+    let rt = &rt;
+    let one = Limits::new(256, 10, 1, 1).expect(rt, "limits of one packet");
+    check_fault(rt, &mut Reader::new(alloc, one), FileFault::TooMany);
+    let two = Limits::new(256, 10, 2, 1).expect(rt, "limits of two packets");
+    check_fault(rt, &mut Reader::new(alloc, two), FileFault::PacketTooLarge);
 }
 
 const WIDE_HEAD: IvfHead = IvfHead {
@@ -146,47 +154,49 @@ const TIME: u64 = 0x8000_0102_0000_0304;
 #[test]
 fn numbers_of_several_bytes(rt: HostRuntime) {
     let mut reader = Reader::new(rt.alloc(), Limits::usual());
-    equal!(rt; reader.feed(&WIDE), Ok(()));
-    equal!(rt; reader.head(), Some(WIDE_HEAD));
-    check_next(&rt, &mut reader, TIME, &[0xaa, 0xbb, 0xcc]);
-    check_next(&rt, &mut reader, 256, &[]);
+    let rt = &rt;
+    equal!(rt; (reader.feed(&WIDE), reader.head()), (Ok(()), Some(WIDE_HEAD)));
+    check_next(rt, &mut reader, TIME, &[0xaa, 0xbb, 0xcc]);
+    check_next(rt, &mut reader, 256, &[]);
     equal!(rt; reader.finish(), Ok(()));
+}
+
+/// Returns the size of a picture.
+fn size(rt: &impl Abort, w: u16, h: u16) -> Dim {
+    Dim::new(w, h, &Limits::usual()).expect(rt, "a size")
 }
 
 /// The file is complete after one packet, and no other packet is taken.
 fn write_one(rt: &impl Abort, writer: &mut Writer<Vec<u8>>) {
     let count = Err(WriteFault::Count);
     let before = (writer.finish(), writer.packet(0, &FILE[44..]));
-    equal!(rt; before, (count, Ok(())));
     let after = (writer.packet(1, &FILE[44..]), writer.finish());
-    equal!(rt; after, (count, Ok(())));
+    equal!(rt; [before, after], [(count, Ok(())), (count, Ok(()))]);
 }
 
 #[test]
 fn file_of_one_packet(rt: HostRuntime) {
-    let Ok(dim) = Dim::new(16, 16, &Limits::usual()) else {
-        panic!(rt; "a size");
-    };
     let mut out = Counted::new(Vec::new(rt.alloc()));
-    write_one(&rt, &mut Writer::begin(&mut out, dim, 30, 1, 1));
+    let rt = &rt;
+    write_one(rt, &mut Writer::begin(&mut out, size(rt, 16, 16), 30, 1, 1));
     equal!(rt; out.into_inner().as_slice(), FILE.as_slice());
 }
 
 /// The file is complete after two packets, and not after one.
 fn write_two(rt: &impl Abort, writer: &mut Writer<Vec<u8>>) {
     let one = (writer.packet(TIME, &[0xaa, 0xbb, 0xcc]), writer.finish());
-    equal!(rt; one, (Ok(()), Err(WriteFault::Count)));
     let two = (writer.packet(256, &[]), writer.finish());
-    equal!(rt; two, (Ok(()), Ok(())));
+    equal!(rt; [one, two], [(Ok(()), Err(WriteFault::Count)), (Ok(()), Ok(()))]);
 }
 
 #[test]
 fn file_of_two_packets(rt: HostRuntime) {
-    let Ok(dim) = Dim::new(273, 1, &Limits::usual()) else {
-        panic!(rt; "a size");
-    };
     let mut out = Counted::new(Vec::new(rt.alloc()));
-    write_two(&rt, &mut Writer::begin(&mut out, dim, 30_000, 1_001, 2));
+    let rt = &rt;
+    write_two(
+        rt,
+        &mut Writer::begin(&mut out, size(rt, 273, 1), 30_000, 1_001, 2),
+    );
     equal!(rt; out.into_inner().as_slice(), WIDE.as_slice());
 }
 
@@ -209,18 +219,16 @@ fn check_failure(rt: &impl Abort, alloc: Global, dim: Dim, k: u64, written: &[u8
 
 #[test]
 fn fails_at_each_write(rt: HostRuntime) {
-    let Ok(dim) = Dim::new(16, 16, &Limits::usual()) else {
-        panic!(rt; "a size");
-    };
-    check_failure(&rt, rt.alloc(), dim, 0, &[]);
-    check_failure(&rt, rt.alloc(), dim, 1, &FILE[..32]);
-    check_failure(&rt, rt.alloc(), dim, 2, &FILE[..44]);
+    let alloc = rt.alloc();
+    let rt = &rt;
+    let dim = size(rt, 16, 16);
+    check_failure(rt, alloc, dim, 0, &[]);
+    check_failure(rt, alloc, dim, 1, &FILE[..32]);
+    check_failure(rt, alloc, dim, 2, &FILE[..44]);
 }
 
 fn check_name(rt: &impl Abort, alloc: Global, fault: FileFault, name: &str) {
-    let Ok(text) = format!(in alloc; "{fault}") else {
-        panic!(rt; "memory");
-    };
+    let text = format!(in alloc; "{fault}").expect(rt, "memory");
     equal!(rt; text.as_str(), name);
 }
 
@@ -235,8 +243,9 @@ const NAMES: [(FileFault, &str); 6] = [
 
 #[test]
 fn names_of_file_faults(rt: HostRuntime) {
+    let alloc = rt.alloc();
     for (fault, name) in NAMES {
-        check_name(&rt, rt.alloc(), fault, name);
+        check_name(&rt, alloc, fault, name);
     }
 }
 
@@ -247,8 +256,8 @@ fn other_numbers_of_a_head(rt: HostRuntime) {
     bytes[4..8].copy_from_slice(&[1, 0, 44, 0]);
     bytes[24..32].copy_from_slice(&[9; 8]);
     let mut reader = Reader::new(rt.alloc(), Limits::usual());
-    equal!(rt; reader.feed(&bytes), Ok(()));
-    equal!(rt; reader.head(), Some(HEAD));
-    check_next(&rt, &mut reader, 0, &FILE[44..]);
+    let rt = &rt;
+    equal!(rt; (reader.feed(&bytes), reader.head()), (Ok(()), Some(HEAD)));
+    check_next(rt, &mut reader, 0, &FILE[44..]);
     equal!(rt; reader.finish(), Ok(()));
 }

@@ -4,7 +4,6 @@
 use crate::check::equal;
 use std::alloc::{AllocError, Global};
 use std::process::Abort;
-use std::test::Fail;
 use vp_base::{Dim, Limits};
 use vp_scale::{Scale, scaled};
 
@@ -28,37 +27,29 @@ const QUARTER: [u8; 10] = [133, 130, 70, 75, 64, 97, 134, 61, 125, 170];
 // Planes of 2 by 1, 1 by 1 and 1 by 1 pixels.
 const EIGHTH: [u8; 4] = [100, 107, 103, 144];
 
-/// Returns the width, the height and the pixels of the picture, made smaller.
-fn smaller(alloc: Global, scale: Scale) -> Result<(u16, u16, Vec<u8>), Fail> {
-    let dim = Dim::new(11, 5, &Limits::usual())?;
-    let picture = scaled(alloc, dim, &PIXELS, scale)?;
-    let found = picture.crop_i420(alloc)?;
-    Ok((picture.dim().w, picture.dim().h, found))
-}
-
 /// The picture, made smaller, has this size and these pixels.
-fn check_smaller(
-    rt: &impl Abort,
-    alloc: Global,
-    scale: Scale,
-    size: (u16, u16),
-    wanted: &[u8],
-) -> Result<(), Fail> {
-    let (width, height, found) = smaller(alloc, scale)?;
-    equal!(rt; ((width, height), found.as_slice()), (size, wanted));
-    Ok(())
+fn check_smaller(rt: &impl Abort, alloc: Global, scale: Scale, size: (u16, u16), wanted: &[u8]) {
+    let dim = Dim::new(11, 5, &Limits::usual()).expect(rt, "a size");
+    let picture = scaled(alloc, dim, &PIXELS, scale).expect(rt, "memory");
+    let pixels = picture.crop_i420(alloc).expect(rt, "memory");
+    let found = (picture.dim().w, picture.dim().h);
+    equal!(rt; (found, pixels.as_slice()), (size, wanted));
 }
 
 #[test]
-fn planes_are_scaled_alike(rt: HostRuntime) -> Result<(), Fail> {
-    check_smaller(&rt, rt.alloc(), Scale::Half, (6, 3), &HALF)?;
-    check_smaller(&rt, rt.alloc(), Scale::Quarter, (3, 2), &QUARTER)
+fn planes_are_scaled_alike(rt: HostRuntime) {
+    let alloc = rt.alloc();
+    let rt = &rt;
+    check_smaller(rt, alloc, Scale::Half, (6, 3), &HALF);
+    check_smaller(rt, alloc, Scale::Quarter, (3, 2), &QUARTER)
 }
 
 #[test]
-fn edges_are_repeated(rt: HostRuntime) -> Result<(), Fail> {
-    check_smaller(&rt, rt.alloc(), Scale::Eighth, (2, 1), &EIGHTH)?;
-    check_smaller(&rt, rt.alloc(), Scale::Full, (11, 5), &PIXELS)
+fn edges_are_repeated(rt: HostRuntime) {
+    let alloc = rt.alloc();
+    let rt = &rt;
+    check_smaller(rt, alloc, Scale::Eighth, (2, 1), &EIGHTH);
+    check_smaller(rt, alloc, Scale::Full, (11, 5), &PIXELS)
 }
 
 /// Appends a plane whose pixels are `step` more from column to column and from row to row.
@@ -80,47 +71,45 @@ fn append_slope(
 
 /// Three planes that rise alike, of a picture of 144 by 16 pixels, made smaller by `step`: the mean of a square is half
 /// way between its first pixel and its last one.
-fn slopes(alloc: Global, step: u8) -> Result<Vec<u8>, Fail> {
+fn slopes(rt: &impl Abort, alloc: Global, step: u8) -> Vec<u8> {
     let mut out = Vec::new(alloc);
     let half = 72 / step.max(1);
-    append_slope(
-        &mut out,
-        144 / step.max(1),
-        16 / step.max(1),
-        step,
-        step.wrapping_sub(1),
-    )?;
+    let first = step.wrapping_sub(1);
+    let luma = append_slope(&mut out, 144 / step.max(1), 16 / step.max(1), step, first);
+    luma.expect(rt, "memory");
     for _ in 0..2 {
-        append_slope(&mut out, half, 8 / step.max(1), step, step.wrapping_sub(1))?;
+        let chroma = append_slope(&mut out, half, 8 / step.max(1), step, first);
+        chroma.expect(rt, "memory");
     }
-    Ok(out)
+    out
 }
 
-/// Returns the slopes of a picture of 144 by 16 pixels, made smaller.
-fn scaled_slopes(alloc: Global, scale: Scale) -> Result<Vec<u8>, Fail> {
-    let dim = Dim::new(144, 16, &Limits::usual())?;
-    let pixels = slopes(alloc, 1)?;
-    let picture = match pixels.len() {
-        3456 => scaled(alloc, dim, &pixels, scale)?,
-        _ => return Err("size".into()),
-    };
-    Ok(picture.crop_i420(alloc)?)
+/// The slopes of a picture of 144 by 16 pixels, made smaller, are those that rise by `step`.
+fn check_slopes(rt: &impl Abort, alloc: Global, scale: Scale, step: u8) {
+    let dim = Dim::new(144, 16, &Limits::usual()).expect(rt, "a size");
+    let pixels = slopes(rt, alloc, 1);
+    if pixels.len() != 3456 {
+        panic!(rt; "a picture of another size");
+    }
+    let picture = scaled(alloc, dim, &pixels, scale).expect(rt, "memory");
+    let found = picture.crop_i420(alloc).expect(rt, "memory");
+    equal!(rt; (step, found), (step, slopes(rt, alloc, step)));
 }
 
 // Each row of these planes has whole groups of eight squares, and some more.
 #[test]
-fn squares_of_wide_planes(rt: HostRuntime) -> Result<(), Fail> {
-    equal!(rt; scaled_slopes(rt.alloc(), Scale::Half)?, slopes(rt.alloc(), 2)?);
-    equal!(rt; scaled_slopes(rt.alloc(), Scale::Quarter)?, slopes(rt.alloc(), 4)?);
-    equal!(rt; scaled_slopes(rt.alloc(), Scale::Eighth)?, slopes(rt.alloc(), 8)?);
-    Ok(())
+fn squares_of_wide_planes(rt: HostRuntime) {
+    let alloc = rt.alloc();
+    let rt = &rt;
+    check_slopes(rt, alloc, Scale::Half, 2);
+    check_slopes(rt, alloc, Scale::Quarter, 4);
+    check_slopes(rt, alloc, Scale::Eighth, 8);
 }
 
 #[test]
-fn sizes_are_rounded_up(rt: HostRuntime) -> Result<(), Fail> {
-    let dim = Dim::new(17, 1, &Limits::usual())?;
+fn sizes_are_rounded_up(rt: HostRuntime) {
+    let rt = &rt;
+    let dim = Dim::new(17, 1, &Limits::usual()).expect(rt, "a size");
     let size = Scale::Eighth.size(dim);
-    equal!(rt; size.w, 3);
-    equal!(rt; size.h, 1);
-    Ok(())
+    equal!(rt; (size.w, size.h), (3, 1));
 }

@@ -73,9 +73,13 @@ fn parts_of(file: &[u8]) -> Result<(&[u8], bool, Option<Canvas>), WebPFault> {
 
 #[test]
 fn webp_files(rt: HostRuntime) {
-    equal!(rt; parts_of(&HALF), Ok((&HALF[20..], false, None)));
-    equal!(rt; parts_of(&ALPHA), Ok((&ALPHA[64..], true, Some(CANVAS))));
-    equal!(rt; parts_of(&PROFILE), Ok((&PROFILE[50..78], false, Some(CANVAS))));
+    let found = [parts_of(&HALF), parts_of(&ALPHA), parts_of(&PROFILE)];
+    let wanted = [
+        Ok((&HALF[20..], false, None)),
+        Ok((&ALPHA[64..], true, Some(CANVAS))),
+        Ok((&PROFILE[50..78], false, Some(CANVAS))),
+    ];
+    equal!(&rt; found, wanted);
 }
 
 /// The packets lie where webpinfo says that they do. A file without one has the fault of `read`.
@@ -84,11 +88,15 @@ fn webp_places(rt: HostRuntime) {
     let half = PacketPlace { start: 20, len: 28 };
     let alpha = PacketPlace { start: 64, len: 32 };
     let profile = PacketPlace { start: 50, len: 28 };
-    equal!(rt; packet_place(&HALF), Ok(half));
-    equal!(rt; packet_place(&ALPHA), Ok(alpha));
-    equal!(rt; packet_place(&PROFILE), Ok(profile));
-    equal!(rt; packet_place(&LOSSLESS), Err(WebPFault::Lossless));
-    equal!(rt; packet_place(&HALF[..47]), Err(WebPFault::Torn));
+    let rt = &rt;
+    let found = [
+        packet_place(&HALF),
+        packet_place(&ALPHA),
+        packet_place(&PROFILE),
+    ];
+    equal!(rt; found, [Ok(half), Ok(alpha), Ok(profile)]);
+    let faulty = [packet_place(&LOSSLESS), packet_place(&HALF[..47])];
+    equal!(rt; faulty, [Err(WebPFault::Lossless), Err(WebPFault::Torn)]);
 }
 
 fn fault_of(file: &[u8]) -> Option<WebPFault> {
@@ -106,21 +114,29 @@ fn check_cuts(rt: &impl Abort, file: &[u8]) {
 
 #[test]
 fn webp_cut_short(rt: HostRuntime) {
-    check_cuts(&rt, &HALF);
-    check_cuts(&rt, &ALPHA);
-    check_cuts(&rt, &PROFILE);
+    let rt = &rt;
+    check_cuts(rt, &HALF);
+    check_cuts(rt, &ALPHA);
+    check_cuts(rt, &PROFILE);
 }
+
+/// Files, and their faults.
+const FAULTY: [(&[u8], WebPFault); 8] = [
+    (&LOSSLESS, WebPFault::Lossless),
+    (&ANIMATION, WebPFault::Animated),
+    (b"RIFF\x04\0\0\0WEBP", WebPFault::NoPicture),
+    (b"RIFF\x03\0\0\0WEBP", WebPFault::Torn),
+    (b"DKIF", WebPFault::Signature),
+    (b"RIX", WebPFault::Signature),
+    (b"RIFF\xff\xff\xff\xffWAVE", WebPFault::Signature),
+    (b"RIFF\xff\xff\xff\xffWEBP", WebPFault::Torn),
+];
 
 #[test]
 fn webp_faults(rt: HostRuntime) {
-    equal!(rt; fault_of(&LOSSLESS), Some(WebPFault::Lossless));
-    equal!(rt; fault_of(&ANIMATION), Some(WebPFault::Animated));
-    equal!(rt; fault_of(b"RIFF\x04\0\0\0WEBP"), Some(WebPFault::NoPicture));
-    equal!(rt; fault_of(b"RIFF\x03\0\0\0WEBP"), Some(WebPFault::Torn));
-    equal!(rt; fault_of(b"DKIF"), Some(WebPFault::Signature));
-    equal!(rt; fault_of(b"RIX"), Some(WebPFault::Signature));
-    equal!(rt; fault_of(b"RIFF\xff\xff\xff\xffWAVE"), Some(WebPFault::Signature));
-    equal!(rt; fault_of(b"RIFF\xff\xff\xff\xffWEBP"), Some(WebPFault::Torn));
+    for (file, fault) in FAULTY {
+        equal!(&rt; (file, fault_of(file)), (file, Some(fault)));
+    }
 }
 
 /// The first file with another byte at one place.
@@ -134,17 +150,20 @@ fn with_byte(at: usize, byte: u8) -> [u8; 48]
 
 #[test]
 fn webp_sizes(rt: HostRuntime) {
-    // The file ends one byte before its size, or one byte after it.
-    equal!(rt; fault_of(&with_byte(4, 0x29)), Some(WebPFault::Torn));
-    equal!(rt; parts_of(&with_byte(16, 0x1b)), Ok((&HALF[20..47], false, None)));
-    // The chunk ends after the size of the file, with its padding or before it.
-    equal!(rt; fault_of(&with_byte(16, 0x1d)), Some(WebPFault::Torn));
-    equal!(rt; fault_of(&with_byte(4, 0x26)), Some(WebPFault::Torn));
-    equal!(rt; fault_of(&with_byte(19, 0xff)), Some(WebPFault::Torn));
+    let rt = &rt;
+    // The file ends one byte before its size, or the chunk after that size, with its padding or before it.
+    for (at, byte) in [(4, 0x29), (16, 0x1d), (4, 0x26), (19, 0xff)] {
+        let found = fault_of(&with_byte(at, byte));
+        equal!(rt; (at, byte, found), (at, byte, Some(WebPFault::Torn)));
+    }
+    // The file ends one byte after its size.
+    let longer = with_byte(16, 0x1b);
     // A size that does not count the padding of the last chunk; dwebp reads such a file.
     let mut odd = with_byte(4, 0x27);
     odd[16] = 0x1b;
-    equal!(rt; parts_of(odd.split_at(47).0), Ok((&HALF[20..47], false, None)));
+    let found = [parts_of(&longer), parts_of(odd.split_at(47).0)];
+    let wanted = Ok((&HALF[20..47], false, None));
+    equal!(rt; found, [wanted, wanted]);
     equal!(rt; fault_of(odd.split_at(46).0), Some(WebPFault::Torn));
 }
 
@@ -164,29 +183,54 @@ fn wide(flags: u8, size: u8) -> [u8; 68] {
     file
 }
 
+/// An extended file whose first chunk has this name.
+fn named(name: &[u8; 4]) -> [u8; 68] {
+    let mut file = wide(0, 11);
+    file[12..16].copy_from_slice(name);
+    file
+}
+
+/// The parameters of an animation without its flag are passed over, as dwebp does; its frames are not.
 #[test]
 fn chunks_before_the_picture(rt: HostRuntime) {
-    let canvas = Canvas {
+    let rt = &rt;
+    let canvas = Some(Canvas {
         width: 16_777_216,
         height: 513,
-    };
-    equal!(rt; parts_of(&wide(0, 11)), Ok((&HALF[20..], false, Some(canvas))));
-    equal!(rt; parts_of(&wide(0xfd, 12)), Ok((&HALF[20..], false, Some(canvas))));
-    equal!(rt; fault_of(&wide(2, 11)), Some(WebPFault::Animated));
-    equal!(rt; fault_of(&wide(0, 9)), Some(WebPFault::Torn));
-    // The parameters of an animation without its flag are passed over, as dwebp does; its frames are not.
-    let mut file = wide(0, 11);
-    file[12..16].copy_from_slice(b"ANIM");
-    equal!(rt; parts_of(&file), Ok((&HALF[20..], false, None)));
-    file[12..16].copy_from_slice(b"ANMF");
-    equal!(rt; fault_of(&file), Some(WebPFault::Animated));
+    });
+    let plain = wide(0, 11);
+    let flagged = wide(0xfd, 12);
+    let animated = named(b"ANIM");
+    let found = [parts_of(&plain), parts_of(&flagged), parts_of(&animated)];
+    let packet = &HALF[20..];
+    let wanted = [
+        Ok((packet, false, canvas)),
+        Ok((packet, false, canvas)),
+        Ok((packet, false, None)),
+    ];
+    equal!(rt; found, wanted);
+    check_wide_faults(rt);
+}
+
+fn check_wide_faults(rt: &impl Abort) {
+    let found = [
+        fault_of(&wide(2, 11)),
+        fault_of(&wide(0, 9)),
+        fault_of(&named(b"ANMF")),
+    ];
+    let animated = Some(WebPFault::Animated);
+    equal!(rt; found, [animated, Some(WebPFault::Torn), animated]);
 }
 
 #[test]
 fn webp_packets(rt: HostRuntime) {
-    equal!(rt; fault_of(&with_byte(20, 0x51)), Some(WebPFault::NotKey));
-    equal!(rt; fault_of(&with_byte(20, 0x40)), Some(WebPFault::Hidden));
-    equal!(rt; fault_of(b"RIFF\x0e\0\0\0WEBPVP8 \x02\0\0\0\x10\0"), Some(WebPFault::NotKey));
+    let found = [
+        fault_of(&with_byte(20, 0x51)),
+        fault_of(&with_byte(20, 0x40)),
+        fault_of(b"RIFF\x0e\0\0\0WEBPVP8 \x02\0\0\0\x10\0"),
+    ];
+    let no_key = Some(WebPFault::NotKey);
+    equal!(&rt; found, [no_key, Some(WebPFault::Hidden), no_key]);
 }
 
 /// A packet is written as this file, with this answer.
@@ -206,34 +250,33 @@ fn check_written(
 // The second file has a packet of 27 bytes, and a byte of padding in place of the last one.
 #[test]
 fn webp_written(rt: HostRuntime) {
+    let alloc = rt.alloc();
+    let rt = &rt;
     let odd = with_byte(16, 0x1b);
-    check_written(&rt, rt.alloc(), &HALF[20..], Ok(()), &HALF);
-    check_written(&rt, rt.alloc(), &HALF[20..47], Ok(()), &odd);
+    check_written(rt, alloc, &HALF[20..], Ok(()), &HALF);
+    check_written(rt, alloc, &HALF[20..47], Ok(()), &odd);
 }
 
 #[test]
 fn webp_refused(rt: HostRuntime) {
+    let alloc = rt.alloc();
+    let rt = &rt;
     let inter = with_byte(20, 0x51);
     let hidden = with_byte(20, 0x40);
     let no_key = Err(WebPWriteFault::NotKey);
     let is_hidden = Err(WebPWriteFault::Hidden);
-    check_written(&rt, rt.alloc(), &inter[20..], no_key, &[]);
-    check_written(&rt, rt.alloc(), &hidden[20..], is_hidden, &[]);
-    check_written(&rt, rt.alloc(), &HALF[20..22], no_key, &[]);
+    check_written(rt, alloc, &inter[20..], no_key, &[]);
+    check_written(rt, alloc, &hidden[20..], is_hidden, &[]);
+    check_written(rt, alloc, &HALF[20..22], no_key, &[]);
 }
 
-/// Returns a buffer of 50 nines after the file of a packet is copied to its first `count` bytes.
-fn copied(
-    rt: &impl Abort,
-    packet: &[u8],
-    count: usize,
-    wanted: Result<(), WebPWriteFault>,
-) -> [u8; 50]
+/// Copies the file of a packet to the first `count` bytes of 50 nines. Returns the answer and the buffer.
+fn copied(packet: &[u8], count: usize) -> (Result<(), WebPWriteFault>, [u8; 50])
     requires { count ≤ 50 }
 {
     let mut out = [9; 50];
-    equal!(rt; copy_file(&mut out[..count], packet), wanted);
-    out
+    let answer = copy_file(&mut out[..count], packet);
+    (answer, out)
 }
 
 /// Returns a file and two nines.
@@ -245,23 +288,28 @@ fn with_nines(file: &[u8; 48]) -> [u8; 50] {
 
 #[test]
 fn webp_copied(rt: HostRuntime) {
+    let rt = &rt;
     let (even, odd) = (&HALF[20..], &HALF[20..47]);
-    equal!(rt; file_len(even), Ok(48));
-    equal!(rt; file_len(odd), Ok(48));
+    equal!(rt; [file_len(even), file_len(odd)], [Ok(48), Ok(48)]);
     let odd_file = with_byte(16, 0x1b);
-    equal!(rt; copied(&rt, even, 50, Ok(())), with_nines(&HALF));
-    equal!(rt; copied(&rt, odd, 48, Ok(())), with_nines(&odd_file));
     let device = Err(WebPWriteFault::Device);
-    equal!(rt; copied(&rt, even, 47, device), [9; 50]);
+    let found = [copied(even, 50), copied(odd, 48), copied(even, 47)];
+    let wanted = [
+        (Ok(()), with_nines(&HALF)),
+        (Ok(()), with_nines(&odd_file)),
+        (device, [9; 50]),
+    ];
+    equal!(rt; found, wanted);
 }
 
 #[test]
 fn webp_not_copied(rt: HostRuntime) {
     let hidden = with_byte(20, 0x40);
-    equal!(rt; file_len(&HALF[20..22]), Err(WebPWriteFault::NotKey));
-    equal!(rt; file_len(&hidden[20..]), Err(WebPWriteFault::Hidden));
+    let rt = &rt;
     let fault = Err(WebPWriteFault::Hidden);
-    equal!(rt; copied(&rt, &hidden[20..], 50, fault), [9; 50]);
+    let lengths = [file_len(&HALF[20..22]), file_len(&hidden[20..])];
+    equal!(rt; lengths, [Err(WebPWriteFault::NotKey), Err(WebPWriteFault::Hidden)]);
+    equal!(rt; copied(&hidden[20..], 50), (fault, [9; 50]));
 }
 
 /// The file of the odd packet fails at write `k`, after its first `count` bytes are written.
@@ -272,22 +320,23 @@ fn check_failure(rt: &impl Abort, alloc: Global, k: u64, count: usize)
     let mut out = Counted::new(FailAt::new(Vec::new(alloc), k));
     let answer = write(&mut out, &HALF[20..47]);
     let device = Err(WebPWriteFault::Device);
-    equal!(rt; (k, answer, out.failures()), (k, device, 1));
+    let failures = out.failures();
     let bytes = out.into_inner().into_inner();
-    equal!(rt; (k, bytes.as_slice()), (k, file.split_at(count).0));
+    let found = (k, answer, failures, bytes.as_slice());
+    equal!(rt; found, (k, device, 1, file.split_at(count).0));
 }
 
 #[test]
 fn webp_device_fails(rt: HostRuntime) {
-    check_failure(&rt, rt.alloc(), 0, 0);
-    check_failure(&rt, rt.alloc(), 1, 20);
-    check_failure(&rt, rt.alloc(), 2, 47);
+    let alloc = rt.alloc();
+    let rt = &rt;
+    check_failure(rt, alloc, 0, 0);
+    check_failure(rt, alloc, 1, 20);
+    check_failure(rt, alloc, 2, 47);
 }
 
 fn check_name(rt: &impl Abort, alloc: Global, fault: WebPFault, name: &str) {
-    let Ok(text) = format!(in alloc; "{fault}") else {
-        panic!(rt; "memory");
-    };
+    let text = format!(in alloc; "{fault}").expect(rt, "memory");
     equal!(rt; text.as_str(), name);
 }
 
@@ -303,7 +352,8 @@ const NAMES: [(WebPFault, &str); 7] = [
 
 #[test]
 fn names_of_webp_faults(rt: HostRuntime) {
+    let alloc = rt.alloc();
     for (fault, name) in NAMES {
-        check_name(&rt, rt.alloc(), fault, name);
+        check_name(&rt, alloc, fault, name);
     }
 }

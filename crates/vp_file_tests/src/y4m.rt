@@ -4,7 +4,6 @@ use crate::check::equal;
 use std::alloc::Global;
 use std::io::{Read, Write};
 use std::process::Abort;
-use std::test::Fail;
 use vp_base::{Counted, Dim, FailAt, Limits, Picture};
 use vp_y4m::{PictureFault, Source, SourceFault, SourceHead, write_header, write_picture};
 
@@ -24,14 +23,14 @@ fn head_of(line: &[u8], k: u64) -> Result<SourceHead, SourceFault> {
 }
 
 #[test]
-fn header_text(rt: HostRuntime) -> Result<(), Fail> {
-    let dim = Dim::new(16, 16, &Limits::usual()).ok().ok_or("a size")?;
+fn header_text(rt: HostRuntime) {
     let mut file = Counted::new(Vec::new(rt.alloc()));
+    let rt = &rt;
+    let dim = Dim::new(16, 16, &Limits::usual()).expect(rt, "a size");
     let is_written = write_header(&mut file, dim, 30, 1).is_ok();
     let text = b"YUV4MPEG2 W16 H16 F30:1 Ip A0:0 C420jpeg\n".as_slice();
     let bytes = file.into_inner();
     equal!(rt; (is_written, bytes.as_slice()), (true, text));
-    Ok(())
 }
 
 // Writes a picture of 16 by 15 to a file of another size.
@@ -54,8 +53,8 @@ fn write_two<W: Write>(
 fn picture_of_another_size(rt: HostRuntime) {
     let mut file = Counted::new(Vec::new(rt.alloc()));
     let fault = Err(PictureFault::SizeChange);
-    equal!(rt; write_two(&mut file), Some((Ok(()), fault)));
-    equal!(rt; file.into_inner().len(), 390);
+    let written = write_two(&mut file);
+    equal!(&rt; (written, file.into_inner().len()), (Some((Ok(()), fault)), 390));
 }
 
 // Writes a header and a picture. Returns whether the header is written, and the result for the picture.
@@ -66,9 +65,7 @@ fn write_file<W: Write>(file: &mut Counted<W>) -> Option<(bool, Result<(), Pictu
 }
 
 fn check_picture(rt: &impl Abort, alloc: Global, picture: &Picture, wanted: &[u8]) {
-    let Ok(bytes) = picture.crop_i420(alloc) else {
-        panic!(rt; "memory");
-    };
+    let bytes = picture.crop_i420(alloc).expect(rt, "memory");
     equal!(rt; bytes.as_slice(), wanted);
 }
 
@@ -96,9 +93,7 @@ fn pictures_of<R: Read>(source: &mut Source<'_, R>) -> (u64, Option<SourceFault>
 /// A file has one picture, and these are its bytes.
 fn check_one_picture(rt: &impl Abort, alloc: Global, file: &[u8], wanted: &[u8]) {
     let mut reader = Counted::new(file);
-    let Ok(head) = SourceHead::read(&mut reader, Limits::usual()) else {
-        panic!(rt; "a head");
-    };
+    let head = SourceHead::read(&mut reader, Limits::usual()).expect(rt, "a head");
     let mut source = Source::open(alloc, &mut reader, head);
     check_next(rt, alloc, &mut source, wanted);
     equal!(rt; pictures_of(&mut source), (0, None));
@@ -106,22 +101,23 @@ fn check_one_picture(rt: &impl Abort, alloc: Global, file: &[u8], wanted: &[u8])
 
 #[test]
 fn source_reads_back(rt: HostRuntime) {
-    let mut file = Counted::new(Vec::new(rt.alloc()));
+    let alloc = rt.alloc();
+    let rt = &rt;
+    let mut file = Counted::new(Vec::new(alloc));
     equal!(rt; write_file(&mut file), Some((true, Ok(()))));
     let bytes = file.into_inner();
-    check_one_picture(&rt, rt.alloc(), bytes.as_slice(), &pixels());
+    check_one_picture(rt, alloc, bytes.as_slice(), &pixels());
 }
 
 #[test]
-fn source_says_its_head(rt: HostRuntime) -> Result<(), Fail> {
+fn source_says_its_head(rt: HostRuntime) {
+    let alloc = rt.alloc();
+    let rt = &rt;
     let mut reader = Counted::new(b"YUV4MPEG2 W3 H2 F30:1\n".as_slice());
-    let Ok(head) = SourceHead::read(&mut reader, Limits::usual()) else {
-        panic!(rt; "a head");
-    };
-    let source = Source::open(rt.alloc(), &mut reader, head);
+    let head = SourceHead::read(&mut reader, Limits::usual()).expect(rt, "a head");
+    let source = Source::open(alloc, &mut reader, head);
     let dim = source.dim();
     equal!(rt; (dim.w, dim.h, source.rate(), source.scale()), (3, 2, 30, 1));
-    Ok(())
 }
 
 // Returns the width, height, rate and scale in the header line.
@@ -132,23 +128,30 @@ fn said_of(line: &[u8], k: u64) -> Option<(u16, u16, u32, u32)> {
     }
 }
 
+/// Header lines, numbers of reads that don't fail, and the width, height, rate and scale in the lines.
+const LINES: [(&[u8], u64, (u16, u16, u32, u32)); 4] = [
+    (
+        b"YUV4MPEG2  H02 W9 W007 Xany C420paldv I? F24:1\n",
+        2_000,
+        (7, 2, 24, 1),
+    ),
+    (b"YUV4MPEG2 W1 H1\nFRAME\n", 16, (1, 1, 25, 1)),
+    (b"YUV4MPEG2 W1 H1 C420\n", 2_000, (1, 1, 25, 1)),
+    (b"YUV4MPEG2 W1 H1 C420mpeg2\n", 2_000, (1, 1, 25, 1)),
+];
+
 #[test]
 fn header_lines(rt: HostRuntime) {
-    let line = b"YUV4MPEG2  H02 W9 W007 Xany C420paldv I? F24:1\n";
-    equal!(rt; said_of(line, 2_000), Some((7, 2, 24, 1)));
-    let small = b"YUV4MPEG2 W1 H1\nFRAME\n";
-    equal!(rt; said_of(small, 16), Some((1, 1, 25, 1)));
-    let plain = b"YUV4MPEG2 W1 H1 C420\n";
-    equal!(rt; said_of(plain, 2_000), Some((1, 1, 25, 1)));
-    let mpeg2 = b"YUV4MPEG2 W1 H1 C420mpeg2\n";
-    equal!(rt; said_of(mpeg2, 2_000), Some((1, 1, 25, 1)));
+    for (line, reads, said) in LINES {
+        equal!(&rt; (line, said_of(line, reads)), (line, Some(said)));
+    }
 }
 
 #[test]
 fn header_of_another_writer(rt: HostRuntime) {
     let line =
         b"YUV4MPEG2 W35 H17 F30000:1001 Ip A1:1 C420jpeg XYSCSS=420JPEG XCOLORRANGE=LIMITED\n";
-    equal!(rt; said_of(line, 2_000), Some((35, 17, 30_000, 1_001)));
+    equal!(&rt; said_of(line, 2_000), Some((35, 17, 30_000, 1_001)));
 }
 
 /// Header lines that are refused, and their faults.
@@ -170,7 +173,7 @@ const REFUSED: [(&[u8], SourceFault); 11] = [
 fn header_faults(rt: HostRuntime) {
     for (line, fault) in REFUSED {
         let found = head_of(line, 2_000).err();
-        equal!(rt; (line, found), (line, Some(fault)));
+        equal!(&rt; (line, found), (line, Some(fault)));
     }
 }
 
@@ -205,9 +208,10 @@ fn fault_after(k: u64) -> SourceFault {
 
 #[test]
 fn fails_at_each_read(rt: HostRuntime) {
+    let alloc = rt.alloc();
     for k in 0..46u64 {
         let wanted = (pictures_before(k), Some(fault_after(k)));
-        equal!(rt; (k, read_all(rt.alloc(), SMALL, k)), (k, wanted));
+        equal!(&rt; (k, read_all(alloc, SMALL, k)), (k, wanted));
     }
 }
 
@@ -224,7 +228,7 @@ fn reads_of(alloc: Global, file: &[u8]) -> Option<(u64, (u64, Option<SourceFault
 #[test]
 fn reads_are_counted(rt: HostRuntime) {
     let file = b"YUV4MPEG2 W1 H1\nFRAME\nabc";
-    equal!(rt; reads_of(rt.alloc(), file), Some((16, (1, None), 26)));
+    equal!(&rt; reads_of(rt.alloc(), file), Some((16, (1, None), 26)));
 }
 
 /// After a failed read there are no more reads.
@@ -232,8 +236,7 @@ fn reads_are_counted(rt: HostRuntime) {
 fn a_failed_read_is_the_last(rt: HostRuntime) {
     let mut reader = Counted::new(FailAt::new(SMALL, 3));
     let fault = SourceHead::read(&mut reader, Limits::usual()).err();
-    equal!(rt; fault, Some(SourceFault::Device));
-    equal!(rt; reader.reads(), 4);
+    equal!(&rt; (fault, reader.reads()), (Some(SourceFault::Device), 4));
 }
 
 // Returns the results for header and picture, and the number of bytes written, with a writer that fails after k writes.
@@ -245,32 +248,37 @@ fn write_all(alloc: Global, k: u64) -> (Option<(bool, Result<(), PictureFault>)>
 
 #[test]
 fn fails_at_each_write(rt: HostRuntime) {
+    let alloc = rt.alloc();
     let fault = Err(PictureFault::Device);
-    equal!(rt; write_all(rt.alloc(), 0), (Some((false, fault)), 0));
-    equal!(rt; write_all(rt.alloc(), 1), (Some((true, fault)), 41));
-    equal!(rt; write_all(rt.alloc(), 2), (Some((true, fault)), 47));
+    for (k, header, length) in [(0, false, 0), (1, true, 41), (2, true, 47)] {
+        equal!(&rt; (k, write_all(alloc, k)), (k, (Some((header, fault)), length)));
+    }
 }
 
 /// The rows of Y, U and V follow each other; those of chroma have half of three pixels, rounded up.
 #[test]
-fn planes_stand_in_order(rt: HostRuntime) -> Result<(), Fail> {
+fn planes_stand_in_order(rt: HostRuntime) {
+    let alloc = rt.alloc();
+    let rt = &rt;
     let mut reader = Counted::new(b"YUV4MPEG2 W3 H1\nFRAME\nabcdefg".as_slice());
-    let Ok(head) = SourceHead::read(&mut reader, Limits::usual()) else {
-        panic!(rt; "a head");
-    };
-    let mut source = Source::open(rt.alloc(), &mut reader, head);
-    check_next(&rt, rt.alloc(), &mut source, b"abcdefg");
-    Ok(())
+    let head = SourceHead::read(&mut reader, Limits::usual()).expect(rt, "a head");
+    let mut source = Source::open(alloc, &mut reader, head);
+    check_next(rt, alloc, &mut source, b"abcdefg");
 }
+
+/// Files with longer words, and the number of pictures before them.
+const LONGER: [(&[u8], u64); 3] = [
+    (b"YUV4MPEG22 W1 H1\nFRAME\nabc", 0),
+    (b"YUV4MPEG2 W1 H1\nFRAMES\nabc", 0),
+    (b"YUV4MPEG2 W1 H1\nFRAME\nabcFRAMES x\nabc", 1),
+];
 
 /// The keyword of a line must be a whole word, not only a prefix of one.
 #[test]
 fn first_words_are_whole(rt: HostRuntime) {
-    let longer = b"YUV4MPEG22 W1 H1\nFRAME\nabc";
-    let magic = Some(SourceFault::Magic);
-    equal!(rt; read_all(rt.alloc(), longer, 2_000), (0, magic));
-    let frames = b"YUV4MPEG2 W1 H1\nFRAMES\nabc";
-    equal!(rt; read_all(rt.alloc(), frames, 2_000), (0, magic));
-    let frames_and_word = b"YUV4MPEG2 W1 H1\nFRAME\nabcFRAMES x\nabc";
-    equal!(rt; read_all(rt.alloc(), frames_and_word, 2_000), (1, magic));
+    let alloc = rt.alloc();
+    for (file, pictures) in LONGER {
+        let found = read_all(alloc, file, 2_000);
+        equal!(&rt; (file, found), (file, (pictures, Some(SourceFault::Magic))));
+    }
 }
