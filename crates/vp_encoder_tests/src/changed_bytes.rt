@@ -4,9 +4,10 @@ ghost use Rattle.std.specs.Prelude.{◌≡◌, ◌<◌, ◌≤◌, ◌^◌, Some
 ghost use Rattle.vp_head.specs.declared.fault.PacketFault.{PacketFault};
 ghost use Rattle.vp_decode.specs.declared.decoder.Outcome.{Outcome};
 
-use crate::files::{INTER, KEY, are_pictures};
+use crate::check::equal;
+use crate::files::{INTER, KEY, other_pixel};
 use std::alloc::Global;
-use std::test::Fail;
+use std::process::Abort;
 use vp_base::Limits;
 use vp_decode::{Decoder, Outcome};
 use vp_head::PacketFault;
@@ -168,70 +169,66 @@ fn outcome_behind(outcome: Outcome) -> Outcome
     }
 }
 
-/// Returns whether a packet has this outcome.
-fn gives(decoder: &mut Decoder, packet: &[u8], wanted: Outcome) -> bool {
-    match decoder.decode(packet) {
-        Ok(outcome) => outcome == wanted,
-        Err(_) => false,
+/// Decodes a key packet, the changed packet, an inter packet and the key packet. Returns the outcomes.
+fn play(rt: &impl Abort, decoder: &mut Decoder, packet: &[u8]) -> [Outcome; 4] {
+    let packets: [&[u8]; 4] = [&KEY, packet, &INTER, &KEY];
+    let mut outcomes = [Outcome::Hidden; 4];
+    for i in 0..4usize {
+        outcomes[i] = decoder.decode(packets[i]).expect(rt, "memory");
     }
+    outcomes
 }
 
-/// Returns whether the decoder shows the picture of the key packet.
-fn shows_key(alloc: Global, decoder: &Decoder) -> bool {
-    let Some(picture) = decoder.picture() else {
-        return false;
-    };
-    match picture.crop_i420(alloc) {
-        Ok(bytes) => bytes.len() == 384 && are_pictures(&bytes),
-        Err(_) => false,
-    }
+/// Returns the number of bytes of the shown picture, and where it isn't that of the key packet.
+fn shown(rt: &impl Abort, alloc: Global, decoder: &Decoder) -> (usize, Option<usize>) {
+    let picture = decoder.picture().expect(rt, "a picture");
+    let bytes = picture.crop_i420(alloc).expect(rt, "memory");
+    (bytes.len(), other_pixel(&bytes))
 }
 
-/// Decodes a key packet, the changed packet, an inter packet and the key packet. Returns whether all outcomes are as
-/// expected.
-fn gives_each(decoder: &mut Decoder, packet: &[u8], changed: Outcome) -> bool {
-    gives(decoder, &KEY, Outcome::Shown)
-        && gives(decoder, packet, changed)
-        && gives(decoder, &INTER, outcome_behind(changed))
-        && gives(decoder, &KEY, Outcome::Shown)
+/// Fails the test unless all outcomes and the last picture are as expected.
+fn check_packet(
+    rt: &impl Abort,
+    alloc: Global,
+    decoder: &mut Decoder,
+    packet: &[u8],
+    changed: Outcome,
+) {
+    let wanted = [
+        Outcome::Shown,
+        changed,
+        outcome_behind(changed),
+        Outcome::Shown,
+    ];
+    equal!(rt; (packet, play(rt, decoder, packet)), (packet, wanted));
+    equal!(rt; (packet, shown(rt, alloc, decoder)), (packet, (384, None)));
 }
 
-/// Returns whether all outcomes of those packets and the last picture are as expected.
-fn plays(alloc: Global, limits: Limits, packet: &[u8], changed: Outcome) -> bool {
-    let mut decoder = Decoder::new(alloc, limits);
-    gives_each(&mut decoder, packet, changed) && shows_key(alloc, &decoder)
-}
-
-/// Sets byte `at` to a value, and returns whether the changed packet plays as expected.
-fn stands(alloc: Global, at: usize, value: u8) -> bool
+/// Sets byte `at` to a value, and decodes the changed packet.
+fn check_value(rt: &impl Abort, alloc: Global, at: usize, value: u8)
     requires { at < SIZE }
 {
     let mut bytes = PACKETS;
     bytes[at] = value;
     let packet = packet_of(&bytes, at);
     let changed = changed_outcome(packet, at);
-    let Some(limits) = Limits::new(PIXELS, 16_384, 100, 1) else {
-        return false;
-    };
-    plays(alloc, limits, packet, changed)
+    let limits = Limits::new(PIXELS, 16_384, 100, 1).expect(rt, "limits");
+    let mut decoder = Decoder::new(alloc, limits);
+    check_packet(rt, alloc, &mut decoder, packet, changed);
 }
 
-/// Returns the first value of byte `at` with other outcomes than expected.
-fn first_wrong(alloc: Global, at: usize) -> Option<u8>
+/// Sets byte `at` to each value.
+fn check_byte(rt: &impl Abort, alloc: Global, at: usize)
     requires { at < SIZE }
 {
     for value in 0..=255u8 {
-        if !stands(alloc, at, value) {
-            return Some(value);
-        }
+        check_value(rt, alloc, at, value);
     }
-    None
 }
 
 #[test]
-fn each_byte_takes_each_value(rt: HostRuntime) -> Result<(), Fail> {
+fn each_byte_takes_each_value(rt: HostRuntime) {
     for at in 0..SIZE {
-        assert_eq!(rt; first_wrong(rt.alloc(), at), None, "byte {at}");
+        check_byte(&rt, rt.alloc(), at);
     }
-    Ok(())
 }

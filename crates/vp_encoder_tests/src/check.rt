@@ -1,9 +1,32 @@
 //! The comparison that tests use.
 
 use std::fmt::Debug;
-use std::process::Abort;
 
-/// Fails the test if the values differ, and prints both.
-pub(crate) fn equal<T: PartialEq + Debug>(rt: &impl Abort, found: &T, wanted: &T) {
-    assert_eq!(rt; found, wanted);
+/// Two values that differ.
+#[derive(Debug, Drop)]
+pub(crate) struct Difference<T> {
+    found: T,
+    wanted: T,
 }
+
+/// Returns both values if they differ.
+pub(crate) fn compare<T: PartialEq + Debug + Drop>(
+    found: T,
+    wanted: T,
+) -> Result<(), Difference<T>> {
+    if found == wanted {
+        Ok(())
+    } else {
+        Err(Difference { found, wanted })
+    }
+}
+
+/// Fails the test if the values differ, and prints the expression of the first one and both. The line of the call
+/// follows them, which a function that asserts would hide.
+macro_rules! equal {
+    ($rt:expr; $found:expr, $wanted:expr) => {
+        $crate::check::compare($found, $wanted).expect($rt, stringify!($found))
+    };
+}
+
+pub(crate) use equal;

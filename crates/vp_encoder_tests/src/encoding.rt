@@ -19,10 +19,11 @@ ghost use Rattle.vp_tokens.specs.Blocks.{no_blocks};
 ghost use Rattle.vp_encode.specs.CodedFrame.{choice_has_y2, CanBeEncoded};
 
 use crate::check::equal;
-use crate::worked_rows::{encoded_flat, flat, header_of, settings};
+use crate::worked_rows::{
+    FLAT, check_picture, check_shown, encoded_flat, flat, header_of, picture_of, settings,
+};
 use std::alloc::{AllocError, Global};
 use std::process::Abort;
-use std::test::Fail;
 use vp_base::{ByteList, Dim, Grid, Limits, Picture, Place};
 use vp_bool::BoolDecoder;
 use vp_choose::Choice;
@@ -204,51 +205,24 @@ fn chessboard_fault(alloc: Global, dim: Dim) -> Option<PacketError> {
     chessboard_packet(alloc, dim).err()
 }
 
-/// Returns whether the luma of a picture's first column is this, one pixel for each row of macroblocks.
-fn has_column(picture: &Picture, wanted: &[u8]) -> bool {
-    if usize::from(picture.dim().mb_rows()) != wanted.len() {
-        return false;
-    }
-    for row in 0..usize::from(picture.dim().mb_rows()) {
-        if picture.plane(0).get(0, 16 * row) != wanted[row] {
-            return false;
+/// Returns the first row of macroblocks whose first pixel of luma isn't this, and that pixel.
+fn other_row(picture: &Picture, wanted: &[u8]) -> Option<(usize, u8)> {
+    for row in 0..usize::from(picture.dim().mb_rows()).min(wanted.len()) {
+        let pixel = picture.plane(0).get(0, 16 * row);
+        if pixel != wanted[row] {
+            return Some((row, pixel));
         }
     }
-    true
+    None
 }
 
-/// Returns whether the decoder shows this packet, with this luma in the first column.
-fn shows_column(
-    decoder: &mut Decoder,
-    packet: &ByteList,
-    wanted: &[u8],
-) -> Result<bool, AllocError> {
-    if decoder.decode(packet.as_slice())? == Outcome::Shown {
-        if let Some(picture) = decoder.picture() {
-            return Ok(has_column(picture, wanted));
-        }
-    }
-    Ok(false)
-}
-
-/// Returns whether the decoder shows these packets, one after another, each with this luma in the first column.
-fn shows_columns(
-    decoder: &mut Decoder,
-    packets: &[&ByteList],
-    wanted: &[u8],
-) -> Result<bool, AllocError> {
-    for packet in packets {
-        if !shows_column(decoder, packet, wanted)? {
-            return Ok(false);
-        }
-    }
-    Ok(true)
-}
-
-/// Returns whether a new decoder does.
-fn show_column(alloc: Global, packets: &[&ByteList], wanted: &[u8]) -> Result<bool, AllocError> {
-    let mut decoder = Decoder::new(alloc, Limits::usual());
-    shows_columns(&mut decoder, packets, wanted)
+/// Fails the test unless the decoder shows this packet, with this luma in the first column, one pixel for each row of
+/// macroblocks.
+fn check_column(rt: &impl Abort, decoder: &mut Decoder, packet: &ByteList, wanted: &[u8]) {
+    equal!(rt; decoder.decode(packet.as_slice()), Ok(Outcome::Shown));
+    let picture = decoder.picture().expect(rt, "a picture");
+    let rows = usize::from(picture.dim().mb_rows());
+    equal!(rt; (rows, other_row(picture, wanted)), (wanted.len(), None));
 }
 
 /// Returns the key packet of a column of macroblocks with one luma mode.
@@ -267,31 +241,27 @@ fn column_packet(
 }
 
 /// Returns the key packet of one macroblock with this mode.
-fn one_macroblock(alloc: Global, luma: LumaMode) -> Result<ByteList, Fail>
+fn one_macroblock(rt: &impl Abort, alloc: Global, luma: LumaMode) -> ByteList
     requires { is_by_subblocks luma ≡ false }
 {
-    let dim = Dim::new(16, 16, &Limits::usual())?;
-    Ok(column_packet(alloc, dim, 0, luma)?)
+    let dim = Dim::new(16, 16, &Limits::usual()).expect(rt, "a size");
+    column_packet(alloc, dim, 0, luma).expect(rt, "a packet")
 }
 
 #[test]
-fn flat_macroblock(rt: HostRuntime) -> Result<(), Fail> {
-    let packet = one_macroblock(rt.alloc(), LumaMode::Dc)?;
-    assert!(rt; show_column(rt.alloc(), &[&packet], &[128])?);
-    Ok(())
+fn flat_macroblock(rt: HostRuntime) {
+    let packet = one_macroblock(&rt, rt.alloc(), LumaMode::Dc);
+    let mut decoder = Decoder::new(rt.alloc(), Limits::usual());
+    check_column(&rt, &mut decoder, &packet, &[128]);
 }
 
-/// Returns the key packet of nine macroblocks, one below another, in eight partitions.
-fn nine_macroblocks(alloc: Global) -> Result<ByteList, Fail> {
-    let dim = Dim::new(16, 144, &Limits::usual())?;
-    Ok(column_packet(alloc, dim, 3, LumaMode::Dc)?)
-}
-
+/// Nine macroblocks, one below another, in eight partitions.
 #[test]
-fn eight_partitions(rt: HostRuntime) -> Result<(), Fail> {
-    let packet = nine_macroblocks(rt.alloc())?;
-    assert!(rt; show_column(rt.alloc(), &[&packet], &[128; 9])?);
-    Ok(())
+fn eight_partitions(rt: HostRuntime) {
+    let dim = Dim::new(16, 144, &Limits::usual()).expect(&rt, "a size");
+    let packet = column_packet(rt.alloc(), dim, 3, LumaMode::Dc).expect(&rt, "a packet");
+    let mut decoder = Decoder::new(rt.alloc(), Limits::usual());
+    check_column(&rt, &mut decoder, &packet, &[128; 9]);
 }
 
 /// Returns the packet of the still frame, relative to the defaults and these segments.
@@ -309,63 +279,30 @@ fn still_packet_by(
 }
 
 /// Returns the packet of the still frame.
-fn still_packet(alloc: Global) -> Result<ByteList, Fail> {
-    let dim = Dim::new(16, 16, &Limits::usual())?;
-    let segments = Grid::new(alloc, 1, 1, Segment { number: 0 })?;
-    Ok(still_packet_by(alloc, dim, &segments)?)
-}
-
-/// Returns whether a key packet and the still frame's packet have this luma.
-fn show_still(alloc: Global, key: &ByteList, wanted: u8) -> Result<bool, Fail> {
-    let still = still_packet(alloc)?;
-    Ok(show_column(alloc, &[key, &still], &[wanted])?)
+fn still_packet(rt: &impl Abort, alloc: Global) -> ByteList {
+    let dim = Dim::new(16, 16, &Limits::usual()).expect(rt, "a size");
+    let segments = Grid::new(alloc, 1, 1, Segment { number: 0 }).expect(rt, "memory");
+    still_packet_by(alloc, dim, &segments).expect(rt, "a packet")
 }
 
 /// The pixels above a frame are 127, which a still inter frame keeps; an intra frame would have 128.
 #[test]
-fn still_frame_keeps_last(rt: HostRuntime) -> Result<(), Fail> {
-    let key = one_macroblock(rt.alloc(), LumaMode::V)?;
-    assert!(rt; show_still(rt.alloc(), &key, 127)?);
-    Ok(())
+fn still_frame_keeps_last(rt: HostRuntime) {
+    let key = one_macroblock(&rt, rt.alloc(), LumaMode::V);
+    let still = still_packet(&rt, rt.alloc());
+    let mut decoder = Decoder::new(rt.alloc(), Limits::usual());
+    check_column(&rt, &mut decoder, &key, &[127]);
+    check_column(&rt, &mut decoder, &still, &[127]);
 }
 
 /// With one row of macroblocks less, the first partition has 522,769 bytes; this one has 526,703, according to an
 /// independent script. Its size field has 19 bits.
 #[test]
-fn first_partition_too_long(rt: HostRuntime) -> Result<(), Fail> {
-    let fits = Dim::new(2400, 2128, &Limits::usual())?;
-    equal(&rt, &chessboard_fault(rt.alloc(), fits), &None);
-    let taller = Dim::new(2400, 2144, &Limits::usual())?;
-    equal(
-        &rt,
-        &chessboard_fault(rt.alloc(), taller),
-        &Some(PacketError::TooLong),
-    );
-    Ok(())
-}
-
-/// Returns whether a packet is an inter packet, by its lowest bit (RFC 6386, chapter 9.1).
-fn is_inter(packet: &ByteList) -> bool {
-    packet.as_slice().first().is_some_and(|byte| byte % 2 == 1)
-}
-
-/// Returns whether each pixel of a picture of 16 by 16 pixels has this value.
-fn is_all(alloc: Global, picture: &Picture, value: u8) -> Result<bool, AllocError> {
-    Ok(picture.crop_i420(alloc)?.as_slice() == [value; 384].as_slice())
-}
-
-/// Returns whether the decoder shows a picture of 16 by 16 pixels for a packet that is 128 everywhere.
-fn decodes_flat(
-    alloc: Global,
-    decoder: &mut Decoder,
-    packet: &ByteList,
-) -> Result<bool, AllocError> {
-    if decoder.decode(packet.as_slice())? == Outcome::Shown {
-        if let Some(picture) = decoder.picture() {
-            return is_all(alloc, picture, 128);
-        }
-    }
-    Ok(false)
+fn first_partition_too_long(rt: HostRuntime) {
+    let fits = Dim::new(2400, 2128, &Limits::usual()).expect(&rt, "a size");
+    equal!(&rt; chessboard_fault(rt.alloc(), fits), None);
+    let taller = Dim::new(2400, 2144, &Limits::usual()).expect(&rt, "a size");
+    equal!(&rt; chessboard_fault(rt.alloc(), taller), Some(PacketError::TooLong));
 }
 
 /// Returns the modes of the first macroblock, which follow the header in the first partition.
@@ -379,107 +316,83 @@ fn modes_behind(tag: &Tag, partition: &[u8], map: &ModeMap) -> Option<Modes> {
 }
 
 /// Returns the modes of the first macroblock of a key packet.
-fn first_modes(alloc: Global, dim: Dim, packet: &ByteList) -> Option<Modes> {
-    let tag = Tag::read(packet.as_slice(), &Limits::usual()).ok()?;
-    let partition = packet.as_slice().get(10..)?;
-    let map = ModeMap::new(alloc, dim).ok()?;
-    modes_behind(&tag, partition, &map)
+fn first_modes(rt: &impl Abort, alloc: Global, dim: Dim, packet: &[u8]) -> Modes {
+    let tag = Tag::read(packet, &Limits::usual()).expect(rt, "a tag");
+    let partition = packet.get(10..).expect(rt, "a partition");
+    let map = ModeMap::new(alloc, dim).expect(rt, "memory");
+    modes_behind(&tag, partition, &map).expect(rt, "a macroblock")
 }
 
-/// Returns whether a macroblock is skipped, with DC modes.
-fn is_flat(modes: &Modes) -> bool {
-    modes.skip && modes.luma == LumaMode::Dc && modes.chroma == ChromaMode::Dc
+/// Returns the next packet. Its reconstruction is exact.
+fn next_packet(rt: &impl Abort, encoder: &mut Encoder, source: &Picture) -> ByteList {
+    let encoded = encoder.encode(source).expect(rt, "a frame");
+    equal!(rt; encoded.squared_error, 0);
+    encoded.packet
 }
 
-/// Returns whether a packet shows a picture of 16 by 16 pixels that is 128 everywhere.
-fn shows_flat(alloc: Global, packet: &ByteList) -> Result<bool, AllocError> {
-    let mut decoder = Decoder::new(alloc, Limits::usual());
-    decodes_flat(alloc, &mut decoder, packet)
-}
-
-/// Returns whether the decoder shows such pictures for two packets.
-fn decodes_both_flat(
-    alloc: Global,
-    decoder: &mut Decoder,
-    first: &ByteList,
-    second: &ByteList,
-) -> Result<bool, AllocError> {
-    Ok(decodes_flat(alloc, decoder, first)? && decodes_flat(alloc, decoder, second)?)
-}
-
-/// Returns whether the first packet and an inter packet after it show such pictures.
-fn shows_flat_behind(
-    alloc: Global,
-    first: &ByteList,
-    second: &ByteList,
-) -> Result<bool, AllocError> {
-    let mut decoder = Decoder::new(alloc, Limits::usual());
-    let is_flat = decodes_both_flat(alloc, &mut decoder, first, second)?;
-    Ok(is_flat && is_inter(second))
-}
-
-/// Returns the next packet, if the reconstruction is exact.
-fn next_packet(encoder: &mut Encoder, source: &Picture) -> Option<ByteList> {
-    match encoder.encode(source) {
-        Ok(encoded) if encoded.squared_error == 0 => Some(encoded.packet),
-        _ => None,
-    }
-}
-
-/// Returns the next two packets, if the reconstructions are exact.
-fn two_packets(encoder: &mut Encoder, source: &Picture) -> Result<(ByteList, ByteList), Fail> {
-    let key = next_packet(encoder, source).ok_or("a packet")?;
-    let inter = next_packet(encoder, source).ok_or("a packet")?;
-    Ok((key, inter))
-}
-
-/// Returns a new encoder's first two packets of a picture.
-fn first_packets(alloc: Global, source: &Picture) -> Result<(ByteList, ByteList), Fail> {
-    let mut encoder = Encoder::new(alloc, source.dim(), settings(0, 1))?;
-    two_packets(&mut encoder, source)
+/// Returns the next two packets.
+fn two_packets(rt: &impl Abort, encoder: &mut Encoder, source: &Picture) -> (ByteList, ByteList) {
+    let key = next_packet(rt, encoder, source);
+    (key, next_packet(rt, encoder, source))
 }
 
 /// Returns the first two packets of a picture of 16 by 16 pixels that is 128 everywhere.
-fn flat_packets(alloc: Global) -> Result<(ByteList, ByteList), Fail> {
-    let source = flat(alloc, 128)?;
-    first_packets(alloc, &source)
+fn flat_packets(rt: &impl Abort, alloc: Global) -> (ByteList, ByteList) {
+    let source = flat(rt, alloc, 128);
+    let mut encoder = Encoder::new(alloc, source.dim(), settings(0, 1)).expect(rt, "settings");
+    two_packets(rt, &mut encoder, &source)
 }
 
-/// Returns whether the first macroblock of a key packet is skipped, with DC modes.
-fn begins_flat(alloc: Global, dim: Dim, packet: &ByteList) -> bool {
-    match first_modes(alloc, dim, packet) {
-        Some(modes) => is_flat(&modes),
-        None => false,
-    }
+/// Fails the test unless the first macroblock of a key packet is skipped, with DC modes.
+fn check_flat_modes(rt: &impl Abort, alloc: Global, key: &[u8]) {
+    let dim = Dim::new(16, 16, &Limits::usual()).expect(rt, "a size");
+    let modes = first_modes(rt, alloc, dim, key);
+    let wanted = (true, LumaMode::Dc, ChromaMode::Dc);
+    equal!(rt; (modes.skip, modes.luma, modes.chroma), wanted);
 }
 
-/// Fails the test unless a key packet shows such a picture, and its first macroblock is skipped.
-fn check_flat_key(rt: &impl Abort, alloc: Global, key: &ByteList) -> Result<(), Fail> {
-    let dim = Dim::new(16, 16, &Limits::usual())?;
-    assert!(rt; begins_flat(alloc, dim, key));
-    assert!(rt; shows_flat(alloc, key)?);
-    Ok(())
+/// The first one shows that picture, by a skipped macroblock.
+#[test]
+fn encode_flat_key(rt: HostRuntime) {
+    let (key, _) = flat_packets(&rt, rt.alloc());
+    check_flat_modes(&rt, rt.alloc(), key.as_slice());
+    let found = picture_of(&rt, rt.alloc(), key.as_slice());
+    equal!(&rt; found.as_slice(), FLAT.as_slice());
+}
+
+/// Fails the test unless both packets show that picture, and the second one is an inter packet, by its lowest bit (RFC
+/// 6386, chapter 9.1).
+fn check_flat_packets(
+    rt: &impl Abort,
+    alloc: Global,
+    decoder: &mut Decoder,
+    key: &[u8],
+    inter: &[u8],
+) {
+    check_shown(rt, alloc, decoder, key, &FLAT);
+    check_shown(rt, alloc, decoder, inter, &FLAT);
+    let first = inter.first().expect(rt, "a packet");
+    equal!(rt; first % 2, 1);
 }
 
 #[test]
-fn encode_flat_key(rt: HostRuntime) -> Result<(), Fail> {
-    let (key, _) = flat_packets(rt.alloc())?;
-    check_flat_key(&rt, rt.alloc(), &key)
+fn encode_flat_inter(rt: HostRuntime) {
+    let (key, inter) = flat_packets(&rt, rt.alloc());
+    let mut decoder = Decoder::new(rt.alloc(), Limits::usual());
+    check_flat_packets(
+        &rt,
+        rt.alloc(),
+        &mut decoder,
+        key.as_slice(),
+        inter.as_slice(),
+    );
 }
 
 #[test]
-fn encode_flat_inter(rt: HostRuntime) -> Result<(), Fail> {
-    let packets = flat_packets(rt.alloc())?;
-    assert!(rt; shows_flat_behind(rt.alloc(), &packets.0, &packets.1)?);
-    Ok(())
-}
-
-#[test]
-fn encode_succeeds(rt: HostRuntime) -> Result<(), Fail> {
-    let encoded = encoded_flat(rt.alloc(), 200, settings(0, 1))?;
-    equal(&rt, &encoded.squared_error, &0);
-    assert!(rt; is_all(rt.alloc(), &encoded.recon, 200)?);
-    Ok(())
+fn encode_succeeds(rt: HostRuntime) {
+    let encoded = encoded_flat(&rt, rt.alloc(), 200, settings(0, 1));
+    equal!(&rt; encoded.squared_error, 0);
+    check_picture(&rt, rt.alloc(), &encoded.recon, &[200; 384]);
 }
 
 /// Returns the fault of an encoder's settings.
@@ -487,89 +400,59 @@ fn settings_fault(alloc: Global, dim: Dim, settings: Settings) -> Option<Setting
     Encoder::new(alloc, dim, settings).err()
 }
 
-/// Returns the fault of a picture for an encoder of pictures of this size.
-fn picture_fault(alloc: Global, dim: Dim, source: &Picture) -> Result<Option<EncodeFault>, Fail> {
-    let mut encoder = Encoder::new(alloc, dim, settings(0, 1))?;
-    Ok(encoder.encode(source).err())
-}
-
-/// Returns the fault of a flat picture of the second size for an encoder of pictures of the first one.
-fn size_fault(alloc: Global, dim: Dim, other: Dim) -> Result<Option<EncodeFault>, Fail> {
-    let source = Picture::new(alloc, other, 128)?;
-    picture_fault(alloc, dim, &source)
+/// Returns the fault of a picture of the second size for an encoder of pictures of the first one.
+fn size_fault(rt: &impl Abort, alloc: Global, dim: Dim, other: Dim) -> Option<EncodeFault> {
+    let source = Picture::new(alloc, other, 128).expect(rt, "memory");
+    let mut encoder = Encoder::new(alloc, dim, settings(0, 1)).expect(rt, "settings");
+    encoder.encode(&source).err()
 }
 
 #[test]
-fn settings_and_events_refused(rt: HostRuntime) -> Result<(), Fail> {
-    let dim = Dim::new(16, 16, &Limits::usual())?;
+fn settings_and_events_refused(rt: HostRuntime) {
+    let dim = Dim::new(16, 16, &Limits::usual()).expect(&rt, "a size");
+    let taller = Dim::new(16, 32, &Limits::usual()).expect(&rt, "a size");
     let refused = settings_fault(rt.alloc(), dim, settings(128, 1));
-    equal(&rt, &refused, &Some(SettingsFault::Settings));
-    let taller = Dim::new(16, 32, &Limits::usual())?;
-    let refused = size_fault(rt.alloc(), dim, taller)?;
-    equal(&rt, &refused, &Some(EncodeFault::SourceSize));
-    Ok(())
+    equal!(&rt; refused, Some(SettingsFault::Settings));
+    let refused = size_fault(&rt, rt.alloc(), dim, taller);
+    equal!(&rt; refused, Some(EncodeFault::SourceSize));
 }
 
-/// The kind of a packet.
-#[derive(Clone, Copy, Debug, PartialEq, Eq)]
-enum Kind {
-    Key,
-    /// An inter packet that refreshes golden.
-    Golden,
-    /// An inter packet that doesn't refresh golden.
-    Plain,
-    Other,
-}
-
-fn kind_of(packet: &[u8]) -> Kind {
-    match header_of(packet) {
-        Some(header) if header.key => Kind::Key,
-        Some(header) if header.updates.refresh_golden => Kind::Golden,
-        Some(_) => Kind::Plain,
-        None => Kind::Other,
+/// Returns the kind of a packet: a key packet, or an inter packet that refreshes golden or doesn't.
+fn kind_of(rt: &impl Abort, packet: &[u8]) -> &'static str {
+    let header = header_of(rt, packet);
+    if header.key {
+        "key"
+    } else if header.updates.refresh_golden {
+        "golden"
+    } else {
+        "plain"
     }
 }
 
-/// Returns the kind of the next packet, if the reconstruction is exact.
-fn next_kind(encoder: &mut Encoder, source: &Picture) -> Kind {
-    match next_packet(encoder, source) {
-        Some(packet) => kind_of(packet.as_slice()),
-        None => Kind::Other,
-    }
-}
-
-/// Encodes a picture four times with a new encoder, and returns the kinds of the packets.
-fn first_kinds(alloc: Global, source: &Picture, settings: Settings) -> Result<[Kind; 4], Fail> {
-    let mut encoder = Encoder::new(alloc, source.dim(), settings)?;
-    let mut kinds = [Kind::Other; 4];
+/// Returns the kinds of the next four packets, each without an error.
+fn next_kinds(rt: &impl Abort, encoder: &mut Encoder, source: &Picture) -> [&'static str; 4] {
+    let mut kinds = [""; 4];
     for i in 0..4 {
-        kinds[i] = next_kind(&mut encoder, source);
+        let packet = next_packet(rt, encoder, source);
+        kinds[i] = kind_of(rt, packet.as_slice());
     }
-    Ok(kinds)
+    kinds
 }
 
-/// Encodes a flat picture four times without an error, and returns the kinds of the packets.
-fn four_kinds(alloc: Global, settings: Settings) -> Result<[Kind; 4], Fail> {
-    let source = flat(alloc, 128)?;
-    first_kinds(alloc, &source, settings)
+/// Encodes a flat picture four times, and returns the kinds of the packets.
+fn four_kinds(rt: &impl Abort, alloc: Global, settings: Settings) -> [&'static str; 4] {
+    let source = flat(rt, alloc, 128);
+    let mut encoder = Encoder::new(alloc, source.dim(), settings).expect(rt, "settings");
+    next_kinds(rt, &mut encoder, &source)
 }
 
 #[test]
-fn golden_and_key_distances(rt: HostRuntime) -> Result<(), Fail> {
+fn golden_and_key_distances(rt: HostRuntime) {
     let mut wanted = settings(0, 1);
     wanted.golden_every = 2;
-    let kinds = four_kinds(rt.alloc(), wanted)?;
-    equal(
-        &rt,
-        &kinds,
-        &[Kind::Key, Kind::Plain, Kind::Golden, Kind::Plain],
-    );
+    let kinds = four_kinds(&rt, rt.alloc(), wanted);
+    equal!(&rt; kinds, ["key", "plain", "golden", "plain"]);
     wanted.key_every = 3;
-    let kinds = four_kinds(rt.alloc(), wanted)?;
-    equal(
-        &rt,
-        &kinds,
-        &[Kind::Key, Kind::Plain, Kind::Golden, Kind::Key],
-    );
-    Ok(())
+    let kinds = four_kinds(&rt, rt.alloc(), wanted);
+    equal!(&rt; kinds, ["key", "plain", "golden", "key"]);
 }

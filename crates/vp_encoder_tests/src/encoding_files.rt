@@ -3,11 +3,12 @@
 ghost use Rattle.std.specs.Prelude.{◌≡◌, false};
 
 use crate::check::equal;
-use std::alloc::{AllocError, Global};
+use std::alloc::Global;
 use std::process::Abort;
-use std::test::Fail;
 use vp_base::{Counted, FailAt, Limits};
-use vp_encode::{EncodeAllFault, EncodedSoFar, Settings, Watcher, encode_all, encode_all_watched};
+use vp_encode::{
+    EncodeAllFault, EncodeReport, EncodedSoFar, Settings, Watcher, encode_all, encode_all_watched,
+};
 use vp_y4m::SourceHead;
 
 /// The header line of a source of 16 by 16 pixels, 30 pictures a second.
@@ -20,13 +21,13 @@ const EMPTY: [u8; 32] = [
 ];
 
 /// Returns a source of `pictures` pictures, all 128.
-fn source(alloc: Global, pictures: u32) -> Result<Vec<u8>, AllocError> {
-    let mut bytes = LINE.to_vec(alloc)?;
+fn source(rt: &impl Abort, alloc: Global, pictures: u32) -> Vec<u8> {
+    let mut bytes = LINE.to_vec(alloc).expect(rt, "memory");
     for _ in 0..pictures {
-        bytes.extend_from_slice(b"FRAME\n")?;
-        bytes.resize(bytes.len().saturating_add(384), 128)?;
+        bytes.extend_from_slice(b"FRAME\n").expect(rt, "memory");
+        bytes.extend_from_slice(&[128; 384]).expect(rt, "memory");
     }
-    Ok(bytes)
+    bytes
 }
 
 fn settings(qi: u8) -> Settings {
@@ -53,16 +54,13 @@ fn limits(packet_bytes: u32, packets: u32) -> Limits {
 }
 
 /// The number of pictures and their error, or a fault.
-type End = Result<(u32, u128), EncodeAllFault>;
+type End = Result<EncodeReport, EncodeAllFault>;
 
 /// Returns the result of encoding a source, and the bytes written.
 fn written_by(alloc: Global, source: &[u8], qi: u8, limits: Limits) -> (End, Vec<u8>) {
     let mut reader = Counted::new(source);
     let mut writer = Counted::new(Vec::new(alloc));
-    let end = encode_all(alloc, &mut reader, &mut writer, settings(qi), limits).map(|report| (
-        report.frames,
-        report.error,
-    ));
+    let end = encode_all(alloc, &mut reader, &mut writer, settings(qi), limits);
     (end, writer.into_inner())
 }
 
@@ -72,63 +70,37 @@ fn ends(alloc: Global, source: &[u8], qi: u8, limits: Limits) -> (End, usize) {
     (end, bytes.len())
 }
 
-/// Returns the fault of encoding a source, and the number of bytes written.
-fn refused(
-    alloc: Global,
-    source: &[u8],
-    qi: u8,
-    limits: Limits,
-) -> Option<(EncodeAllFault, usize)> {
-    match ends(alloc, source, qi, limits) {
-        (Err(fault), written) => Some((fault, written)),
-        (Ok(_), _) => None,
-    }
-}
-
 #[test]
-fn first_line_alone(rt: HostRuntime) -> Result<(), Fail> {
+fn first_line_alone(rt: HostRuntime) {
     let (end, bytes) = written_by(rt.alloc(), LINE, 0, Limits::usual());
-    equal(&rt, &end, &Ok((0, 0)));
-    assert!(rt; bytes.as_slice() == EMPTY.as_slice());
-    Ok(())
+    equal!(&rt; end, Ok(EncodeReport { frames: 0, error: 0 }));
+    equal!(&rt; bytes.as_slice(), EMPTY.as_slice());
 }
 
 #[test]
-fn settings_are_refused(rt: HostRuntime) -> Result<(), Fail> {
-    let bytes = source(rt.alloc(), 1)?;
-    equal(
-        &rt,
-        &refused(rt.alloc(), &bytes, 128, Limits::usual()),
-        &Some((EncodeAllFault::Settings, 0)),
-    );
-    Ok(())
+fn settings_are_refused(rt: HostRuntime) {
+    let bytes = source(&rt, rt.alloc(), 1);
+    let found = ends(rt.alloc(), &bytes, 128, Limits::usual());
+    equal!(&rt; found, (Err(EncodeAllFault::Settings), 0));
 }
 
+/// Sources that are refused.
+const REFUSED: [(&[u8], EncodeAllFault); 7] = [
+    (b"YUV4MPEG W1 H1\n", EncodeAllFault::Magic),
+    (b"YUV4MPEG2 W1\n", EncodeAllFault::Size),
+    (b"YUV4MPEG2 W1 H1 C444\n", EncodeAllFault::Colour),
+    (b"YUV4MPEG2 W1 H1 It\n", EncodeAllFault::Interlaced),
+    (b"YUV4MPEG2 W1 H1", EncodeAllFault::Torn),
+    (b"YUV4MPEG2 W1 H1\nFRAM\n", EncodeAllFault::Magic),
+    (b"YUV4MPEG2 W1 H1\nFRAME\nab", EncodeAllFault::Torn),
+];
+
 #[test]
-fn sources_are_refused(rt: HostRuntime) -> Result<(), Fail> {
-    let faults = [
-        (b"YUV4MPEG W1 H1\n".as_slice(), EncodeAllFault::Magic),
-        (b"YUV4MPEG2 W1\n".as_slice(), EncodeAllFault::Size),
-        (b"YUV4MPEG2 W1 H1 C444\n".as_slice(), EncodeAllFault::Colour),
-        (
-            b"YUV4MPEG2 W1 H1 It\n".as_slice(),
-            EncodeAllFault::Interlaced,
-        ),
-        (b"YUV4MPEG2 W1 H1".as_slice(), EncodeAllFault::Torn),
-        (b"YUV4MPEG2 W1 H1\nFRAM\n".as_slice(), EncodeAllFault::Magic),
-        (
-            b"YUV4MPEG2 W1 H1\nFRAME\nab".as_slice(),
-            EncodeAllFault::Torn,
-        ),
-    ];
-    for (bytes, fault) in faults {
-        equal(
-            &rt,
-            &refused(rt.alloc(), bytes, 0, Limits::usual()),
-            &Some((fault, 0)),
-        );
+fn sources_are_refused(rt: HostRuntime) {
+    for (bytes, fault) in &REFUSED {
+        let found = ends(rt.alloc(), bytes, 0, Limits::usual());
+        equal!(&rt; (*bytes, found), (*bytes, (Err(*fault), 0)));
     }
-    Ok(())
 }
 
 /// Returns the fault of a source, with a reader that fails after this number of reads.
@@ -146,16 +118,12 @@ fn read_until(alloc: Global, source: &[u8], reads: u64) -> Option<EncodeAllFault
 }
 
 #[test]
-fn fails_at_each_read(rt: HostRuntime) -> Result<(), Fail> {
+fn fails_at_each_read(rt: HostRuntime) {
+    let device = Some(EncodeAllFault::Device);
     for reads in 0..25u64 {
-        equal(
-            &rt,
-            &read_until(rt.alloc(), LINE, reads),
-            &Some(EncodeAllFault::Device),
-        );
+        equal!(&rt; (reads, read_until(rt.alloc(), LINE, reads)), (reads, device));
     }
-    equal(&rt, &read_until(rt.alloc(), LINE, 25), &None);
-    Ok(())
+    equal!(&rt; read_until(rt.alloc(), LINE, 25), None);
 }
 
 /// Returns the number of reads in which a source is encoded.
@@ -175,14 +143,13 @@ fn reads_of(alloc: Global, source: &[u8]) -> Result<u64, EncodeAllFault> {
 /// The header line's 24 bytes and the frame line's 6 are read one by one, then 16 rows of Y, 8 of U and 8 of V. One
 /// more read finds the end.
 #[test]
-fn reads_are_counted(rt: HostRuntime) -> Result<(), Fail> {
-    let bytes = source(rt.alloc(), 1)?;
-    equal(&rt, &reads_of(rt.alloc(), &bytes), &Ok(63));
-    Ok(())
+fn reads_are_counted(rt: HostRuntime) {
+    let bytes = source(&rt, rt.alloc(), 1);
+    equal!(&rt; reads_of(rt.alloc(), &bytes), Ok(63));
 }
 
 #[test]
-fn fails_at_the_first_write(rt: HostRuntime) -> Result<(), Fail> {
+fn fails_at_the_first_write(rt: HostRuntime) {
     let mut reader = Counted::new(LINE);
     let mut writer = Counted::new(FailAt::new(Vec::new(rt.alloc()), 0));
     let done = encode_all(
@@ -192,9 +159,7 @@ fn fails_at_the_first_write(rt: HostRuntime) -> Result<(), Fail> {
         settings(0),
         Limits::usual(),
     );
-    equal(&rt, &done.err(), &Some(EncodeAllFault::Device));
-    equal(&rt, &writer.failures(), &1);
-    Ok(())
+    equal!(&rt; (done.err(), writer.failures()), (Some(EncodeAllFault::Device), 1));
 }
 
 /// A progress callback that records what it receives, unless memory runs out.
@@ -224,38 +189,27 @@ fn packet_size(file: &[u8], place: usize) -> Option<usize> {
     }
 }
 
-/// Returns whether this is how much is encoded with the first packet of a file, with the first two, .. with all of
-/// them, each without an error.
-pub(crate) fn are_steps_of(steps: &[EncodedSoFar], file: &[u8]) -> bool {
+/// Fails the test unless this is how much is encoded with the first packet of a file, with the first two, .. with all
+/// of them, each without an error.
+pub(crate) fn check_steps(rt: &impl Abort, steps: &[EncodedSoFar], file: &[u8]) {
+    let error = 0;
     let (mut frames, mut bytes, mut place) = (0u32, 0u64, 32usize);
     for step in steps {
-        let Some(size) = packet_size(file, place) else {
-            return false;
-        };
+        let size = packet_size(file, place).expect(rt, "a packet");
         frames = frames.saturating_add(1);
         bytes = bytes.saturating_add(size as u64);
         place = place.saturating_add(12).saturating_add(size);
-        let error = 0;
-        if *step
-            != (EncodedSoFar {
-                frames,
-                bytes,
-                error,
-            })
-        {
-            return false;
-        }
+        equal!(rt; *step, EncodedSoFar { frames, bytes, error });
     }
-    place == file.len()
+    equal!(rt; place, file.len());
 }
 
-/// Encodes a source of three pictures. Returns its fault, what the callback received, and the file.
-fn watched(
-    alloc: Global,
-    limits: Limits,
-) -> Result<(Option<EncodeAllFault>, Vec<EncodedSoFar>, Vec<u8>), AllocError> {
-    let bytes = source(alloc, 3)?;
-    let mut reader = Counted::new(bytes.as_slice());
+/// The result of encoding, what the callback received, and the file.
+type Watched = (Option<EncodeAllFault>, Vec<EncodedSoFar>, Vec<u8>);
+
+/// Encodes a source.
+fn watched_by(alloc: Global, source: &[u8], limits: Limits) -> Watched {
+    let mut reader = Counted::new(source);
     let mut writer = Counted::new(Vec::new(alloc));
     let mut watcher = Keeping {
         steps: Vec::new(alloc),
@@ -270,58 +224,53 @@ fn watched(
         &mut watcher,
     );
     let Keeping { steps, refused: _ } = watcher;
-    Ok((done.err(), steps, writer.into_inner()))
+    (done.err(), steps, writer.into_inner())
+}
+
+/// Encodes a source of three pictures.
+fn watched(rt: &impl Abort, alloc: Global, limits: Limits) -> Watched {
+    let bytes = source(rt, alloc, 3);
+    watched_by(alloc, &bytes, limits)
 }
 
 #[test]
-fn pictures_are_told(rt: HostRuntime) -> Result<(), Fail> {
-    let (fault, steps, file) = watched(rt.alloc(), Limits::usual())?;
-    equal(&rt, &fault, &None);
-    equal(&rt, &steps.len(), &3);
-    assert!(rt; are_steps_of(&steps, &file));
-    Ok(())
+fn pictures_are_told(rt: HostRuntime) {
+    let (fault, steps, file) = watched(&rt, rt.alloc(), Limits::usual());
+    equal!(&rt; (fault, steps.len()), (None, 3));
+    check_steps(&rt, &steps, &file);
 }
 
 /// The third picture is refused.
 #[test]
-fn pictures_before_a_fault_are_told(rt: HostRuntime) -> Result<(), Fail> {
-    let (_, whole, _) = watched(rt.alloc(), Limits::usual())?;
-    let (fault, steps, file) = watched(rt.alloc(), limits(16_777_216, 2))?;
-    equal(&rt, &fault, &Some(EncodeAllFault::TooMany));
-    equal(&rt, &(steps.len(), file.len()), &(2, 0));
-    assert!(rt; whole.starts_with(&steps));
-    Ok(())
+fn pictures_before_a_fault_are_told(rt: HostRuntime) {
+    let (_, whole, _) = watched(&rt, rt.alloc(), Limits::usual());
+    let (fault, steps, file) = watched(&rt, rt.alloc(), limits(16_777_216, 2));
+    equal!(&rt;
+        (fault, Some(steps.as_slice()), file.len()),
+        (Some(EncodeAllFault::TooMany), whole.get(..2), 0)
+    );
 }
 
 #[test]
-fn two_pictures(rt: HostRuntime) -> Result<(), Fail> {
-    let bytes = source(rt.alloc(), 2)?;
+fn two_pictures(rt: HostRuntime) {
+    let bytes = source(&rt, rt.alloc(), 2);
     let (end, written) = ends(rt.alloc(), &bytes, 0, Limits::usual());
-    equal(&rt, &end, &Ok((2, 0)));
-    assert!(rt; written > 32 + 12 + 12);
-    Ok(())
+    equal!(&rt; end, Ok(EncodeReport { frames: 2, error: 0 }));
+    equal!(&rt; (written, written > 32 + 12 + 12), (written, true));
 }
 
 #[test]
-fn a_packet_too_large(rt: HostRuntime) -> Result<(), Fail> {
-    let bytes = source(rt.alloc(), 1)?;
-    equal(
-        &rt,
-        &refused(rt.alloc(), &bytes, 0, limits(1, 1)),
-        &Some((EncodeAllFault::PacketTooLarge, 0)),
-    );
-    Ok(())
+fn a_packet_too_large(rt: HostRuntime) {
+    let bytes = source(&rt, rt.alloc(), 1);
+    let found = ends(rt.alloc(), &bytes, 0, limits(1, 1));
+    equal!(&rt; found, (Err(EncodeAllFault::PacketTooLarge), 0));
 }
 
 #[test]
-fn too_many_pictures(rt: HostRuntime) -> Result<(), Fail> {
-    let bytes = source(rt.alloc(), 2)?;
-    equal(
-        &rt,
-        &refused(rt.alloc(), &bytes, 0, limits(16_777_216, 1)),
-        &Some((EncodeAllFault::TooMany, 0)),
-    );
-    Ok(())
+fn too_many_pictures(rt: HostRuntime) {
+    let bytes = source(&rt, rt.alloc(), 2);
+    let found = ends(rt.alloc(), &bytes, 0, limits(16_777_216, 1));
+    equal!(&rt; found, (Err(EncodeAllFault::TooMany), 0));
 }
 
 /// Rows of points of 255 on 64: a large quantiser index loses many of them.
@@ -345,34 +294,30 @@ const POINTS: [[u8; 40]; 4] = [
 ];
 
 /// Appends a row of points `count` times.
-fn add_row(bytes: &mut Vec<u8>, row: &[u8; 40], count: u32) -> Result<(), AllocError> {
+fn add_row(rt: &impl Abort, bytes: &mut Vec<u8>, row: &[u8; 40], count: u32) {
     for _ in 0..count {
-        bytes.extend_from_slice(row)?;
+        bytes.extend_from_slice(row).expect(rt, "memory");
     }
-    Ok(())
 }
 
 /// Appends 1,264 rows of points, each repeated `count` times.
-fn add_rows(bytes: &mut Vec<u8>, count: u32) -> Result<(), AllocError> {
+fn add_rows(rt: &impl Abort, bytes: &mut Vec<u8>, count: u32) {
     for row in 0..1264usize {
-        add_row(bytes, &POINTS[row % 4], count)?;
+        add_row(rt, bytes, &POINTS[row % 4], count);
     }
-    Ok(())
 }
 
-/// The source of one picture of 1,200 by 1,264 pixels: Y, then U and V.
-fn points(alloc: Global) -> Result<Vec<u8>, AllocError> {
-    let mut bytes = b"YUV4MPEG2 W1200 H1264 F1:1\nFRAME\n".to_vec(alloc)?;
-    add_rows(&mut bytes, 30)?;
-    add_rows(&mut bytes, 15)?;
-    Ok(bytes)
-}
-
-/// Both numbers come from an independent encoder.
+/// The source is one picture of 1,200 by 1,264 pixels: Y, then U and V. Both numbers come from an independent encoder.
 #[test]
-fn an_error_of_over_32_bits(rt: HostRuntime) -> Result<(), Fail> {
-    let bytes = points(rt.alloc())?;
-    let found = ends(rt.alloc(), &bytes, 127, Limits::usual());
-    equal(&rt, &found, &(Ok((1, 4_404_395_212)), 267_593));
-    Ok(())
+fn an_error_of_over_32_bits(rt: HostRuntime) {
+    let line = b"YUV4MPEG2 W1200 H1264 F1:1\nFRAME\n";
+    let mut bytes = line.to_vec(rt.alloc()).expect(&rt, "memory");
+    add_rows(&rt, &mut bytes, 30);
+    add_rows(&rt, &mut bytes, 15);
+    let (end, written) = ends(rt.alloc(), &bytes, 127, Limits::usual());
+    let report = EncodeReport {
+        frames: 1,
+        error: 4_404_395_212,
+    };
+    equal!(&rt; (end, written), (Ok(report), 267_593));
 }

@@ -2,9 +2,8 @@
 
 use crate::check::equal;
 use crate::worked_rows::{encoded, settings};
-use std::alloc::{AllocError, Global};
+use std::alloc::Global;
 use std::process::Abort;
-use std::test::Fail;
 use vp_base::{Dim, Limits, Picture};
 use vp_encode::Encoded;
 
@@ -44,35 +43,30 @@ fn other_pixels(picture: &Picture) -> [Option<u8>; 5] {
 }
 
 /// Returns a picture of 17 by 1 pixels with other values in the padding.
-fn narrow(alloc: Global) -> Result<Picture, Fail> {
-    let dim = Dim::new(17, 1, &Limits::usual())?;
-    let mut source = Picture::new(alloc, dim, 5)?;
+fn narrow(rt: &impl Abort, alloc: Global) -> Picture {
+    let dim = Dim::new(17, 1, &Limits::usual()).expect(rt, "a size");
+    let mut source = Picture::new(alloc, dim, 5).expect(rt, "memory");
     put(&mut source, 0, 16, 0, 9);
     put(&mut source, 0, 20, 0, 77);
     put(&mut source, 0, 3, 7, 88);
     put(&mut source, 1, 8, 0, 30);
-    Ok(source)
-}
-
-/// Encodes that picture without loss.
-fn encoded_narrow(alloc: Global) -> Result<Encoded, Fail> {
-    let source = narrow(alloc)?;
-    encoded(alloc, &source, settings(0, 1))
+    source
 }
 
 /// Fails the test unless the reconstruction is the padded source.
 fn check_padding(rt: &impl Abort, found: &Encoded) {
-    equal(rt, &found.squared_error, &0);
-    equal(rt, &first_luma(&found.recon), &[Some(9); 3]);
+    equal!(rt; found.squared_error, 0);
+    equal!(rt; first_luma(&found.recon), [Some(9); 3]);
     let wanted = [Some(5), Some(5), Some(30), Some(5), Some(5)];
-    equal(rt, &other_pixels(&found.recon), &wanted);
+    equal!(rt; other_pixels(&found.recon), wanted);
 }
 
-/// Each macroblock has one value in each plane, so the reconstruction is the padded source.
+/// That picture is encoded without loss: each macroblock has one value in each plane.
 #[test]
-fn source_is_continued(rt: HostRuntime) -> Result<(), Fail> {
-    check_padding(&rt, &encoded_narrow(rt.alloc())?);
-    Ok(())
+fn source_is_continued(rt: HostRuntime) {
+    let source = narrow(&rt, rt.alloc());
+    let found = encoded(&rt, rt.alloc(), &source, settings(0, 1));
+    check_padding(&rt, &found);
 }
 
 /// Returns the sum of the squared differences of the bytes.
@@ -86,31 +80,22 @@ fn squared_differences(a: &[u8], b: &[u8]) -> u64 {
 }
 
 /// Returns the sum of the squared differences of the shown pixels.
-fn distance(alloc: Global, a: &Picture, b: &Picture) -> Result<u64, AllocError> {
-    let a = a.crop_i420(alloc)?;
-    Ok(squared_differences(&a, &b.crop_i420(alloc)?))
+fn distance(rt: &impl Abort, alloc: Global, a: &Picture, b: &Picture) -> u64 {
+    let a = a.crop_i420(alloc).expect(rt, "memory");
+    let b = b.crop_i420(alloc).expect(rt, "memory");
+    squared_differences(&a, &b)
 }
 
-/// Encodes a picture with the largest factors. Returns the error, and the distance of its reconstruction.
-fn errors_of(alloc: Global, source: &Picture) -> Result<(u64, u64), Fail> {
-    let encoded = encoded(alloc, source, settings(127, 1))?;
-    Ok((
-        encoded.squared_error,
-        distance(alloc, source, &encoded.recon)?,
-    ))
-}
-
-/// Returns both for the narrow picture.
-fn narrow_errors(alloc: Global) -> Result<(u64, u64), Fail> {
-    let source = narrow(alloc)?;
-    errors_of(alloc, &source)
+/// Fails the test unless the error is that distance.
+fn check_error(rt: &impl Abort, alloc: Global, source: &Picture, found: &Encoded) {
+    let wanted = distance(rt, alloc, source, &found.recon);
+    equal!(rt; (wanted > 0, found.squared_error), (true, wanted));
 }
 
 /// With the largest factors the reconstruction differs from the source, most of all in the padding.
 #[test]
-fn error_over_shown_pixels(rt: HostRuntime) -> Result<(), Fail> {
-    let (error, wanted) = narrow_errors(rt.alloc())?;
-    assert!(rt; wanted > 0);
-    equal(&rt, &error, &wanted);
-    Ok(())
+fn error_over_shown_pixels(rt: HostRuntime) {
+    let source = narrow(&rt, rt.alloc());
+    let found = encoded(&rt, rt.alloc(), &source, settings(127, 1));
+    check_error(&rt, rt.alloc(), &source, &found);
 }

@@ -1,6 +1,6 @@
 //! The test file, its pictures byte by byte, and readers and writers that transfer a few bytes at a time.
 
-ghost use Rattle.std.specs.Prelude.{◌≡◌, ◌≤◌, ◌<◌, ◌-◌, ◌%◌, IsTrue, length};
+ghost use Rattle.std.specs.Prelude.{◌≡◌, ◌≤◌, ◌<◌, ◌-◌, ◌%◌, IsTrue, None, length};
 
 use std::io;
 use std::io::{Read, Write};
@@ -82,16 +82,16 @@ fn picture_byte(i: usize) -> u8
     }
 }
 
-/// Returns whether the bytes are a prefix of the picture, repeated.
-pub(crate) fn are_pictures(bytes: &[u8]) -> bool
-    ensures { length bytes.now ≡ 0 → IsTrue result }
+/// Returns the first position at which the bytes aren't the picture, repeated.
+pub(crate) fn other_pixel(bytes: &[u8]) -> Option<usize>
+    ensures { length bytes.now ≡ 0 → result ≡ None }
 {
     for (i, byte) in bytes.iter().enumerate() {
         if *byte != picture_byte(i % 384) {
-            return false;
+            return Some(i);
         }
     }
-    true
+    None
 }
 
 /// The header line of a YUV4MPEG2 file with the size and rate of the file, 41 bytes.
@@ -112,16 +112,16 @@ pub(crate) fn video_byte(i: usize) -> u8
     picture_byte(place - 6)
 }
 
-/// Returns whether the bytes are a prefix of that file.
-pub(crate) fn are_video(bytes: &[u8]) -> bool
-    ensures { length bytes.now ≡ 0 → IsTrue result }
+/// Returns the first position at which the bytes aren't those of that file.
+pub(crate) fn other_video(bytes: &[u8]) -> Option<usize>
+    ensures { length bytes.now ≡ 0 → result ≡ None }
 {
     for (i, byte) in bytes.iter().enumerate() {
         if *byte != video_byte(i) {
-            return false;
+            return Some(i);
         }
     }
-    true
+    None
 }
 
 /// A reader that gives at most `size` bytes at each read.

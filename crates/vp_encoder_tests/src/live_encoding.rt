@@ -3,19 +3,19 @@
 //! themselves.
 
 use crate::check::equal;
-use crate::encoding_files::{Keeping, are_steps_of};
-use std::alloc::{AllocError, Global};
+use crate::encoding_files::{Keeping, check_steps};
+use std::alloc::Global;
 use std::cell::Cell;
 use std::io;
 use std::io::{Read, Write};
-use std::test::Fail;
+use std::process::Abort;
 use vp_base::{Counted, FailAt, Limits};
-use vp_encode::{EncodeAllFault, Settings, Unwatched};
+use vp_encode::{EncodeAllFault, EncodeReport, Settings, Unwatched};
 use vp_live::encode_live;
 use vp_stream::{Form, decode_all};
 
 /// The header line of a source of 16 by 16 pixels, 30 pictures a second.
-const LINE: &[u8] = b"YUV4MPEG2 W16 H16 F30:1\n";
+const LINE: &[u8; 24] = b"YUV4MPEG2 W16 H16 F30:1\n";
 
 /// The head of its live file, which counts 0 packets.
 const HEAD: [u8; 32] = [
@@ -23,14 +23,14 @@ const HEAD: [u8; 32] = [
     1, 0, 0, 0, 0, 0, 0, 0, 0, 0, 0, 0,
 ];
 
-/// Returns a source of pictures that are this bright.
-fn source(alloc: Global, pictures: &[u8]) -> Result<Vec<u8>, AllocError> {
-    let mut bytes = LINE.to_vec(alloc)?;
-    for value in pictures {
-        bytes.extend_from_slice(b"FRAME\n")?;
-        bytes.resize(bytes.len().saturating_add(384), *value)?;
-    }
-    Ok(bytes)
+/// Returns a source of two pictures, of 128 and of 200.
+fn source() -> [u8; 804] {
+    let mut bytes = [128; 804];
+    bytes[..24].copy_from_slice(LINE);
+    bytes[24..30].copy_from_slice(b"FRAME\n");
+    bytes[414..420].copy_from_slice(b"FRAME\n");
+    bytes[420..].fill(200);
+    bytes
 }
 
 fn settings(qi: u8) -> Settings {
@@ -68,7 +68,13 @@ impl Write for Flushed {
 }
 
 /// The number of pictures and their error, or a fault.
-type End = Result<(u32, u128), EncodeAllFault>;
+type End = Result<EncodeReport, EncodeAllFault>;
+
+/// The report of two pictures that are encoded without loss.
+const TWO: EncodeReport = EncodeReport {
+    frames: 2,
+    error: 0,
+};
 
 /// Returns the result of encoding a source live by a writer whose first `writes` calls succeed, and what it wrote.
 fn live(alloc: Global, source: &[u8], qi: u8, writes: u64) -> (End, Flushed) {
@@ -86,63 +92,56 @@ fn live(alloc: Global, source: &[u8], qi: u8, writes: u64) -> (End, Flushed) {
         settings(qi),
         Limits::usual(),
         &mut Unwatched,
-    )
-    .map(|report| (report.frames, report.error));
+    );
     (end, writer.into_inner().into_inner())
 }
 
-/// Returns the size of the packet whose 12 bytes of header begin here, if it is below 65536 and has this time.
-fn packet_size(file: &[u8], at: usize, time: u8) -> Option<usize> {
-    match file.get(at..at.saturating_add(12)) {
-        Some([low, high, 0, 0, first, 0, 0, 0, 0, 0, 0, 0]) if *first == time => {
-            Some(usize::from(*low).saturating_add(usize::from(*high).saturating_mul(256)))
-        }
-        _ => None,
-    }
+/// Returns the size of the packet whose 12 bytes of header begin here and have this time; it is below 65536.
+fn packet_size(rt: &impl Abort, file: &[u8], at: usize, time: u8) -> usize {
+    let head = file.get(at..at.saturating_add(12)).expect(rt, "a header");
+    let [low, high] = [head[0], head[1]];
+    equal!(rt; head, [low, high, 0, 0, time, 0, 0, 0, 0, 0, 0, 0].as_slice());
+    usize::from(low) + 256 * usize::from(high)
 }
 
 /// Returns the sizes of the packets of a file of two: after the head each packet has 12 bytes of header.
-fn sizes(file: &[u8]) -> Option<(usize, usize)> {
-    let first = packet_size(file, 32, 0)?;
-    let second = packet_size(file, first.saturating_add(44), 1)?;
-    Some((first, second))
+fn sizes(rt: &impl Abort, file: &[u8]) -> (usize, usize) {
+    let first = packet_size(rt, file, 32, 0);
+    (first, packet_size(rt, file, first.saturating_add(44), 1))
 }
 
-/// Returns whether a file is decoded to pictures that are this bright.
-fn shows(alloc: Global, file: &[u8], pictures: &[u8]) -> Result<bool, AllocError> {
-    let mut wanted = Vec::new(alloc);
-    for value in pictures {
-        wanted.resize(wanted.len().saturating_add(384), *value)?;
-    }
+/// Fails the test unless a file is decoded to these pictures.
+fn check_shown(rt: &impl Abort, alloc: Global, file: &[u8], pictures: &[u8]) {
     let mut reader = Counted::new(file);
     let mut writer = Counted::new(Vec::new(alloc));
     let end = decode_all(alloc, &mut reader, &mut writer, Form::I420, Limits::usual());
-    Ok(end.is_ok() && writer.into_inner().as_slice() == wanted.as_slice())
+    let written = writer.into_inner();
+    equal!(rt; (end.err(), written.as_slice()), (None, pictures));
+}
+
+/// Fails the test unless a file has two packets with these pictures, and each was flushed.
+fn check_two(rt: &impl Abort, alloc: Global, written: &Flushed, pictures: &[u8]) {
+    let file = written.bytes.as_slice();
+    equal!(rt; file.get(..32), Some(HEAD.as_slice()));
+    let (first, second) = sizes(rt, file);
+    let length = first.saturating_add(second).saturating_add(56);
+    equal!(rt; (file.len(), written.flushes, written.length), (length, 3, length));
+    check_shown(rt, alloc, file, pictures);
 }
 
 #[test]
-fn live_file_of_two_frames(rt: HostRuntime) -> Result<(), Fail> {
-    let bytes = source(rt.alloc(), &[128, 200])?;
-    let (end, written) = live(rt.alloc(), &bytes, 0, 100);
-    equal(&rt, &end, &Ok((2, 0)));
-    assert!(rt; written.bytes.starts_with(&HEAD));
-    let ends = sizes(&written.bytes).map(|(first, second)| {
-        first.saturating_add(second).saturating_add(56)
-    });
-    equal(&rt, &ends, &Some(written.bytes.len()));
-    equal(
-        &rt,
-        &(written.flushes, written.length),
-        &(3, written.bytes.len()),
-    );
-    assert!(rt; shows(rt.alloc(), &written.bytes, &[128, 200])?);
-    Ok(())
+fn live_file_of_two_frames(rt: HostRuntime) {
+    let mut pictures = [128; 768];
+    pictures[384..].fill(200);
+    let (end, written) = live(rt.alloc(), &source(), 0, 100);
+    equal!(&rt; end, Ok(TWO));
+    check_two(&rt, rt.alloc(), &written, &pictures);
 }
 
 /// Each step is that of the packets so far.
 #[test]
-fn live_pictures_are_told(rt: HostRuntime) -> Result<(), Fail> {
-    let bytes = source(rt.alloc(), &[128, 200])?;
+fn live_pictures_are_told(rt: HostRuntime) {
+    let bytes = source();
     let mut reader = Counted::new(bytes.as_slice());
     let mut writer = Counted::new(Vec::new(rt.alloc()));
     let mut watcher = Keeping {
@@ -157,77 +156,67 @@ fn live_pictures_are_told(rt: HostRuntime) -> Result<(), Fail> {
         Limits::usual(),
         &mut watcher,
     );
-    equal(&rt, &end.ok().map(|report| report.frames), &Some(2));
-    equal(&rt, &watcher.steps.len(), &2);
-    assert!(rt; are_steps_of(&watcher.steps, &writer.into_inner()));
-    Ok(())
+    equal!(&rt; (end, watcher.steps.len()), (Ok(TWO), 2));
+    check_steps(&rt, &watcher.steps, &writer.into_inner());
 }
 
 #[test]
-fn live_file_without_pictures(rt: HostRuntime) -> Result<(), Fail> {
+fn live_file_without_pictures(rt: HostRuntime) {
     let (end, written) = live(rt.alloc(), LINE, 0, 100);
-    equal(&rt, &end, &Ok((0, 0)));
-    assert!(rt; written.bytes.as_slice() == HEAD.as_slice());
-    Ok(())
+    equal!(&rt; end, Ok(EncodeReport { frames: 0, error: 0 }));
+    equal!(&rt; written.bytes.as_slice(), HEAD.as_slice());
 }
 
 #[test]
-fn live_settings_are_refused(rt: HostRuntime) -> Result<(), Fail> {
+fn live_settings_are_refused(rt: HostRuntime) {
     let (end, written) = live(rt.alloc(), LINE, 128, 100);
-    equal(&rt, &end, &Err(EncodeAllFault::Settings));
-    equal(&rt, &(written.flushes, written.bytes.len()), &(0, 0));
-    Ok(())
+    let found = (end, written.flushes, written.bytes.len());
+    equal!(&rt; found, (Err(EncodeAllFault::Settings), 0, 0));
+}
+
+/// Fails the test unless a file has one packet, all 128, which was flushed.
+fn check_one(rt: &impl Abort, alloc: Global, written: &Flushed) {
+    let file = written.bytes.as_slice();
+    let length = packet_size(rt, file, 32, 0).saturating_add(44);
+    equal!(rt; (file.len(), written.flushes, written.length), (length, 2, length));
+    check_shown(rt, alloc, file, &[128; 384]);
 }
 
 /// The source ends inside its second picture: the first one is left.
 #[test]
-fn torn_source_leaves_its_frames(rt: HostRuntime) -> Result<(), Fail> {
-    let mut bytes = source(rt.alloc(), &[128, 200])?;
-    bytes.truncate(600);
-    let (end, written) = live(rt.alloc(), &bytes, 0, 100);
-    equal(&rt, &end, &Err(EncodeAllFault::Torn));
-    let ends = packet_size(&written.bytes, 32, 0).map(|first| first.saturating_add(44));
-    equal(&rt, &ends, &Some(written.bytes.len()));
-    equal(
-        &rt,
-        &(written.flushes, written.length),
-        &(2, written.bytes.len()),
-    );
-    assert!(rt; shows(rt.alloc(), &written.bytes, &[128])?);
-    Ok(())
+fn torn_source_leaves_its_frames(rt: HostRuntime) {
+    let bytes = source();
+    let torn = bytes.get(..600).expect(&rt, "a front");
+    let (end, written) = live(rt.alloc(), torn, 0, 100);
+    equal!(&rt; end, Err(EncodeAllFault::Torn));
+    check_one(&rt, rt.alloc(), &written);
 }
 
-/// Returns whether a writer whose first `writes` calls succeed gets this many bytes of the file, and then fails.
-fn is_cut(alloc: Global, source: &[u8], writes: u64, file: &[u8], length: usize) -> bool {
-    let (end, written) = live(alloc, source, 0, writes);
-    end == Err(EncodeAllFault::Device)
-        && written.bytes.len() == length
-        && file.starts_with(&written.bytes)
+/// A writer whose first `writes` calls succeed gets this many bytes of the file, and then fails.
+fn check_cut(rt: &impl Abort, alloc: Global, writes: usize, file: &[u8], length: usize) {
+    let (end, written) = live(alloc, &source(), 0, writes as u64);
+    equal!(rt;
+        (writes, end, Some(written.bytes.as_slice())),
+        (writes, Err(EncodeAllFault::Device), file.get(..length))
+    );
 }
 
 /// The calls are a write and a flush for the head, and two writes and a flush for each packet.
-fn is_cut_at_each_call(alloc: Global, source: &[u8], file: &[u8]) -> bool {
-    let Some((first, second)) = sizes(file) else {
-        return false;
-    };
+fn check_cuts(rt: &impl Abort, alloc: Global, file: &[u8]) {
+    let (first, second) = sizes(rt, file);
     let [packet, header] = [first.saturating_add(44), first.saturating_add(56)];
     let whole = header.saturating_add(second);
     let lengths = [0, 32, 32, 44, packet, packet, header, whole];
-    for (writes, length) in lengths.iter().enumerate() {
-        if !is_cut(alloc, source, writes as u64, file, *length) {
-            return false;
-        }
+    for writes in 0..8usize {
+        check_cut(rt, alloc, writes, file, lengths[writes]);
     }
-    true
 }
 
 #[test]
-fn live_write_fails(rt: HostRuntime) -> Result<(), Fail> {
-    let bytes = source(rt.alloc(), &[128, 200])?;
-    let (end, written) = live(rt.alloc(), &bytes, 0, 8);
-    equal(&rt, &end, &Ok((2, 0)));
-    assert!(rt; is_cut_at_each_call(rt.alloc(), &bytes, &written.bytes));
-    Ok(())
+fn live_write_fails(rt: HostRuntime) {
+    let (end, written) = live(rt.alloc(), &source(), 0, 8);
+    equal!(&rt; end, Ok(TWO));
+    check_cuts(&rt, rt.alloc(), &written.bytes);
 }
 
 /// A writer that keeps in a cell its length at the last flush.
@@ -267,8 +256,8 @@ impl Read for Watching<'_> {
 
 /// The second picture is read once the first packet, whole, is written and flushed.
 #[test]
-fn packets_are_flushed_while_pictures_are_read(rt: HostRuntime) -> Result<(), Fail> {
-    let bytes = source(rt.alloc(), &[128, 200])?;
+fn packets_are_flushed_while_pictures_are_read(rt: HostRuntime) {
+    let bytes = source();
     let (flushed, at_second) = (Cell::new(0), Cell::new(0));
     let mut reader = Counted::new(Watching {
         left: &bytes,
@@ -287,8 +276,7 @@ fn packets_are_flushed_while_pictures_are_read(rt: HostRuntime) -> Result<(), Fa
         Limits::usual(),
         &mut Unwatched,
     );
-    assert!(rt; end.is_ok());
-    let first = packet_size(&writer.into_inner().bytes, 32, 0).map(|size| size.saturating_add(44));
-    equal(&rt, &Some(at_second.get()), &first);
-    Ok(())
+    equal!(&rt; end, Ok(TWO));
+    let first = packet_size(&rt, &writer.into_inner().bytes, 32, 0);
+    equal!(&rt; at_second.get(), first.saturating_add(44));
 }

@@ -5,9 +5,8 @@ ghost use Rattle.std.specs.Prelude.{◌≡◌, ◌≤◌, ◌<◌};
 
 use crate::check::equal;
 use crate::files::{INTER, KEY};
-use std::alloc::{AllocError, Global};
+use std::alloc::Global;
 use std::process::Abort;
-use std::test::Fail;
 use vp_base::{Dim, Limits, Picture};
 use vp_bool::BoolDecoder;
 use vp_decode::{Decoder, Outcome};
@@ -17,69 +16,44 @@ use vp_ivf::{FeedError, FileFault, Reader};
 use vp_stream::{Answer, Stream};
 
 /// The inter packet's picture, 128 everywhere.
-const FLAT: [u8; 384] = [128; 384];
+pub(crate) const FLAT: [u8; 384] = [128; 384];
 
-/// The key packet's picture: luma rows 0 to 3 are 128, rows 4 to 15 are 129, chroma is 128.
+/// Returns the key packet's picture: luma rows 0 to 3 are 128, rows 4 to 15 are 129, chroma is 128.
 fn empty_frame() -> [u8; 384] {
     let mut bytes = [128; 384];
     bytes[64..256].fill(129);
     bytes
 }
 
-/// Returns the first position at which the bytes differ from these, or end.
-fn first_difference(found: &[u8], wanted: &[u8]) -> Option<usize> {
-    let shared = found.len().min(wanted.len());
-    for i in 0..shared {
-        if found[i] != wanted[i] {
-            return Some(i);
-        }
-    }
-    if found.len() == wanted.len() {
-        None
-    } else {
-        Some(shared)
-    }
+/// Fails the test unless these are a picture's bytes.
+pub(crate) fn check_picture(rt: &impl Abort, alloc: Global, picture: &Picture, wanted: &[u8]) {
+    let found = picture.crop_i420(alloc).expect(rt, "memory");
+    equal!(rt; found.as_slice(), wanted);
 }
 
-/// Returns the first position at which a picture's bytes differ from these; 0 if there is no picture.
-fn picture_difference(
+/// Returns the bytes of the picture that the decoder shows for a packet.
+fn shown_by(rt: &impl Abort, alloc: Global, decoder: &mut Decoder, packet: &[u8]) -> Vec<u8> {
+    equal!(rt; decoder.decode(packet), Ok(Outcome::Shown));
+    let picture = decoder.picture().expect(rt, "a picture");
+    picture.crop_i420(alloc).expect(rt, "memory")
+}
+
+/// Fails the test unless the decoder shows a picture of these bytes for a packet.
+pub(crate) fn check_shown(
+    rt: &impl Abort,
     alloc: Global,
-    picture: Option<&Picture>,
-    wanted: &[u8],
-) -> Result<Option<usize>, AllocError> {
-    match picture {
-        Some(picture) => Ok(first_difference(&picture.crop_i420(alloc)?, wanted)),
-        None => Ok(Some(0)),
-    }
-}
-
-/// Returns the number and the outcome of the first packet with an unexpected outcome.
-fn other_outcome(
     decoder: &mut Decoder,
-    steps: &[(&[u8], Outcome)],
-) -> Result<Option<(usize, Outcome)>, AllocError> {
-    for (number, (packet, wanted)) in steps.iter().enumerate() {
-        let outcome = decoder.decode(packet)?;
-        if outcome != *wanted {
-            return Ok(Some((number, outcome)));
-        }
-    }
-    Ok(None)
+    packet: &[u8],
+    wanted: &[u8],
+) {
+    let found = shown_by(rt, alloc, decoder, packet);
+    equal!(rt; found.as_slice(), wanted);
 }
 
-/// Returns the first reference frame that isn't this picture, and the first position at which it differs.
-fn other_reference(
-    alloc: Global,
-    decoder: &Decoder,
-    wanted: &[u8],
-) -> Result<Option<(Reference, usize)>, AllocError> {
-    for reference in [Reference::Last, Reference::Golden, Reference::Alt] {
-        let picture = decoder.reference(reference);
-        if let Some(place) = picture_difference(alloc, picture, wanted)? {
-            return Ok(Some((reference, place)));
-        }
-    }
-    Ok(None)
+/// Returns the bytes of the picture that a new decoder shows for a packet.
+pub(crate) fn picture_of(rt: &impl Abort, alloc: Global, packet: &[u8]) -> Vec<u8> {
+    let mut decoder = Decoder::new(alloc, Limits::usual());
+    shown_by(rt, alloc, &mut decoder, packet)
 }
 
 /// Returns the settings of an encoder without a loop filter.
@@ -100,99 +74,58 @@ pub(crate) fn settings(qi: u8, partitions: u8) -> Settings
     }
 }
 
-/// Encodes the source as the next frame.
-fn next_frame(encoder: &mut Encoder, source: &Picture) -> Result<Encoded, Fail> {
-    Ok(encoder.encode(source)?)
-}
-
 /// Encodes the source as a new encoder's first frame.
 pub(crate) fn encoded(
+    rt: &impl Abort,
     alloc: Global,
     source: &Picture,
     settings: Settings,
-) -> Result<Encoded, Fail> {
-    let mut encoder = Encoder::new(alloc, source.dim(), settings)?;
-    next_frame(&mut encoder, source)
+) -> Encoded {
+    let mut encoder = Encoder::new(alloc, source.dim(), settings).expect(rt, "settings");
+    encoder.encode(source).expect(rt, "a frame")
 }
 
 /// Returns a picture of 16 by 16 pixels of this value.
-pub(crate) fn flat(alloc: Global, value: u8) -> Result<Picture, Fail> {
-    let dim = Dim::new(16, 16, &Limits::usual())?;
-    Ok(Picture::new(alloc, dim, value)?)
+pub(crate) fn flat(rt: &impl Abort, alloc: Global, value: u8) -> Picture {
+    let dim = Dim::new(16, 16, &Limits::usual()).expect(rt, "a size");
+    Picture::new(alloc, dim, value).expect(rt, "memory")
 }
 
 /// Encodes such a picture as a new encoder's first frame.
-pub(crate) fn encoded_flat(alloc: Global, value: u8, settings: Settings) -> Result<Encoded, Fail> {
-    let source = flat(alloc, value)?;
-    encoded(alloc, &source, settings)
+pub(crate) fn encoded_flat(
+    rt: &impl Abort,
+    alloc: Global,
+    value: u8,
+    settings: Settings,
+) -> Encoded {
+    let source = flat(rt, alloc, value);
+    encoded(rt, alloc, &source, settings)
 }
 
 /// Returns the header of a packet, relative to the defaults.
-pub(crate) fn header_of(packet: &[u8]) -> Option<Header> {
-    let tag = Tag::read(packet, &Limits::usual()).ok()?;
+pub(crate) fn header_of(rt: &impl Abort, packet: &[u8]) -> Header {
+    let tag = Tag::read(packet, &Limits::usual()).expect(rt, "a tag");
     let begin = if tag.key.is_some() { 10 } else { 3 };
-    let mut first = BoolDecoder::new(packet.get(begin..)?);
+    let mut first = BoolDecoder::new(packet.get(begin..).expect(rt, "a partition"));
     let (header, _) = Header::read(&Saved::defaults(), &tag, &mut first);
-    Some(header)
+    header
 }
 
-/// Returns the logarithm of the number of token partitions in a key packet's header.
-fn log2_partitions(packet: &[u8]) -> Option<u8> {
-    let header = header_of(packet)?;
-    if header.key {
-        Some(header.log2_partitions)
-    } else {
-        None
-    }
-}
-
-/// Returns the first position at which the decoder's picture for a packet is unexpected; 0 if it shows none.
-fn next_difference(
-    alloc: Global,
-    decoder: &mut Decoder,
-    packet: &[u8],
-    wanted: &[u8],
-) -> Result<Option<usize>, AllocError> {
-    decoder.decode(packet)?;
-    picture_difference(alloc, decoder.picture(), wanted)
-}
-
-/// Returns that position for a new decoder.
-fn decoded_difference(
-    alloc: Global,
-    packet: &[u8],
-    wanted: &[u8],
-) -> Result<Option<usize>, AllocError> {
-    let mut decoder = Decoder::new(alloc, Limits::usual());
-    next_difference(alloc, &mut decoder, packet, wanted)
-}
-
-/// The result for a packet of several partitions: the logarithm of their number, the error, and the first unexpected
-/// position of its picture.
-type Coded = (Option<u8>, u64, Option<usize>);
-
-/// Returns that result for an encoded picture.
-fn coded(alloc: Global, encoded: &Encoded, wanted: &[u8]) -> Result<Coded, AllocError> {
-    let packet = encoded.packet.as_slice();
-    Ok((
-        log2_partitions(packet),
-        encoded.squared_error,
-        decoded_difference(alloc, packet, wanted)?,
-    ))
-}
-
-/// Fails the test unless this is a flat picture in eight partitions, without an error.
-fn check_eight(rt: &impl Abort, alloc: Global, found: &Encoded) -> Result<(), AllocError> {
-    equal(rt, &coded(alloc, found, &FLAT)?, &(Some(3), 0, None));
-    let difference = picture_difference(alloc, Some(&found.recon), &FLAT)?;
-    equal(rt, &difference, &None);
-    Ok(())
+/// Fails the test unless this is a picture of these bytes, encoded in 2 to the power of `log2` partitions.
+fn check_coded(rt: &impl Abort, alloc: Global, found: &Encoded, log2: u8, wanted: &[u8]) {
+    let header = header_of(rt, found.packet.as_slice());
+    equal!(rt; (header.key, header.log2_partitions), (true, log2));
+    let recon = found.recon.crop_i420(alloc).expect(rt, "memory");
+    equal!(rt; (log2, recon.as_slice()), (log2, wanted));
+    let shown = picture_of(rt, alloc, found.packet.as_slice());
+    equal!(rt; (log2, shown.as_slice()), (log2, wanted));
 }
 
 #[test]
-fn eight_partitions(rt: HostRuntime) -> Result<(), Fail> {
-    let found = encoded_flat(rt.alloc(), 128, settings(0, 8))?;
-    Ok(check_eight(&rt, rt.alloc(), &found)?)
+fn eight_partitions(rt: HostRuntime) {
+    let found = encoded_flat(&rt, rt.alloc(), 128, settings(0, 8));
+    equal!(&rt; found.squared_error, 0);
+    check_coded(&rt, rt.alloc(), &found, 3, &FLAT);
 }
 
 /// Sets each pixel of a plane to the number of its row.
@@ -208,103 +141,79 @@ fn number_rows(picture: &mut Picture, k: usize)
 }
 
 /// Returns a picture of 16 by 64 pixels, each of which has the number of its row as its value.
-fn numbered_rows(alloc: Global) -> Result<Picture, Fail> {
-    let dim = Dim::new(16, 64, &Limits::usual())?;
-    let mut picture = Picture::new(alloc, dim, 0)?;
+fn numbered_rows(rt: &impl Abort, alloc: Global) -> Picture {
+    let dim = Dim::new(16, 64, &Limits::usual()).expect(rt, "a size");
+    let mut picture = Picture::new(alloc, dim, 0).expect(rt, "memory");
     for k in 0..3 {
         number_rows(&mut picture, k);
     }
-    Ok(picture)
+    picture
 }
 
-/// Decodes an encoded picture. Returns the result against its own reconstruction, and the first position at which that
-/// differs from the expected one.
-fn decoded_against(
-    alloc: Global,
-    found: &Encoded,
-    wanted: &Encoded,
-) -> Result<(Coded, Option<usize>), AllocError> {
-    let bytes = found.recon.crop_i420(alloc)?;
-    let difference = picture_difference(alloc, Some(&wanted.recon), &bytes)?;
-    Ok((coded(alloc, found, &bytes)?, difference))
-}
-
-/// Encodes the source into this number of partitions, and compares as `decoded_against` does.
-fn coded_by(
+/// Encodes the source into 2 to the power of `log2` partitions: the error and the picture are these.
+fn check_partitions(
+    rt: &impl Abort,
     alloc: Global,
     source: &Picture,
-    partitions: u8,
-    wanted: &Encoded,
-) -> Result<(Coded, Option<usize>), Fail> {
-    let found = encoded(alloc, source, settings(64, partitions))?;
-    Ok(decoded_against(alloc, &found, wanted)?)
+    log2: u8,
+    error: u64,
+    wanted: &[u8],
+)
+    requires { log2 ≤ 3 }
+{
+    let found = encoded(rt, alloc, source, settings(64, 1 << log2));
+    equal!(rt; (log2, found.squared_error), (log2, error));
+    check_coded(rt, alloc, &found, log2, wanted);
 }
 
-/// Returns the first number of partitions for which the result differs from this one of one partition.
-fn other_partitions(alloc: Global, source: &Picture, one: &Encoded) -> Result<Option<u8>, Fail> {
-    for (log2, partitions) in [(0, 1), (1, 2), (2, 4), (3, 8)] {
-        let wanted = ((Some(log2), one.squared_error, None), None);
-        if coded_by(alloc, source, partitions, one)? != wanted {
-            return Ok(Some(partitions));
-        }
+/// Encodes it into each number of partitions, as it is encoded into one.
+fn check_each(rt: &impl Abort, alloc: Global, source: &Picture, one: &Encoded) {
+    let bytes = one.recon.crop_i420(alloc).expect(rt, "memory");
+    for log2 in 0..4u8 {
+        check_partitions(rt, alloc, source, log2, one.squared_error, &bytes);
     }
-    Ok(None)
-}
-
-/// Encodes the source into one partition, and into others.
-fn other_than_one(alloc: Global, source: &Picture) -> Result<Option<u8>, Fail> {
-    let one = encoded(alloc, source, settings(64, 1))?;
-    other_partitions(alloc, source, &one)
 }
 
 #[test]
-fn partitions_change_no_picture(rt: HostRuntime) -> Result<(), Fail> {
-    let source = numbered_rows(rt.alloc())?;
-    equal(&rt, &other_than_one(rt.alloc(), &source)?, &None);
-    Ok(())
+fn partitions_change_no_picture(rt: HostRuntime) {
+    let source = numbered_rows(&rt, rt.alloc());
+    let one = encoded(&rt, rt.alloc(), &source, settings(64, 1));
+    check_each(&rt, rt.alloc(), &source, &one);
 }
 
-/// The differences after two shown packets: an unexpected outcome or a position in the picture, and a position in a
-/// reference frame.
-type Other = (
-    Option<(usize, Outcome)>,
-    Option<usize>,
-    Option<(Reference, usize)>,
-);
+/// Fails the test unless each reference frame has these bytes.
+fn check_references(rt: &impl Abort, alloc: Global, decoder: &Decoder, wanted: &[u8]) {
+    for reference in [Reference::Last, Reference::Golden, Reference::Alt] {
+        let picture = decoder.reference(reference).expect(rt, "a reference frame");
+        let found = picture.crop_i420(alloc).expect(rt, "memory");
+        equal!(rt; (reference, found.as_slice()), (reference, wanted));
+    }
+}
 
-/// Decodes a key packet and this packet, and returns the first differences.
-fn other_by(
+/// Decodes a key packet and this packet. Both are shown. The second picture and the references after it are these.
+fn check_both(
+    rt: &impl Abort,
     alloc: Global,
     decoder: &mut Decoder,
     packet: &[u8],
     shown: &[u8],
     kept: &[u8],
-) -> Result<Other, AllocError> {
-    let steps: [(&[u8], Outcome); 2] = [(&KEY, Outcome::Shown), (packet, Outcome::Shown)];
-    Ok((
-        other_outcome(decoder, &steps)?,
-        picture_difference(alloc, decoder.picture(), shown)?,
-        other_reference(alloc, decoder, kept)?,
-    ))
+) {
+    equal!(rt; decoder.decode(&KEY), Ok(Outcome::Shown));
+    check_shown(rt, alloc, decoder, packet, shown);
+    check_references(rt, alloc, decoder, kept);
 }
 
-/// Returns the first differences of a new decoder after a key packet and this packet.
-fn other_behind(
-    alloc: Global,
-    packet: &[u8],
-    shown: &[u8],
-    kept: &[u8],
-) -> Result<Other, AllocError> {
+/// Does so with a new decoder.
+fn check_behind(rt: &impl Abort, alloc: Global, packet: &[u8], shown: &[u8], kept: &[u8]) {
     let mut decoder = Decoder::new(alloc, Limits::usual());
-    other_by(alloc, &mut decoder, packet, shown, kept)
+    check_both(rt, alloc, &mut decoder, packet, shown, kept);
 }
 
 /// An inter packet whose bools are all 0 is intra-predicted, and replaces no reference.
 #[test]
-fn inter_keeps_last(rt: HostRuntime) -> Result<(), Fail> {
-    let found = other_behind(rt.alloc(), &INTER, &FLAT, &empty_frame())?;
-    equal(&rt, &found, &(None, None, None));
-    Ok(())
+fn inter_keeps_last(rt: HostRuntime) {
+    check_behind(&rt, rt.alloc(), &INTER, &FLAT, &empty_frame());
 }
 
 /// An inter packet whose bools are all 1, with eight empty token partitions.
@@ -315,10 +224,8 @@ const ONES: [u8; 25] = [
 /// It predicts each half of the macroblock from far above and to the left of the reference frame, where all is 128, and
 /// replaces all references.
 #[test]
-fn split_vectors_far_outside(rt: HostRuntime) -> Result<(), Fail> {
-    let found = other_behind(rt.alloc(), &ONES, &FLAT, &FLAT)?;
-    equal(&rt, &found, &(None, None, None));
-    Ok(())
+fn split_vectors_far_outside(rt: HostRuntime) {
+    check_behind(&rt, rt.alloc(), &ONES, &FLAT, &FLAT);
 }
 
 /// The length of the file in bytes.
@@ -360,124 +267,125 @@ fn taken(reader: &mut Reader) -> u32 {
     9
 }
 
-/// Feeds the file's first bytes to a reader, and returns its fault and the number of its packets.
-fn read_front(alloc: Global, length: usize) -> Result<(Option<FileFault>, u32), FeedError>
+/// Feeds the file's first bytes to a reader: its fault and the number of its packets are as expected.
+fn check_reader(rt: &impl Abort, reader: &mut Reader, length: usize)
+    requires { length ≤ SIZE }
+{
+    equal!(rt; (length, reader.feed(&FOUR[..length])), (length, Ok(())));
+    let fault = reader.finish().err();
+    equal!(rt; (length, (fault, taken(reader))), (length, end_of(length)));
+}
+
+/// Feeds them to a new reader.
+fn check_front(rt: &impl Abort, alloc: Global, length: usize)
     requires { length ≤ SIZE }
 {
     let mut reader = Reader::new(alloc, Limits::usual());
-    reader.feed(&FOUR[..length])?;
-    let fault = reader.finish().err();
-    Ok((fault, taken(&mut reader)))
+    check_reader(rt, &mut reader, length);
 }
 
 #[test]
-fn each_cut_read(rt: HostRuntime) -> Result<(), Fail> {
+fn each_cut_read(rt: HostRuntime) {
     for length in 0..=SIZE {
-        assert_eq!(rt;
-            read_front(rt.alloc(), length),
-            Ok(end_of(length)),
-            "{length} bytes"
-        );
+        check_front(&rt, rt.alloc(), length);
     }
-    Ok(())
 }
 
-/// Returns whether this is the answer for packet `number` of `count`: the key packet's and the inter packet's picture
-/// alternately.
-fn is_answer(answer: &Answer, number: u32, count: u32) -> bool {
-    let wanted = if number % 2 == 0 { empty_frame() } else { FLAT };
+/// Returns an answer's kind, and the size and the pixels of its picture.
+fn parts(answer: &Answer) -> (&'static str, Option<(u16, u16, &[u8])>) {
     match answer {
-        Answer::Shown(dim, bytes) => {
-            number < count
-                && (dim.w, dim.h) == (16, 16)
-                && first_difference(bytes.as_slice(), &wanted).is_none()
-        }
-        Answer::NoPacket => number >= count,
-        _ => false,
+        Answer::Shown(dim, bytes) => ("shown", Some((dim.w, dim.h, bytes.as_slice()))),
+        Answer::Hidden => ("hidden", None),
+        Answer::Fault(_) => ("fault", None),
+        Answer::NoPacket => ("no packet", None),
     }
 }
 
-/// Returns the first packet with an unexpected answer.
-fn other_answer(stream: &Stream, count: u32) -> Result<Option<u32>, AllocError> {
+/// Asks a stream of `count` packets, which was fed this number of bytes, for a packet: the key packet's and the inter
+/// packet's picture alternately.
+fn check_answer(rt: &impl Abort, stream: &Stream, fed: usize, count: u32, number: u32) {
+    let picture = if number % 2 == 0 { empty_frame() } else { FLAT };
+    let wanted = if number < count {
+        ("shown", Some((16, 16, picture.as_slice())))
+    } else {
+        ("no packet", None)
+    };
+    let answer = stream.picture_at(number).expect(rt, "memory");
+    equal!(rt; (fed, number, parts(&answer)), (fed, number, wanted));
+}
+
+/// Asks it for the first five packets.
+fn check_answers(rt: &impl Abort, stream: &Stream, fed: usize, count: u32) {
     for number in 0..5 {
-        if !is_answer(&stream.picture_at(number)?, number, count) {
-            return Ok(Some(number));
-        }
+        check_answer(rt, stream, fed, count, number);
     }
-    Ok(None)
 }
 
-/// The fault of a stream and the number of its packets, and the first packet with an unexpected answer.
-type StreamEnd = ((Option<FileFault>, u32), Option<u32>);
-
-/// Feeds a file to a stream, and returns that.
-fn stream_end(stream: &mut Stream, file: &[u8]) -> Result<StreamEnd, Fail> {
-    stream.feed(file)?;
+/// Feeds the file's first bytes to a stream: its fault, the number of its packets and its answers are as expected.
+fn check_stream(rt: &impl Abort, stream: &mut Stream, length: usize)
+    requires { length ≤ SIZE }
+{
+    equal!(rt; (length, stream.feed(&FOUR[..length])), (length, Ok(())));
     let fault = stream.finish().err();
-    let count = stream.count();
-    Ok(((fault, count), other_answer(stream, count)?))
+    equal!(rt; (length, (fault, stream.count())), (length, end_of(length)));
+    check_answers(rt, stream, length, end_of(length).1);
 }
 
-/// Feeds the file's first bytes to a new stream.
-fn stream_front(alloc: Global, length: usize) -> Result<StreamEnd, Fail>
+/// Feeds them to a new stream.
+fn check_stream_front(rt: &impl Abort, alloc: Global, length: usize)
     requires { length ≤ SIZE }
 {
     let mut stream = Stream::new(alloc, Limits::usual());
-    stream_end(&mut stream, &FOUR[..length])
+    check_stream(rt, &mut stream, length);
 }
 
 #[test]
-fn each_cut_of_a_stream(rt: HostRuntime) -> Result<(), Fail> {
+fn each_cut_of_a_stream(rt: HostRuntime) {
     for length in 0..=SIZE {
-        assert_eq!(rt;
-            stream_front(rt.alloc(), length)?,
-            (end_of(length), None),
-            "{length} bytes"
-        );
+        check_stream_front(&rt, rt.alloc(), length);
     }
-    Ok(())
 }
 
-/// Feeds a new stream a file that begins with other letters, and the file.
-fn check_refused(rt: &impl Abort, stream: &mut Stream) -> Result<(), AllocError> {
+/// A file that begins with other letters is refused, and so is the file after it.
+fn check_refused(rt: &impl Abort, stream: &mut Stream) {
     let mut bytes = FOUR;
     bytes[..4].copy_from_slice(b"DKIX");
     let refused = Err(FeedError::Fault(FileFault::Signature));
-    equal(rt, &stream.feed(&bytes), &refused);
-    equal(rt, &stream.feed(&FOUR), &refused);
-    equal(rt, &(stream.head(), stream.count()), &(None, 0));
-    equal(rt, &other_answer(stream, 0)?, &None);
-    Ok(())
+    equal!(rt; [stream.feed(&bytes), stream.feed(&FOUR)], [refused, refused]);
+    equal!(rt; (stream.head(), stream.count()), (None, 0));
+    check_answers(rt, stream, 2 * SIZE, 0);
 }
 
 #[test]
-fn other_signature(rt: HostRuntime) -> Result<(), Fail> {
+fn other_signature(rt: HostRuntime) {
     let mut stream = Stream::new(rt.alloc(), Limits::usual());
-    Ok(check_refused(&rt, &mut stream)?)
+    check_refused(&rt, &mut stream);
 }
 
 /// The key packet, not to be shown.
 const HIDDEN: [u8; 10] = [0, 0, 0, 0x9d, 0x01, 0x2a, 0x10, 0, 0x10, 0];
 
-/// Decodes hidden key packets and empty packets, and a shown one between them. Returns the first unexpected outcome.
-fn other_hidden(decoder: &mut Decoder) -> Result<Option<(usize, Outcome)>, AllocError> {
-    let steps: [(&[u8], Outcome); 5] = [
-        (&HIDDEN, Outcome::Hidden),
-        (&[], Outcome::Hidden),
-        (&KEY, Outcome::Shown),
-        (&HIDDEN, Outcome::Hidden),
-        (&[], Outcome::Hidden),
+/// After a hidden key packet, an empty packet shows nothing, whatever was shown before.
+fn check_hidden(rt: &impl Abort, decoder: &mut Decoder) {
+    let packets: [&[u8]; 5] = [&HIDDEN, &[], &KEY, &HIDDEN, &[]];
+    let mut found = [Outcome::Shown; 5];
+    for i in 0..5usize {
+        found[i] = decoder.decode(packets[i]).expect(rt, "memory");
+    }
+    let wanted = [
+        Outcome::Hidden,
+        Outcome::Hidden,
+        Outcome::Shown,
+        Outcome::Hidden,
+        Outcome::Hidden,
     ];
-    other_outcome(decoder, &steps)
+    equal!(rt; (found, decoder.picture().is_none()), (wanted, true));
 }
 
-/// After a hidden key packet, an empty packet shows nothing, whatever was shown before.
 #[test]
-fn empty_packet_behind_hidden_key(rt: HostRuntime) -> Result<(), Fail> {
+fn empty_packet_behind_hidden_key(rt: HostRuntime) {
     let mut decoder = Decoder::new(rt.alloc(), Limits::usual());
-    equal(&rt, &other_hidden(&mut decoder)?, &None);
-    assert!(rt; decoder.picture().is_none());
-    Ok(())
+    check_hidden(&rt, &mut decoder);
 }
 
 /// The hidden key packet and an empty packet, each after a header of twelve bytes.
@@ -486,30 +394,24 @@ const HIDDEN_AND_EMPTY: [u8; 34] = [
     1, 0, 0, 0, 0, 0, 0, 0,
 ];
 
-/// Returns whether the stream's answer for a packet is `Hidden`.
-fn is_hidden(stream: &Stream, number: u32) -> Result<bool, AllocError> {
-    Ok(matches!(stream.picture_at(number)?, Answer::Hidden))
+/// Returns the kind of the stream's answer for a packet.
+fn kind(rt: &impl Abort, stream: &Stream, number: u32) -> &'static str {
+    let answer = stream.picture_at(number).expect(rt, "memory");
+    parts(&answer).0
 }
 
-/// Feeds a new stream the file's head and these packets.
-fn feed_hidden(stream: &mut Stream) -> Result<(), FeedError> {
-    stream.feed(&FOUR[..32])?;
-    stream.feed(&HIDDEN_AND_EMPTY)
-}
-
-/// Fails the test unless the stream has these packets alone.
-fn check_hidden_packets(rt: &impl Abort, stream: &mut Stream) -> Result<(), AllocError> {
-    equal(rt, &(stream.count(), stream.finish()), &(2, Ok(())));
-    assert!(rt; is_hidden(stream, 0)?);
-    assert!(rt; is_hidden(stream, 1)?);
-    Ok(())
+/// Feeds a stream the file's head and these packets. It has these alone.
+fn check_hidden_packets(rt: &impl Abort, stream: &mut Stream) {
+    let fed = [stream.feed(&FOUR[..32]), stream.feed(&HIDDEN_AND_EMPTY)];
+    equal!(rt; fed, [Ok(()), Ok(())]);
+    equal!(rt; (stream.count(), stream.finish()), (2, Ok(())));
+    equal!(rt; [kind(rt, stream, 0), kind(rt, stream, 1)], ["hidden", "hidden"]);
 }
 
 #[test]
-fn stream_of_hidden_packets(rt: HostRuntime) -> Result<(), Fail> {
+fn stream_of_hidden_packets(rt: HostRuntime) {
     let mut stream = Stream::new(rt.alloc(), Limits::usual());
-    feed_hidden(&mut stream)?;
-    Ok(check_hidden_packets(&rt, &mut stream)?)
+    check_hidden_packets(&rt, &mut stream);
 }
 
 /// The result of a changed key packet.
@@ -587,97 +489,88 @@ fn lengths(width: u16, height: u16) -> (usize, usize) {
     (luma, luma.saturating_add(colour.saturating_mul(2)))
 }
 
-/// Returns the picture of a key packet of this size whose bools are all 0: the first four rows of luma are 128.
-fn key_picture(alloc: Global, width: u16, height: u16) -> Result<Vec<u8>, AllocError> {
+/// Returns the picture of a changed key packet whose bools are all 0: the first four rows of luma are 128. It is empty
+/// if the packet shows none.
+fn changed_picture(rt: &impl Abort, alloc: Global, change: Change) -> Vec<u8> {
+    let (width, height) = match change {
+        Change::Shown(width, height) => (width, height),
+        _ => (0, 0),
+    };
     let (luma, all) = lengths(width, height);
     let mut bytes = Vec::new(alloc);
-    bytes.resize(luma.min(4 * usize::from(width)), 128)?;
-    bytes.resize(luma, 129)?;
-    bytes.resize(all, 128)?;
-    Ok(bytes)
+    bytes
+        .resize(luma.min(4 * usize::from(width)), 128)
+        .expect(rt, "memory");
+    bytes.resize(luma, 129).expect(rt, "memory");
+    bytes.resize(all, 128).expect(rt, "memory");
+    bytes
 }
 
-/// Returns the first position at which a decoder's picture of a changed key packet is unexpected; 0 if it should show
-/// one and doesn't.
-fn changed_difference(
-    alloc: Global,
-    decoder: &Decoder,
-    change: Change,
-) -> Result<Option<usize>, AllocError> {
-    match change {
-        Change::Shown(width, height) => {
-            let wanted = key_picture(alloc, width, height)?;
-            picture_difference(alloc, decoder.picture(), &wanted)
-        }
-        _ => Ok(decoder.picture().map(|_| 0)),
+/// Returns the picture of the inter packet after it, which is 128 everywhere. After a fault it shows none.
+fn inter_picture(rt: &impl Abort, alloc: Global, change: Change) -> Vec<u8> {
+    let (width, height) = match change {
+        Change::Shown(width, height) => (width, height),
+        Change::Hidden => (16, 16),
+        Change::Fault(_) => (0, 0),
+    };
+    let (_, all) = lengths(width, height);
+    let mut bytes = Vec::new(alloc);
+    bytes.resize(all, 128).expect(rt, "memory");
+    bytes
+}
+
+/// Returns the bytes of the decoder's picture, or none.
+fn shown(rt: &impl Abort, alloc: Global, decoder: &Decoder) -> Vec<u8> {
+    match decoder.picture() {
+        Some(picture) => picture.crop_i420(alloc).expect(rt, "memory"),
+        None => Vec::new(alloc),
     }
 }
 
-/// Returns the first unexpected position of the picture after the inter packet, which is 128 everywhere; it isn't shown
-/// after a fault.
-fn inter_difference(
-    alloc: Global,
-    decoder: &Decoder,
-    change: Change,
-) -> Result<Option<usize>, AllocError> {
-    let (_, all) = match change {
-        Change::Shown(width, height) => lengths(width, height),
-        Change::Hidden => lengths(16, 16),
-        Change::Fault(_) => return Ok(decoder.picture().map(|_| 0)),
-    };
-    let mut wanted = Vec::new(alloc);
-    wanted.resize(all, 128)?;
-    picture_difference(alloc, decoder.picture(), &wanted)
-}
-
-/// Returns whether the key packet, the changed one and the inter packet have the expected outcomes. After a fault there
-/// is no state.
-fn is_change(
+/// Decodes the key packet, the changed one and the inter packet: the outcomes and the pictures are as expected. After a
+/// fault there is no state.
+fn check_change(
+    rt: &impl Abort,
     alloc: Global,
     decoder: &mut Decoder,
     changed: &[u8; 10],
     change: Change,
-) -> Result<bool, AllocError> {
+) {
     let (first, second) = outcomes(change);
     let is_fault = matches!(change, Change::Fault(_));
-    let before = decoder.decode(&KEY)?;
-    let found = decoder.decode(changed)?;
-    let is_first = before == Outcome::Shown
-        && found == first
-        && decoder.kept().is_none() == is_fault
-        && changed_difference(alloc, decoder, change)?.is_none();
-    let behind = decoder.decode(&INTER)?;
-    Ok(is_first && behind == second && inter_difference(alloc, decoder, change)?.is_none())
+    equal!(rt; (changed, decoder.decode(&KEY)), (changed, Ok(Outcome::Shown)));
+    let found = decoder.decode(changed);
+    equal!(rt; (changed, found, decoder.kept().is_none()), (changed, Ok(first), is_fault));
+    let wanted = changed_picture(rt, alloc, change);
+    equal!(rt; (changed, shown(rt, alloc, decoder)), (changed, wanted));
+    equal!(rt; (changed, decoder.decode(&INTER)), (changed, Ok(second)));
+    let wanted = inter_picture(rt, alloc, change);
+    equal!(rt; (changed, shown(rt, alloc, decoder)), (changed, wanted));
 }
 
 /// The three values of a changed byte.
 const VALUES: [u8; 3] = [0, 0x7f, 0xff];
 
-/// Returns the first of the three values of a byte with unexpected outcomes.
-fn other_change(alloc: Global, decoder: &mut Decoder, at: usize) -> Result<Option<u8>, AllocError>
+/// Sets a byte to each of the three values.
+fn check_byte(rt: &impl Abort, alloc: Global, decoder: &mut Decoder, at: usize)
     requires { at < 10 }
 {
     for i in 0..3usize {
         let mut changed = KEY;
         changed[at] = VALUES[i];
-        if !is_change(alloc, decoder, &changed, CHANGES[at][i])? {
-            return Ok(Some(VALUES[i]));
-        }
+        check_change(rt, alloc, decoder, &changed, CHANGES[at][i]);
     }
-    Ok(None)
 }
 
-/// Fails the test unless all changes have the expected outcomes, tried twice, one after another.
-fn check_changes(rt: &impl Abort, alloc: Global, decoder: &mut Decoder) -> Result<(), AllocError> {
+/// Tries all changes twice, one after another.
+fn check_changes(rt: &impl Abort, alloc: Global, decoder: &mut Decoder) {
     for number in 0..20usize {
-        let at = number % 10;
-        assert_eq!(rt; other_change(alloc, decoder, at)?, None, "byte {at}");
+        check_byte(rt, alloc, decoder, number % 10);
     }
-    Ok(())
 }
 
 #[test]
-fn changed_key_packets(rt: HostRuntime) -> Result<(), Fail> {
+fn changed_key_packets(rt: HostRuntime) {
     let mut decoder = Decoder::new(rt.alloc(), Limits::usual());
-    Ok(check_changes(&rt, rt.alloc(), &mut decoder)?)
+    check_changes(&rt, rt.alloc(), &mut decoder);
 }

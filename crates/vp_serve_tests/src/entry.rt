@@ -1,11 +1,11 @@
-//! The entries of a transport's log, and the replies that were reported to it.
+//! The entries of a transport's log.
 
 use std::fmt;
 use vp_base::ByteList;
 use vp_serve::CloseReason;
 
 /// One transfer.
-#[derive(Debug, Drop)]
+#[derive(Drop)]
 pub enum Entry {
     /// A connection is accepted.
     Accepts(u32),
@@ -25,38 +25,9 @@ pub enum Entry {
     Waits(bool, u64),
 }
 
-/// A reply that was reported to the transport.
-#[derive(Debug, Drop)]
-pub struct ToldReply {
-    /// The number of its connection.
-    pub number: u32,
-    /// The time in milliseconds.
-    pub now: u64,
-    /// The line of the request.
-    pub request: ByteList,
-    /// The digits of its status.
-    pub status: ByteList,
-    /// How many bytes it has.
-    pub length: usize,
-    /// How many packets were decoded for it.
-    pub packets: u64,
-}
-
-/// One line.
-impl fmt::Display for ToldReply {
-    fn fmt<W: fmt::Write>(&self, f: &mut fmt::Formatter<W>) -> fmt::Result {
-        let (request, status) = (text_of(&self.request), text_of(&self.status));
-        write!(f, "{} {} {request}: ", self.now, self.number)?;
-        write!(
-            f,
-            "{status}, {} bytes, {} packets\n",
-            self.length, self.packets
-        )
-    }
-}
-
-fn text_of(bytes: &ByteList) -> &str {
-    match str::from_utf8(bytes.as_slice()) {
+/// Returns bytes as text.
+pub fn text_of(bytes: &[u8]) -> &str {
+    match str::from_utf8(bytes) {
         Ok(text) => text,
         Err(_) => "?",
     }
@@ -67,13 +38,26 @@ impl fmt::Display for Entry {
     fn fmt<W: fmt::Write>(&self, f: &mut fmt::Formatter<W>) -> fmt::Result {
         match self {
             Entry::Accepts(number) => write!(f, "accepts {number}\n"),
-            Entry::Reads(number, bytes) => write!(f, "reads {number} {}\n", text_of(bytes)),
-            Entry::Writes(number, bytes) => write!(f, "writes {number} {}\n", text_of(bytes)),
+            Entry::Reads(number, bytes) => write!(
+                f,
+                "reads {number} {}\n",
+                text_of(bytes.as_slice())
+            ),
+            Entry::Writes(number, bytes) => write!(
+                f,
+                "writes {number} {}\n",
+                text_of(bytes.as_slice())
+            ),
             Entry::PeerEnds(number) => write!(f, "peer ends {number}\n"),
             Entry::Fails(number) => write!(f, "fails {number}\n"),
             Entry::Closes(number, reason) => write!(f, "closes {number} {reason:?}\n"),
             Entry::Grows(place, name, bytes) => {
-                write!(f, "grows {place} {} {}\n", text_of(name), text_of(bytes))
+                write!(
+                    f,
+                    "grows {place} {} {}\n",
+                    text_of(name.as_slice()),
+                    text_of(bytes.as_slice())
+                )
             }
             Entry::Waits(true, _) => Ok(()),
             Entry::Waits(false, _) => f.write_str("waits\n"),

@@ -2,6 +2,8 @@
 //! expected written by hand; and over sockets. There is nothing here but tests.
 #![tactic(auto)]
 
+#[cfg(test)]
+mod check;
 mod entry;
 #[cfg(test)]
 mod log_lines;

@@ -4,8 +4,9 @@ ghost use Rattle.std.specs.Prelude.{◌≡◌, ◌≤◌, ◌++◌, ◌∷◌, [
 ghost use Rattle.vp_serve_tests.specs.Script.{transfer_of, transfers};
 ghost use Rattle.vp_serve_tests.specs.declared.entry.Entry.{Entry};
 
-use crate::entry::{Entry, ToldReply};
+use crate::entry::{Entry, text_of};
 use std::alloc::Global;
+use std::fmt::Write;
 use std::process::Abort;
 use vp_base::ByteList;
 use vp_hub::HubFault;
@@ -66,7 +67,8 @@ pub struct Scripted<'a, H: Abort> {
     // Whether no write blocked since the last wait.
     can_write: bool,
     log: Vec<Entry>,
-    told: Vec<ToldReply>,
+    // A line for each reply that was reported.
+    told: String,
 }
 
 impl<'a, H: Abort> Scripted<'a, H> {
@@ -80,7 +82,7 @@ impl<'a, H: Abort> Scripted<'a, H> {
             can_read: true,
             can_write: true,
             log: Vec::new(alloc),
-            told: Vec::new(alloc),
+            told: String::new(alloc),
         }
     }
 
@@ -89,9 +91,10 @@ impl<'a, H: Abort> Scripted<'a, H> {
         self.log.as_slice()
     }
 
-    /// The replies that were reported to it.
-    pub fn told(&self) -> &[ToldReply] {
-        self.told.as_slice()
+    /// The replies that were reported to it, a line for each: the time in milliseconds, the number of the connection,
+    /// the line of the request, the status, how many bytes it has, and how many packets were decoded for it.
+    pub fn told(&self) -> &str {
+        self.told.as_str()
     }
 }
 
@@ -239,15 +242,13 @@ impl<'a, H: Abort> Transport for Scripted<'a, H> {
     }
 
     fn replied(&mut self, number: u32, now: u64, request: &[u8], reply: &[u8], packets: u64) {
-        let told = ToldReply {
-            number,
-            now,
-            request: copy_of(self.rt, self.alloc, request),
-            status: copy_of(self.rt, self.alloc, reply.get(9..12).unwrap_or(b"")),
-            length: reply.len(),
-            packets,
-        };
-        self.told.push(told).expect(self.rt, "memory for the log");
+        let (request, status) = (text_of(request), text_of(reply.get(9..12).unwrap_or(b"")));
+        let length = reply.len();
+        write!(
+            self.told,
+            "{now} {number} {request}: {status}, {length} bytes, {packets} packets\n"
+        )
+        .expect(self.rt, "memory for the log");
     }
 
     fn close(&mut self, number: u32, reason: CloseReason) {

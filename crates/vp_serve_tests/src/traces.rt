@@ -1,6 +1,7 @@
 //! The server over scripts: one for each way in which a connection goes, and one for a file that grows.
 
-use crate::entry::{Entry, ToldReply};
+use crate::check::equal;
+use crate::entry::Entry;
 use crate::script::{Input, Piece, Room, Script, Scripted};
 use std::alloc::{AllocError, Global};
 use std::fmt::Write;
@@ -97,6 +98,9 @@ fails 1
 closes 1 TransferFailed
 ";
 
+/// What passes if a connection sends nothing.
+const IDLE: &str = "waits\naccepts 0\nwaits\nwaits\nwaits\ncloses 0 IdleTimeout\n";
+
 /// What passes if a file grows by two pieces, the second of which shows that it is no VP8 file.
 const FILE: &str = "grows 0 a DKIF
 grows 0 a     rubbish, which is no head of a file
@@ -117,6 +121,7 @@ peer ends 0
 closes 0 PeerEnded
 ";
 
+/// Returns options with these limits.
 pub(crate) fn options(max_connections: usize, total_connections: u32) -> ServeOptions {
     ServeOptions {
         max_connections,
@@ -126,6 +131,7 @@ pub(crate) fn options(max_connections: usize, total_connections: u32) -> ServeOp
     }
 }
 
+/// Returns the name of the one stream, `a`.
 pub(crate) fn names(alloc: Global) -> Result<Vec<ByteList>, AllocError> {
     let mut names = Vec::new(alloc);
     names.push(ByteList::from_vec(b"a".to_vec(alloc)?))?;
@@ -139,23 +145,21 @@ pub(crate) fn server(alloc: Global, options: ServeOptions) -> Option<ServerLoop>
     Some(ServerLoop::new(alloc, hub, options))
 }
 
-fn text_of(alloc: Global, log: &[Entry]) -> Option<String> {
+/// Returns what passed, a line for each entry.
+fn text_of(rt: &impl Abort, alloc: Global, log: &[Entry]) -> String {
     let mut text = String::new(alloc);
     for entry in log {
-        write!(text, "{entry}").ok()?;
+        write!(text, "{entry}").expect(rt, "memory");
     }
-    Some(text)
+    text
 }
 
-/// Whether this is what passed.
-fn is_logged(alloc: Global, log: &[Entry], want: &str) -> bool {
-    match text_of(alloc, log) {
-        Some(text) => text.as_str() == want,
-        None => false,
-    }
+/// Fails the test if this is not what passed.
+fn check_log(rt: &impl Abort, alloc: Global, log: &[Entry], wanted: &str) {
+    equal!(rt; text_of(rt, alloc, log).as_str(), wanted);
 }
 
-/// Whether a new server of one stream serves all connections of a transport.
+/// Returns whether a new server of one stream serves all connections of a transport.
 pub(crate) fn serves_all<T: Transport>(
     alloc: Global,
     options: ServeOptions,
@@ -167,16 +171,11 @@ pub(crate) fn serves_all<T: Transport>(
     }
 }
 
-/// Whether a server serves a script to its end, and just this passes.
-fn shows<H: Abort>(
-    rt: &H,
-    alloc: Global,
-    options: ServeOptions,
-    script: Script,
-    want: &str,
-) -> bool {
+/// Fails the test if a server doesn't serve a script to its end, or other than this passes.
+fn check(rt: &impl Abort, alloc: Global, options: ServeOptions, script: Script, wanted: &str) {
     let mut transport = Scripted::new(rt, alloc, script);
-    serves_all(alloc, options, &mut transport) && is_logged(alloc, transport.log(), want)
+    equal!(rt; serves_all(alloc, options, &mut transport), true);
+    check_log(rt, alloc, transport.log(), wanted);
 }
 
 #[test]
@@ -187,7 +186,7 @@ fn reply_is_written_in_two_parts(rt: HostRuntime) {
         rooms: &[Room::Bytes(15), Room::Block],
         ..NOTHING
     };
-    assert!(rt; shows(&rt, rt.alloc(), options(1, 1), script, TWO_PARTS));
+    check(&rt, rt.alloc(), options(1, 1), script, TWO_PARTS);
 }
 
 #[test]
@@ -202,7 +201,7 @@ fn request_is_read_in_two_parts(rt: HostRuntime) {
         ],
         ..NOTHING
     };
-    assert!(rt; shows(&rt, rt.alloc(), options(1, 1), script, TWO_READS));
+    check(&rt, rt.alloc(), options(1, 1), script, TWO_READS);
 }
 
 #[test]
@@ -212,7 +211,7 @@ fn closing_reply_is_the_last(rt: HostRuntime) {
         inputs: &[Input::Bytes(LAST)],
         ..NOTHING
     };
-    assert!(rt; shows(&rt, rt.alloc(), options(1, 1), script, FINISHED));
+    check(&rt, rt.alloc(), options(1, 1), script, FINISHED);
 }
 
 #[test]
@@ -223,7 +222,7 @@ fn failures_close_one_connection(rt: HostRuntime) {
         rooms: &[Room::Fail],
         ..NOTHING
     };
-    assert!(rt; shows(&rt, rt.alloc(), options(1, 2), script, FAILURES));
+    check(&rt, rt.alloc(), options(1, 2), script, FAILURES);
 }
 
 #[test]
@@ -232,15 +231,7 @@ fn idle_connection_is_closed(rt: HostRuntime) {
         waiting: 1,
         ..NOTHING
     };
-    assert!(rt;
-        shows(
-            &rt,
-            rt.alloc(),
-            options(1, 1),
-            script,
-            "waits\naccepts 0\nwaits\nwaits\nwaits\ncloses 0 IdleTimeout\n"
-        )
-    );
+    check(&rt, rt.alloc(), options(1, 1), script, IDLE);
 }
 
 /// Returns how many connections a new server has after two turns.
@@ -257,26 +248,21 @@ fn open_after_two_turns<T: Transport>(
     server.connection_count()
 }
 
-/// Whether the hub refuses the 65th connection, which is then closed at once.
-fn refuses_the_65th<H: Abort>(rt: &H, alloc: Global) -> bool {
+/// The hub refuses the 65th connection, which is then closed at once.
+#[test]
+fn hub_refuses_one_too_many(rt: HostRuntime) {
     let script = Script {
         waiting: 65,
         ..NOTHING
     };
-    let mut transport = Scripted::new(rt, alloc, script);
-    let open = open_after_two_turns(alloc, options(65, 65), &mut transport);
-    match transport.log().get(64..) {
-        Some(last) => open == 64 && is_logged(alloc, last, "accepts 64\ncloses 64 HubRefused\n"),
-        None => false,
-    }
+    let mut transport = Scripted::new(&rt, rt.alloc(), script);
+    let open = open_after_two_turns(rt.alloc(), options(65, 65), &mut transport);
+    equal!(&rt; open, 64);
+    let last = transport.log().get(64..).unwrap_or(&[]);
+    check_log(&rt, rt.alloc(), last, "accepts 64\ncloses 64 HubRefused\n");
 }
 
-#[test]
-fn hub_refuses_one_too_many(rt: HostRuntime) {
-    assert!(rt; refuses_the_65th(&rt, rt.alloc()));
-}
-
-/// Whether a new server reads the files of a transport, and then serves all its connections.
+/// Returns whether a new server reads the files of a transport, and then serves all its connections.
 fn serves_files<T: Transport>(alloc: Global, transport: &mut T) -> bool {
     let (Some(mut server), Ok(names)) = (server(alloc, options(1, 1)), names(alloc)) else {
         return false;
@@ -285,8 +271,9 @@ fn serves_files<T: Transport>(alloc: Global, transport: &mut T) -> bool {
     serve(alloc, &mut server, transport, &names)
 }
 
-/// Whether the pieces of a file are fed, and a request for the stream is answered by them.
-fn feeds_a_file<H: Abort>(rt: &H, alloc: Global) -> bool {
+/// The pieces of a file are fed, and a request for the stream is answered by them.
+#[test]
+fn file_is_fed(rt: HostRuntime) {
     let script = Script {
         waiting: 1,
         inputs: &[
@@ -299,13 +286,9 @@ fn feeds_a_file<H: Abort>(rt: &H, alloc: Global) -> bool {
         ],
         ..NOTHING
     };
-    let mut transport = Scripted::new(rt, alloc, script);
-    serves_files(alloc, &mut transport) && is_logged(alloc, transport.log(), FILE)
-}
-
-#[test]
-fn file_is_fed(rt: HostRuntime) {
-    assert!(rt; feeds_a_file(&rt, rt.alloc()));
+    let mut transport = Scripted::new(&rt, rt.alloc(), script);
+    equal!(&rt; serves_files(rt.alloc(), &mut transport), true);
+    check_log(&rt, rt.alloc(), transport.log(), FILE);
 }
 
 /// The head of an IVF file of 16 by 16 pixels, 30 pictures a second.
@@ -324,24 +307,9 @@ const TOLD: &str = "200 0 GET /s/a/frame/1 HTTP/1.1: 200, 464 bytes, 2 packets
 500 0 GET /s/b/info HTTP/1.1: 404, 82 bytes, 0 packets
 ";
 
-fn told_text(alloc: Global, told: &[ToldReply]) -> Option<String> {
-    let mut text = String::new(alloc);
-    for reply in told {
-        write!(text, "{reply}").ok()?;
-    }
-    Some(text)
-}
-
-/// Whether this is what was reported to a transport.
-fn is_told(alloc: Global, told: &[ToldReply], want: &str) -> bool {
-    match told_text(alloc, told) {
-        Some(text) => text.as_str() == want,
-        None => false,
-    }
-}
-
-/// Whether a file of two packets is fed, and then each reply is reported.
-fn tells_replies<H: Abort>(rt: &H, alloc: Global) -> bool {
+/// A file of two packets is fed, and then each reply is reported.
+#[test]
+fn replies_are_told(rt: HostRuntime) {
     let script = Script {
         waiting: 1,
         tick: 100,
@@ -355,11 +323,7 @@ fn tells_replies<H: Abort>(rt: &H, alloc: Global) -> bool {
         pieces: &[Piece(HEAD), Piece(KEY), Piece(INTER)],
         ..NOTHING
     };
-    let mut transport = Scripted::new(rt, alloc, script);
-    serves_files(alloc, &mut transport) && is_told(alloc, transport.told(), TOLD)
-}
-
-#[test]
-fn replies_are_told(rt: HostRuntime) {
-    assert!(rt; tells_replies(&rt, rt.alloc()));
+    let mut transport = Scripted::new(&rt, rt.alloc(), script);
+    equal!(&rt; serves_files(rt.alloc(), &mut transport), true);
+    equal!(&rt; transport.told(), TOLD);
 }
