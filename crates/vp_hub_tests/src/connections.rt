@@ -2,16 +2,14 @@
 
 ghost use Rattle.std.specs.Prelude.{◌≡◌, ◌≤◌};
 
-use crate::hubs::{
-    ASKS_KEY, LAST_LINES, are_both, hub_of, is_answered, is_inter, is_key, is_key_after,
-    is_refused, parts, replied, says,
-};
+use crate::check::equal;
+use crate::hubs::{ASKS_KEY, Told, both_replies, check, hub_of_both, key_reply, last_reply, says};
 use std::alloc::Global;
 use std::io;
 use std::io::{Read, Write};
-use std::test::Fail;
+use std::process::Abort;
 use vp_base::{Counted, FailAt};
-use vp_hub::{Hub, HubFault, Reply, ServeFault, serve_one};
+use vp_hub::{Hub, HubFault, ServeFault, serve_one};
 
 /// Two requests, for the key packet's picture and for the inter packet's.
 const BOTH: [u8; 76] =
@@ -21,62 +19,52 @@ const BOTH: [u8; 76] =
 const LAST: [u8; 95] =
     *b"GET /s/a/frame/0 HTTP/1.1\r\nHost: x\r\nConnection: close\r\n\r\nGET /s/a/frame/1 HTTP/1.1\r\nHost: x\r\n\r\n";
 
-/// Returns whether an event is answered with the key packet's picture, and the connection is closed.
-fn is_answered_last(answer: &Result<Reply, HubFault>) -> bool {
-    match answer {
-        Ok(reply) => is_key_after(LAST_LINES, reply.bytes.as_slice()) && reply.close,
-        Err(_) => false,
-    }
+/// The second request isn't answered if the first one closes, and no more bytes are taken.
+fn says_last(rt: &impl Abort, alloc: Global, hub: &mut Hub) {
+    let told = Told::Bytes(1, &LAST);
+    check(rt, alloc, hub, 0, told, Ok((&last_reply(), true)));
+    check(rt, alloc, hub, 1, told, Err(HubFault::Failed));
 }
 
-/// Returns whether the second request isn't answered if the first one closes, and no more bytes are taken.
-fn drops_the_second(alloc: Global, hub: &mut Hub) -> bool {
-    is_answered_last(&says(alloc, hub, 1, &LAST))
-        && is_refused(&says(alloc, hub, 1, &LAST), HubFault::Failed)
-}
-
-/// Returns whether a new hub does so.
-fn hub_drops_the_second(alloc: Global) -> bool {
-    match hub_of(alloc, &[b"a"], &parts(), 1) {
-        Some(mut hub) => drops_the_second(alloc, &mut hub),
-        None => false,
-    }
-}
-
-/// Sends both requests in two pieces, the first of `place` bytes. Returns whether each request is answered at its last
-/// byte.
-fn answers_at_the_last_byte(alloc: Global, hub: &mut Hub, place: usize) -> bool
-    requires { place ≤ 76 }
+/// Returns how many bytes of both responses are sent after `place` bytes of the requests.
+fn sent_after(place: usize) -> usize
+    ensures { result ≤ 928 }
 {
-    let early = says(alloc, hub, 1, &BOTH[..place]);
-    let late = says(alloc, hub, 1, &BOTH[place..]);
     match place {
-        0..38 => is_answered(&early, b"") && are_both(replied(&late)),
-        38..76 => is_key(replied(&early)) && is_inter(replied(&late)),
-        _ => are_both(replied(&early)) && is_answered(&late, b""),
+        0..38 => 0,
+        38..76 => 464,
+        _ => 928,
     }
 }
 
-/// Returns whether a new hub does so.
-fn hub_answers_at_the_last_byte(alloc: Global, place: usize) -> bool
+/// Sends both requests to a hub in two pieces, the first of `place` bytes. Each request is answered at its last byte.
+fn says_both(rt: &impl Abort, alloc: Global, hub: &mut Hub, place: usize)
     requires { place ≤ 76 }
 {
-    match hub_of(alloc, &[b"a"], &parts(), 1) {
-        Some(mut hub) => answers_at_the_last_byte(alloc, &mut hub, place),
-        None => false,
-    }
+    let replies = both_replies();
+    let (early, late) = replies.split_at(sent_after(place));
+    says(rt, alloc, hub, place, (1, &BOTH[..place]), early);
+    says(rt, alloc, hub, place, (1, &BOTH[place..]), late);
+}
+
+/// Does so with a new hub.
+fn check_cut(rt: &impl Abort, alloc: Global, place: usize)
+    requires { place ≤ 76 }
+{
+    says_both(rt, alloc, &mut hub_of_both(rt, alloc), place);
+}
+
+/// Does so with a new hub.
+fn check_last(rt: &impl Abort, alloc: Global) {
+    says_last(rt, alloc, &mut hub_of_both(rt, alloc));
 }
 
 #[test]
-fn two_requests_in_one_piece(rt: HostRuntime) -> Result<(), Fail> {
-    assert!(rt; hub_drops_the_second(rt.alloc()));
+fn two_requests_in_one_piece(rt: HostRuntime) {
+    check_last(&rt, rt.alloc());
     for place in 0..=76 {
-        assert!(rt;
-            hub_answers_at_the_last_byte(rt.alloc(), place),
-            "cut at {place}"
-        );
+        check_cut(&rt, rt.alloc(), place);
     }
-    Ok(())
 }
 
 /// A reader that gives at most `size` bytes at each read.
@@ -136,60 +124,65 @@ fn served(
     (end, writer.into_inner().into_inner().into_bytes())
 }
 
-/// Returns whether each of the sixteen writes of 928 bytes can fail, after those before it. Each response of 464 bytes
-/// is written by itself, in eight writes.
-fn fails_at_each_write(alloc: Global, hub: &mut Hub, whole: &[u8]) -> bool {
-    for writes in 0..16usize {
-        let length = 464 * (writes / 8) + 64 * (writes % 8);
-        let (end, written) = served(alloc, hub, 76, 10, writes as u64);
-        if end != Err(ServeFault::Device) || whole.get(..length) != Some(written.as_slice()) {
-            return false;
-        }
-    }
-    true
+/// Fails the test if such a connection doesn't end so, or other bytes are written.
+fn check_served(
+    rt: &impl Abort,
+    alloc: Global,
+    hub: &mut Hub,
+    (size, reads, writes): (usize, u64, u64),
+    wanted: (Result<(), ServeFault>, &[u8]),
+) {
+    let (end, written) = served(alloc, hub, size, reads, writes);
+    equal!(rt; (size, reads, writes, (end, written.as_slice())), (size, reads, writes, wanted));
 }
 
-/// Returns whether each of the twelve reads of seven bytes can fail. The first request ends in the sixth, the second in
-/// the eleventh, and the last one finds the end.
-fn fails_at_each_read(alloc: Global, hub: &mut Hub, whole: &[u8]) -> bool {
+const FAILED: Result<(), ServeFault> = Err(ServeFault::Device);
+
+/// Each of the sixteen writes of 928 bytes can fail, after those before it. Each response of 464 bytes is written by
+/// itself, in eight writes.
+fn check_writes(rt: &impl Abort, alloc: Global, hub: &mut Hub, whole: &[u8; 928]) {
+    for writes in 0..16usize {
+        let length = 464 * (writes / 8) + 64 * (writes % 8);
+        let calls = (76, 10, writes as u64);
+        check_served(rt, alloc, hub, calls, (FAILED, &whole[..length]));
+    }
+}
+
+/// Each of the twelve reads of seven bytes can fail. The first request ends in the sixth, the second in the eleventh,
+/// and the last one finds the end.
+fn check_reads(rt: &impl Abort, alloc: Global, hub: &mut Hub, whole: &[u8; 928]) {
     for reads in 0..12u64 {
         let length = match reads {
             0..6 => 0,
             6..11 => 464,
             _ => 928,
         };
-        let (end, written) = served(alloc, hub, 7, reads, 100);
-        if end != Err(ServeFault::Device) || whole.get(..length) != Some(written.as_slice()) {
-            return false;
-        }
+        check_served(rt, alloc, hub, (7, reads, 100), (FAILED, &whole[..length]));
     }
-    true
 }
 
-/// Returns whether a hub serves connection 2 to its end, and again after all these failures, with the minimum numbers
-/// of reads and writes.
-fn serves_again(alloc: Global, hub: &mut Hub) -> bool {
-    let (first, whole) = served(alloc, hub, 76, 10, 100);
-    let is_fine = first == Ok(())
-        && are_both(&whole)
-        && fails_at_each_write(alloc, hub, &whole)
-        && fails_at_each_read(alloc, hub, &whole);
-    let (last, again) = served(alloc, hub, 7, 12, 16);
-    is_fine && last == Ok(()) && again.as_slice() == whole.as_slice()
+/// The hub serves connection 2 to its end, and again after all these failures, with the minimum numbers of reads and
+/// writes.
+fn check_calls(rt: &impl Abort, alloc: Global, hub: &mut Hub, whole: &[u8; 928]) {
+    check_served(rt, alloc, hub, (76, 10, 100), (Ok(()), whole));
+    check_writes(rt, alloc, hub, whole);
+    check_reads(rt, alloc, hub, whole);
+    check_served(rt, alloc, hub, (7, 12, 16), (Ok(()), whole));
 }
 
-/// Returns whether another connection can still complete the request that it sent a part of before.
-fn goes_on(alloc: Global, hub: &mut Hub) -> bool {
-    is_answered(&says(alloc, hub, 1, &ASKS_KEY[..20]), b"")
-        && serves_again(alloc, hub)
-        && is_key(replied(&says(alloc, hub, 1, &ASKS_KEY[20..])))
+/// Another connection can still complete the request that it sent a part of before.
+fn check_beside(rt: &impl Abort, alloc: Global, hub: &mut Hub) {
+    says(rt, alloc, hub, 0, (1, &ASKS_KEY[..20]), b"");
+    check_calls(rt, alloc, hub, &both_replies());
+    says(rt, alloc, hub, 1, (1, &ASKS_KEY[20..]), &key_reply());
+}
+
+/// Does so with a new hub.
+fn check_each_call(rt: &impl Abort, alloc: Global) {
+    check_beside(rt, alloc, &mut hub_of_both(rt, alloc));
 }
 
 #[test]
-fn each_call_of_a_connection_fails(rt: HostRuntime) -> Result<(), Fail> {
-    let Some(mut hub) = hub_of(rt.alloc(), &[b"a"], &parts(), 1) else {
-        return Err(Fail::new("there is no hub"));
-    };
-    assert!(rt; goes_on(rt.alloc(), &mut hub));
-    Ok(())
+fn each_call_of_a_connection_fails(rt: HostRuntime) {
+    check_each_call(&rt, rt.alloc());
 }

@@ -1,13 +1,8 @@
-//! Test hubs with a handwritten stream, and the responses to their connections.
+//! Test hubs with a handwritten stream, events of borrowed bytes, and the responses to connections.
 
-ghost use Rattle.std.specs.Prelude.{◌≡◌, ◌≢◌, ◌↔◌, ◌+◌, [], ℕ, List, IfOk, IfSome, IsTrue, OnErr, Ok, Err, false};
-ghost use Rattle.std.specs.Prelude.{length, vec_len};
-ghost use Rattle.vp_hub.specs.declared.event.Event.{Event};
-ghost use Rattle.vp_hub.specs.declared.event.HubFault.{HubFault};
-ghost use Rattle.vp_hub.specs.Hub.{IsStep};
-ghost use Rattle.vp_hub.specs.Heads.{AllKeepPartial};
-
-use std::alloc::{AllocError, Global};
+use crate::check::equal;
+use std::alloc::Global;
+use std::process::Abort;
 use vp_base::{ByteList, Limits};
 use vp_hub::{Event, Hub, HubFault, Reply};
 
@@ -48,151 +43,203 @@ pub const BAD: &[u8] =
     b"HTTP/1.1 400 Bad Request\r\nContent-Type: text/plain\r\nContent-Length: 12\r\n\
     Connection: close\r\n\r\nBad Request\n";
 
+/// An event with borrowed bytes.
+#[derive(Clone, Copy, Debug, PartialEq)]
+pub(crate) enum Told<'a> {
+    Feed(&'a [u8], &'a [u8]),
+    End(&'a [u8]),
+    Open(u32),
+    Bytes(u32, &'a [u8]),
+    Shut(u32),
+}
+
+/// The answer to an event: the bytes of the response and whether the connection is closed, or why it is refused.
+pub(crate) type Answer<'a> = Result<(&'a [u8], bool), HubFault>;
+
+/// The answer to an event that is accepted without a response.
+pub(crate) const TAKEN: Answer<'static> = Ok((b"", false));
+
 /// Copies bytes to a list.
-pub(crate) fn list(alloc: Global, bytes: &[u8]) -> Result<ByteList, AllocError>
-    ensures { IfOk result (λ l. l ≡ bytes.now) }
-{
-    Ok(ByteList::from_vec(bytes.to_vec(alloc)?))
+pub(crate) fn list(rt: &impl Abort, alloc: Global, bytes: &[u8]) -> ByteList {
+    ByteList::from_vec(bytes.to_vec(alloc).expect(rt, "memory"))
 }
 
 /// Returns a file's head, the key packet and the inter packet, each packet after its frame header of twelve bytes.
-pub(crate) fn parts() -> [&'static [u8]; 3]
-    ensures { length result ≡ 3 }
-{
+pub(crate) fn parts() -> [&'static [u8]; 3] {
     [&HEAD, &KEY, &INTER]
 }
 
 /// Copies names to a list.
-fn names_of(alloc: Global, names: &[&[u8]]) -> Result<Vec<ByteList>, AllocError>
-    ensures { IfOk result (λ v. vec_len v ≡ length names.now) }
-{
+pub(crate) fn names_of(rt: &impl Abort, alloc: Global, names: &[&[u8]]) -> Vec<ByteList> {
     let mut list_of_names = Vec::new(alloc);
     for name in names {
-        list_of_names.push(list(alloc, name)?)?;
+        list_of_names
+            .push(list(rt, alloc, name))
+            .expect(rt, "memory");
     }
-    Ok(list_of_names)
-}
-
-/// Returns a hub for streams with these names under these limits.
-fn new_hub(alloc: Global, names: &[&[u8]], limits: Limits) -> Option<Hub>
-    ensures { IfSome result (λ hub. AllKeepPartial hub.state) }
-{
-    let names = names_of(alloc, names).ok()?;
-    Hub::new(alloc, names, limits).ok()
+    list_of_names
 }
 
 /// Returns a hub for streams with these names. The first name is `a`; that stream is fed these pieces. The hub caches
 /// `cache` pictures of at most 16,384 pixels. Connections 1 and 3 are open.
-pub(crate) fn hub_of(alloc: Global, names: &[&[u8]], fed: &[&[u8]], cache: u32) -> Option<Hub>
-    ensures { IfSome result (λ hub. AllKeepPartial hub.state) }
-{
-    let limits = Limits::new(16_384, 16_384, 100, cache)?;
-    let mut hub = new_hub(alloc, names, limits)?;
-    let _ = hub.step(&Event::Open(1));
-    let _ = hub.step(&Event::Open(3));
-    for piece in fed {
-        let _ = feeds(alloc, &mut hub, piece);
-    }
-    Some(hub)
+pub(crate) fn named_hub(
+    rt: &impl Abort,
+    alloc: Global,
+    names: &[&[u8]],
+    fed: &[&[u8]],
+    cache: u32,
+) -> Hub {
+    let limits = Limits::new(16_384, 16_384, 100, cache).expect(rt, "limits");
+    let mut hub = Hub::new(alloc, names_of(rt, alloc, names), limits).expect(rt, "a hub");
+    begin(rt, alloc, &mut hub, fed);
+    hub
 }
 
-/// Hands the hub a piece of a connection's bytes.
-pub(crate) fn says(
+/// Returns such a hub for one stream.
+pub(crate) fn hub_of(rt: &impl Abort, alloc: Global, fed: &[&[u8]], cache: u32) -> Hub {
+    named_hub(rt, alloc, &[b"a"], fed, cache)
+}
+
+/// Returns such a hub for one stream, which was fed both packets. It caches one picture.
+pub(crate) fn hub_of_both(rt: &impl Abort, alloc: Global) -> Hub {
+    hub_of(rt, alloc, &parts(), 1)
+}
+
+/// Returns such a hub for one stream, which was fed the key packet. It caches sixteen pictures.
+pub(crate) fn hub_of_key(rt: &impl Abort, alloc: Global) -> Hub {
+    hub_of(rt, alloc, &parts()[..2], 16)
+}
+
+/// Returns such a hub for one stream, which was fed nothing. It caches one picture.
+pub(crate) fn hub_of_none(rt: &impl Abort, alloc: Global) -> Hub {
+    hub_of(rt, alloc, &[], 1)
+}
+
+/// Opens connections 1 and 3, and feeds these pieces to the stream `a`.
+pub(crate) fn begin(rt: &impl Abort, alloc: Global, hub: &mut Hub, fed: &[&[u8]]) {
+    pass(rt, alloc, hub, Told::Open(1));
+    pass(rt, alloc, hub, Told::Open(3));
+    for piece in fed {
+        pass(rt, alloc, hub, Told::Feed(b"a", piece));
+    }
+}
+
+/// Converts the event to one with bytes of its own.
+pub(crate) fn event_of(rt: &impl Abort, alloc: Global, told: Told<'_>) -> Event {
+    match told {
+        Told::Feed(name, bytes) => { Event::Feed(list(rt, alloc, name), list(rt, alloc, bytes)) }
+        Told::End(name) => Event::End(list(rt, alloc, name)),
+        Told::Open(number) => Event::Open(number),
+        Told::Bytes(number, bytes) => Event::Bytes(number, list(rt, alloc, bytes)),
+        Told::Shut(number) => Event::Shut(number),
+    }
+}
+
+/// Hands an event to the hub.
+pub(crate) fn tell(
+    rt: &impl Abort,
     alloc: Global,
     hub: &mut Hub,
-    number: u32,
-    bytes: &[u8],
-) -> Result<Reply, HubFault>
-    ensures { result ≢ Err HubFault.Memory → IsStep hub.old.state (Event.Bytes number bytes.now) result hub.new.state }
-{
-    let Ok(bytes) = list(alloc, bytes) else {
-        return Err(HubFault::Memory);
-    };
-    hub.step(&Event::Bytes(number, bytes))
+    told: Told<'_>,
+) -> Result<Reply, HubFault> {
+    hub.step(&event_of(rt, alloc, told))
 }
 
-/// Feeds a piece to the stream `a`.
-pub(crate) fn feeds(alloc: Global, hub: &mut Hub, bytes: &[u8]) -> Result<Reply, HubFault>
-    ensures step { result ≢ Err HubFault.Memory → (name : List ℕ)
-        × IsStep hub.old.state (Event.Feed name bytes.now) result hub.new.state }
-    ensures partial { AllKeepPartial hub.old.state → AllKeepPartial hub.new.state }
-{
-    let (Ok(name), Ok(bytes)) = (list(alloc, b"a"), list(alloc, bytes)) else {
-        return Err(HubFault::Memory);
-    };
-    hub.step(&Event::Feed(name, bytes))
+/// Hands an event to the hub, whatever is answered.
+pub(crate) fn pass(rt: &impl Abort, alloc: Global, hub: &mut Hub, told: Told<'_>) {
+    let _ = tell(rt, alloc, hub, told);
+}
+
+/// Returns an answer with borrowed bytes.
+pub(crate) fn answer_of(found: &Result<Reply, HubFault>) -> Answer<'_> {
+    match found {
+        Ok(reply) => Ok((reply.bytes.as_slice(), reply.close)),
+        Err(fault) => Err(*fault),
+    }
+}
+
+/// Fails the test if this is not the answer to an event. `case` and the event tell which one it is.
+pub(crate) fn check_answer(
+    rt: &impl Abort,
+    case: usize,
+    told: Told<'_>,
+    found: &Result<Reply, HubFault>,
+    wanted: Answer<'_>,
+) {
+    equal!(rt; (case, told, answer_of(found)), (case, told, wanted));
+}
+
+/// Hands an event to the hub, and fails the test if it isn't answered so.
+pub(crate) fn check(
+    rt: &impl Abort,
+    alloc: Global,
+    hub: &mut Hub,
+    case: usize,
+    told: Told<'_>,
+    wanted: Answer<'_>,
+) {
+    check_answer(rt, case, told, &tell(rt, alloc, hub, told), wanted);
+}
+
+/// Hands events to the hub one after another, and fails the test at the first one that isn't answered as its row says.
+pub(crate) fn check_all(
+    rt: &impl Abort,
+    alloc: Global,
+    hub: &mut Hub,
+    rows: &[(Told<'_>, Answer<'_>)],
+) {
+    for (row, (told, wanted)) in rows.iter().enumerate() {
+        check(rt, alloc, hub, row, *told, *wanted);
+    }
+}
+
+/// Connection `number` sends bytes. Fails the test if they aren't answered by just these, or the connection is closed.
+pub(crate) fn says(
+    rt: &impl Abort,
+    alloc: Global,
+    hub: &mut Hub,
+    case: usize,
+    (number, bytes): (u32, &[u8]),
+    reply: &[u8],
+) {
+    check(
+        rt,
+        alloc,
+        hub,
+        case,
+        Told::Bytes(number, bytes),
+        Ok((reply, false)),
+    );
 }
 
 /// The key packet's picture: luma rows 0 to 3 are 128, rows 4 to 15 are 129, chroma is 128.
-pub(crate) fn key_picture() -> [u8; 384] {
+fn key_picture() -> [u8; 384] {
     let mut bytes = [128; 384];
     bytes[64..256].fill(129);
     bytes
 }
 
-/// Returns whether the bytes are this head and the key packet's picture.
-pub(crate) fn is_key_after(lines: &[u8], bytes: &[u8]) -> bool
-    ensures { IsTrue result → length bytes.now ≡ length lines.now + 384 }
-{
-    match bytes.strip_prefix(lines) {
-        Some(picture) => picture == key_picture().as_slice(),
-        None => false,
-    }
+/// The response with the key packet's picture.
+pub(crate) fn key_reply() -> [u8; 464] {
+    let mut bytes = [0; 464];
+    bytes[..80].copy_from_slice(LINES);
+    bytes[80..].copy_from_slice(&key_picture());
+    bytes
 }
 
-/// Returns whether the bytes are the response with the key packet's picture.
-pub(crate) fn is_key(bytes: &[u8]) -> bool
-    ensures { IsTrue result → length bytes.now ≡ 464 }
-{
-    is_key_after(LINES, bytes)
+/// The response with the key packet's picture if it closes the connection.
+pub(crate) fn last_reply() -> [u8; 483] {
+    let mut bytes = [0; 483];
+    bytes[..99].copy_from_slice(LAST_LINES);
+    bytes[99..].copy_from_slice(&key_picture());
+    bytes
 }
 
-/// Returns whether the bytes are the response with the inter packet's picture: 128 everywhere.
-pub(crate) fn is_inter(bytes: &[u8]) -> bool
-    ensures { IsTrue result → length bytes.now ≡ 464 }
-{
-    match bytes.strip_prefix(LINES) {
-        Some(picture) => picture.len() == 384 && picture.iter().all(|byte| *byte == 128),
-        None => false,
-    }
-}
-
-/// Returns whether the bytes are both responses, one after the other. Each has a head of 80 bytes and a picture of 384.
-pub(crate) fn are_both(bytes: &[u8]) -> bool
-    ensures { IsTrue result → length bytes.now ≡ 928 }
-{
-    match bytes.split_at_checked(464) {
-        Some((first, second)) => is_key(first) && is_inter(second),
-        None => false,
-    }
-}
-
-/// Returns whether an event is refused with this fault.
-pub(crate) fn is_refused(answer: &Result<Reply, HubFault>, fault: HubFault) -> bool
-    ensures { IsTrue result ↔ (answer.now ≡ Err fault) }
-{
-    match answer {
-        Ok(_) => false,
-        Err(found) => *found == fault,
-    }
-}
-
-/// Returns whether an event is answered with exactly these bytes, and the connection stays open.
-pub(crate) fn is_answered(answer: &Result<Reply, HubFault>, wanted: &[u8]) -> bool
-    ensures { IsTrue result ↔ (answer.now ≡ Ok (record { bytes = wanted.now; close = false })) }
-{
-    match answer {
-        Ok(reply) => reply.bytes.as_slice() == wanted && !reply.close,
-        Err(_) => false,
-    }
-}
-
-/// Returns the response if the connection stays open; no bytes if the event is refused or the connection is closed.
-pub(crate) fn replied(answer: &Result<Reply, HubFault>) -> &[u8]
-    ensures { OnErr answer.now (result.now ≡ []) }
-{
-    match answer {
-        Ok(reply) if !reply.close => reply.bytes.as_slice(),
-        _ => &[],
-    }
+/// The response with the key packet's picture, and after it the one with the inter packet's: 128 everywhere. Each has a
+/// head of 80 bytes and a picture of 384.
+pub(crate) fn both_replies() -> [u8; 928] {
+    let mut bytes = [128; 928];
+    bytes[..464].copy_from_slice(&key_reply());
+    bytes[464..544].copy_from_slice(LINES);
+    bytes
 }

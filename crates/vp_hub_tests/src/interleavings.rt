@@ -1,15 +1,14 @@
 //! Tests of connections and a stream whose bytes are interleaved: each connection is answered as if it were alone.
 
-ghost use Rattle.std.specs.Prelude.{◌≤◌};
-
+use crate::check::equal;
 use crate::hubs::{
-    ASKS_INTER, ASKS_KEY, HEAD, KEY, NOT_FOUND, feeds, hub_of, is_answered, is_inter, is_key,
-    is_refused, parts, replied, says,
+    ASKS_INTER, ASKS_KEY, Answer, BAD, HEAD, KEY, NOT_FOUND, TAKEN, Told, answer_of, both_replies,
+    check, check_all, hub_of, key_reply, parts, says, tell,
 };
 use Turn::{First, Second, Stream, Third};
 use std::alloc::Global;
-use std::test::Fail;
-use vp_hub::{Event, Hub, HubFault, Reply};
+use std::process::Abort;
+use vp_hub::{Hub, HubFault, Reply};
 
 /// A client that sends one byte in each turn.
 #[derive(Drop)]
@@ -19,30 +18,35 @@ struct Peer<'a> {
     got: Vec<u8>,
 }
 
-/// A client's turn: its next byte, if there is one, is sent, and the response is recorded. False if memory runs out.
-fn speaks(alloc: Global, hub: &mut Hub, peer: &mut Peer<'_>) -> bool {
-    let Some((byte, rest)) = peer.left.split_first() else {
-        return true;
-    };
-    peer.left = rest;
-    match says(alloc, hub, peer.number, &[*byte]) {
-        Ok(reply) => peer.got.extend_from_slice(reply.bytes.as_slice()).is_ok(),
-        Err(_) => false,
+/// Records a response.
+fn record(rt: &impl Abort, got: &mut Vec<u8>, answer: &Result<Reply, HubFault>) {
+    let (bytes, _) = answer_of(answer).expect(rt, "a response");
+    got.extend_from_slice(bytes).expect(rt, "memory");
+}
+
+/// A client's turn: its next byte, if there is one, is sent, and the response is recorded.
+fn speak(rt: &impl Abort, alloc: Global, hub: &mut Hub, peer: &mut Peer<'_>) {
+    if let Some((byte, rest)) = peer.left.split_first() {
+        peer.left = rest;
+        let told = Told::Bytes(peer.number, &[*byte]);
+        record(rt, &mut peer.got, &tell(rt, alloc, hub, told));
     }
 }
 
+/// A bad request.
+const BAD_REQUEST: &[u8] = b"GET /streams HTTP/1.1\r\n\r\n";
+
 /// Connection 2 is opened, refused a second opening, sends a bad request, is refused more bytes, is shut, and is
-/// refused a second shutting. Returns whether it is answered so.
-fn a_third_comes(alloc: Global, hub: &mut Hub) -> bool {
-    let bad = b"GET /streams HTTP/1.1\r\n\r\n";
-    hub.step(&Event::Open(2)).is_ok()
-        && is_refused(&hub.step(&Event::Open(2)), HubFault::AlreadyOpen)
-        && says(alloc, hub, 2, bad).is_ok()
-        && is_refused(&says(alloc, hub, 2, bad), HubFault::Failed)
-        && hub.step(&Event::Shut(2)).is_ok()
-        && is_refused(&hub.step(&Event::Shut(2)), HubFault::UnknownConn)
-        && is_refused(&says(alloc, hub, 2, bad), HubFault::UnknownConn)
-}
+/// refused a second shutting.
+const THIRD_COMES: &[(Told<'static>, Answer<'static>)] = &[
+    (Told::Open(2), TAKEN),
+    (Told::Open(2), Err(HubFault::AlreadyOpen)),
+    (Told::Bytes(2, BAD_REQUEST), Ok((BAD, true))),
+    (Told::Bytes(2, BAD_REQUEST), Err(HubFault::Failed)),
+    (Told::Shut(2), TAKEN),
+    (Told::Shut(2), Err(HubFault::UnknownConn)),
+    (Told::Bytes(2, BAD_REQUEST), Err(HubFault::UnknownConn)),
+];
 
 /// Two connections, and the bytes that are left of a stream.
 #[derive(Drop)]
@@ -53,16 +57,15 @@ struct Speakers<'a> {
 }
 
 /// The stream's turn: its next byte, if there is one, is fed.
-fn grows(alloc: Global, hub: &mut Hub, speakers: &mut Speakers<'_>) -> bool {
-    let Some((byte, rest)) = speakers.stream.split_first() else {
-        return true;
-    };
-    speakers.stream = rest;
-    feeds(alloc, hub, &[*byte]).is_ok()
+fn grow(rt: &impl Abort, alloc: Global, hub: &mut Hub, stream: &mut &[u8]) {
+    if let Some((byte, rest)) = stream.split_first() {
+        *stream = rest;
+        check(rt, alloc, hub, 0, Told::Feed(b"a", &[*byte]), TAKEN);
+    }
 }
 
 /// A participant whose turn it is.
-#[derive(Clone, Copy, Debug)]
+#[derive(Clone, Copy)]
 enum Turn {
     First,
     Second,
@@ -72,24 +75,13 @@ enum Turn {
 }
 
 /// Takes one turn.
-fn take(alloc: Global, hub: &mut Hub, speakers: &mut Speakers<'_>, turn: Turn) -> bool {
+fn take(rt: &impl Abort, alloc: Global, hub: &mut Hub, speakers: &mut Speakers<'_>, turn: Turn) {
     match turn {
-        First => speaks(alloc, hub, &mut speakers.first),
-        Second => speaks(alloc, hub, &mut speakers.second),
-        Stream => grows(alloc, hub, speakers),
-        Third => a_third_comes(alloc, hub),
+        First => speak(rt, alloc, hub, &mut speakers.first),
+        Second => speak(rt, alloc, hub, &mut speakers.second),
+        Stream => grow(rt, alloc, hub, &mut speakers.stream),
+        Third => check_all(rt, alloc, hub, THIRD_COMES),
     }
-}
-
-/// Repeats turns in this order until no bytes are left: each participant has at most 38 bytes, and a turn in every
-/// eight.
-fn take_all(alloc: Global, hub: &mut Hub, speakers: &mut Speakers<'_>, order: [Turn; 8]) -> bool {
-    for number in 0..8 * 38 {
-        if !take(alloc, hub, speakers, order[number % 8]) {
-            return false;
-        }
-    }
-    true
 }
 
 /// Another key packet and inter packet, each after its frame header of twelve bytes.
@@ -98,160 +90,133 @@ const MORE: [u8; 37] = [
     0, 0, 0, 0, 0, 0, 0, 0, 0, 0x11, 0, 0,
 ];
 
+const ASKS_INFO: &[u8] = b"GET /s/a/info HTTP/1.1\r\nHost: x\r\n\r\n";
+
 const INFO: &[u8] = b"HTTP/1.1 200 OK\r\nContent-Type: text/plain\r\nContent-Length: 42\r\n\r\n\
     state open\npackets 4\nsize 16x16\nrate 30/1\n";
 
-/// Returns whether the stream has four packets, the last of which is shown.
-fn has_grown(alloc: Global, hub: &mut Hub) -> bool {
-    let info = b"GET /s/a/info HTTP/1.1\r\nHost: x\r\n\r\n";
-    let last = b"GET /s/a/frame/3 HTTP/1.1\r\nHost: x\r\n\r\n";
-    is_answered(&says(alloc, hub, 1, info), INFO) && is_inter(replied(&says(alloc, hub, 3, last)))
+const ASKS_LAST: &[u8] = b"GET /s/a/frame/3 HTTP/1.1\r\nHost: x\r\n\r\n";
+
+/// Returns a client that sends these bytes.
+fn new_peer(alloc: Global, number: u32, left: &[u8]) -> Peer<'_> {
+    Peer {
+        number,
+        left,
+        got: Vec::new(alloc),
+    }
 }
 
 /// Two connections request two pictures in turns of this order, while the stream grows and a third connection is opened
-/// and shut. Returns whether each is answered with its picture.
-fn ask_in_turns(alloc: Global, hub: &mut Hub, order: [Turn; 8]) -> bool {
-    let first = Peer {
-        number: 1,
-        left: &ASKS_KEY,
-        got: Vec::new(alloc),
-    };
-    let second = Peer {
-        number: 3,
-        left: &ASKS_INTER,
-        got: Vec::new(alloc),
-    };
+/// and shut. The turns are repeated until no bytes are left: each participant has at most 38 bytes, and a turn in every
+/// eight. Fails the test if one isn't answered with its picture. `case` is the number of the order.
+fn ask_in_turns(rt: &impl Abort, alloc: Global, hub: &mut Hub, case: usize, order: [Turn; 8]) {
     let mut speakers = Speakers {
-        first,
-        second,
+        first: new_peer(alloc, 1, &ASKS_KEY),
+        second: new_peer(alloc, 3, &ASKS_INTER),
         stream: &MORE,
     };
-    take_all(alloc, hub, &mut speakers, order)
-        && is_key(&speakers.first.got)
-        && is_inter(&speakers.second.got)
-        && has_grown(alloc, hub)
-}
-
-/// Returns whether a new hub that keeps this number of pictures answers them so.
-fn asks_in(alloc: Global, cache: u32, order: [Turn; 8]) -> bool {
-    match hub_of(alloc, &[b"a"], &parts(), cache) {
-        Some(mut hub) => ask_in_turns(alloc, &mut hub, order),
-        None => false,
+    for number in 0..8 * 38 {
+        take(rt, alloc, hub, &mut speakers, order[number % 8]);
     }
+    check_got(rt, case, &speakers);
 }
 
+/// Fails the test if a connection didn't get its picture.
+fn check_got(rt: &impl Abort, case: usize, speakers: &Speakers<'_>) {
+    let both = both_replies();
+    let got = (
+        case,
+        speakers.first.got.as_slice(),
+        speakers.second.got.as_slice(),
+    );
+    equal!(rt; got, (case, &both[..464], &both[464..]));
+}
+
+/// The connections are answered, and the stream has four packets then, the last of which is shown.
+fn check_order(rt: &impl Abort, alloc: Global, hub: &mut Hub, case: usize, order: [Turn; 8]) {
+    ask_in_turns(rt, alloc, hub, case, order);
+    says(rt, alloc, hub, case, (1, ASKS_INFO), INFO);
+    says(rt, alloc, hub, case, (3, ASKS_LAST), &both_replies()[464..]);
+}
+
+/// Does so with a new hub that keeps this number of pictures.
+fn check_turns(rt: &impl Abort, alloc: Global, cache: u32, case: usize, order: [Turn; 8]) {
+    check_order(
+        rt,
+        alloc,
+        &mut hub_of(rt, alloc, &parts(), cache),
+        case,
+        order,
+    );
+}
+
+/// Orders of turns.
+const ORDERS: &[[Turn; 8]] = &[
+    [First, Second, Stream, Third, First, Second, Stream, Third],
+    [Third, Stream, Second, First, Third, Stream, Second, First],
+    [Stream, Second, Third, Third, First, Second, First, Stream],
+    [First, First, First, First, Second, Second, Third, Stream],
+    [Second, Third, Second, Stream, Stream, Stream, Stream, First],
+    [
+        First, Stream, Stream, Second, Second, Second, Second, Second,
+    ],
+];
+
+/// One picture is kept, then two.
 #[test]
-fn bytes_in_turn(rt: HostRuntime) -> Result<(), Fail> {
-    for order in [
-        [First, Second, Stream, Third, First, Second, Stream, Third],
-        [Third, Stream, Second, First, Third, Stream, Second, First],
-        [Stream, Second, Third, Third, First, Second, First, Stream],
-        [First, First, First, First, Second, Second, Third, Stream],
-        [Second, Third, Second, Stream, Stream, Stream, Stream, First],
-        [
-            First, Stream, Stream, Second, Second, Second, Second, Second,
-        ],
-    ] {
-        assert!(rt;
-            asks_in(rt.alloc(), 1, order),
-            "{order:?}, one picture is kept"
-        );
-        assert!(rt;
-            asks_in(rt.alloc(), 2, order),
-            "{order:?}, two pictures are kept"
-        );
-    }
-    Ok(())
-}
-
-/// The answers if a file's last bytes are fed after a part of a request is sent.
-#[derive(Drop)]
-struct Answers {
-    /// To another connection's whole request, before the file's last bytes.
-    before: Result<Reply, HubFault>,
-    /// To the part of the request before them.
-    early: Result<Reply, HubFault>,
-    /// To the file's last bytes.
-    fed: Result<Reply, HubFault>,
-    /// To the rest of the request.
-    late: Result<Reply, HubFault>,
-    /// To the other connection's request, sent again.
-    behind: Result<Reply, HubFault>,
-}
-
-/// Sends a part of a request, feeds the rest of the file, and sends the rest of the request.
-fn ask_around(alloc: Global, hub: &mut Hub, rest: &[u8], place: usize) -> Answers
-    requires { place ≤ 38 }
-{
-    Answers {
-        before: says(alloc, hub, 3, &ASKS_KEY),
-        early: says(alloc, hub, 1, &ASKS_KEY[..place]),
-        fed: feeds(alloc, hub, rest),
-        late: says(alloc, hub, 1, &ASKS_KEY[place..]),
-        behind: says(alloc, hub, 3, &ASKS_KEY),
+fn bytes_in_turn(rt: HostRuntime) {
+    for (case, order) in ORDERS.iter().enumerate() {
+        check_turns(&rt, rt.alloc(), 1, case, *order);
+        check_turns(&rt, rt.alloc(), 2, case, *order);
     }
 }
 
-/// Returns whether the picture is available to the other connection after the file's last bytes, and not before.
-fn are_others(answers: &Answers) -> bool {
-    is_answered(&answers.before, NOT_FOUND)
-        && is_answered(&answers.fed, b"")
-        && is_key(replied(&answers.behind))
+/// Sends `place` bytes of a request, feeds the rest of a file, and sends the other bytes; `early` and `late` are
+/// the answers. The picture is available to another connection after the last bytes of the file, and not before.
+fn ask_around(
+    rt: &impl Abort,
+    alloc: Global,
+    hub: &mut Hub,
+    rest: &[u8],
+    place: usize,
+    (early, late): (&[u8], &[u8]),
+) {
+    let (first, second) = ASKS_KEY.split_at(place.min(38));
+    says(rt, alloc, hub, place, (3, &ASKS_KEY), NOT_FOUND);
+    says(rt, alloc, hub, place, (1, first), early);
+    check(rt, alloc, hub, place, Told::Feed(b"a", rest), TAKEN);
+    says(rt, alloc, hub, place, (1, second), late);
+    says(rt, alloc, hub, place, (3, &ASKS_KEY), &key_reply());
 }
 
-/// Returns whether the request is answered at its last byte: with 404 if that is before the file's last bytes.
-fn is_whole(answers: &Answers, place: usize) -> bool {
+/// The request is answered at its last byte: with 404 if that is before the last bytes of the file.
+fn check_around(rt: &impl Abort, alloc: Global, hub: &mut Hub, rest: &[u8], place: usize) {
     if place == 38 {
-        return is_answered(&answers.early, NOT_FOUND) && is_answered(&answers.late, b"");
+        ask_around(rt, alloc, hub, rest, place, (NOT_FOUND, b""));
+    } else {
+        ask_around(rt, alloc, hub, rest, place, (b"", &key_reply()));
     }
-    is_answered(&answers.early, b"") && is_key(replied(&answers.late))
 }
 
-/// Returns whether both connections are answered by the state of the stream at that moment.
-fn feeds_behind(alloc: Global, hub: &mut Hub, rest: &[u8], place: usize) -> bool
-    requires { place ≤ 38 }
-{
-    let answers = ask_around(alloc, hub, rest, place);
-    are_others(&answers) && is_whole(&answers, place)
-}
-
-/// Returns whether a new hub, which was fed the beginning, answers them so.
-fn fed_behind(alloc: Global, begun: &[&[u8]], rest: &[u8], place: usize) -> bool
-    requires { place ≤ 38 }
-{
-    match hub_of(alloc, &[b"a"], begun, 1) {
-        Some(mut hub) => feeds_behind(alloc, &mut hub, rest, place),
-        None => false,
-    }
+/// Does so with a new hub that was fed the beginning of a file.
+fn check_fed(rt: &impl Abort, alloc: Global, begun: &[&[u8]], rest: &[u8], place: usize) {
+    check_around(rt, alloc, &mut hub_of(rt, alloc, begun, 1), rest, place);
 }
 
 #[test]
-fn fed_between_each_two_bytes(rt: HostRuntime) -> Result<(), Fail> {
+fn fed_between_each_two_bytes(rt: HostRuntime) {
     for place in 0..=38 {
-        assert!(rt;
-            fed_behind(rt.alloc(), &[&HEAD, &KEY[..21]], &KEY[21..], place),
-            "behind {place} bytes"
-        );
+        check_fed(&rt, rt.alloc(), &[&HEAD, &KEY[..21]], &KEY[21..], place);
     }
-    Ok(())
 }
 
 /// The file's head and its key packet in one piece.
-fn file() -> [u8; 54] {
-    let mut bytes = [0; 54];
-    bytes[..32].copy_from_slice(&HEAD);
-    bytes[32..].copy_from_slice(&KEY);
-    bytes
-}
-
 #[test]
-fn whole_file_fed_between(rt: HostRuntime) -> Result<(), Fail> {
-    let file = file();
+fn whole_file_fed_between(rt: HostRuntime) {
+    let mut file = [0; 54];
+    file[..32].copy_from_slice(&HEAD);
+    file[32..].copy_from_slice(&KEY);
     for place in 0..=38 {
-        assert!(rt;
-            fed_behind(rt.alloc(), &[], &file, place),
-            "behind {place} bytes"
-        );
+        check_fed(&rt, rt.alloc(), &[], &file, place);
     }
-    Ok(())
 }

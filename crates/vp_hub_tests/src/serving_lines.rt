@@ -1,11 +1,12 @@
 //! Tests of many requests in one piece: its lines are handed to the hub one by one.
 
-use crate::hubs::{ASKS_KEY, HEAD, KEY, hub_of, is_key, replied, says};
-use std::alloc::{AllocError, Global};
+use crate::check::equal;
+use crate::hubs::{ASKS_KEY, hub_of_key, key_reply};
+use std::alloc::Global;
 use std::cell::Cell;
 use std::io;
 use std::io::{Error, ErrorKind, Write};
-use std::test::Fail;
+use std::process::Abort;
 use vp_base::Counted;
 use vp_hub::{Hub, serve_one};
 
@@ -33,17 +34,17 @@ impl Write for Widest<'_> {
 }
 
 /// Returns these bytes a hundred times.
-fn hundred_times(alloc: Global, bytes: &[u8]) -> Result<Vec<u8>, AllocError> {
+fn hundred_times(rt: &impl Abort, alloc: Global, bytes: &[u8]) -> Vec<u8> {
     let mut all = Vec::new(alloc);
     for _ in 0..100 {
-        all.extend_from_slice(bytes)?;
+        all.extend_from_slice(bytes).expect(rt, "memory");
     }
-    Ok(all)
+    all
 }
 
-/// Serves connection 2, which sends these bytes in one piece. Returns whether it gets the responses by a hundred writes
-/// of at most `most` bytes.
-fn writes_in_turn(alloc: Global, hub: &mut Hub, sent: &[u8], wanted: &[u8], most: usize) -> bool {
+/// Serves connection 2, which sends these bytes in one piece. Fails the test if it isn't read by two reads, or doesn't
+/// get just these by a hundred writes of at most 464 bytes.
+fn check_served(rt: &impl Abort, alloc: Global, hub: &mut Hub, sent: &[u8], wanted: &[u8]) {
     let (writes, widest) = (Cell::new(0), Cell::new(0));
     let mut reader = Counted::new(sent);
     let mut writer = Counted::new(Widest {
@@ -51,29 +52,24 @@ fn writes_in_turn(alloc: Global, hub: &mut Hub, sent: &[u8], wanted: &[u8], most
         writes: &writes,
         most: &widest,
     });
-    let served = serve_one(hub, 2, &mut reader, &mut writer);
-    served == Ok(())
-        && reader.reads() == 2
-        && writes.get() == 100
-        && widest.get() == most
-        && writer.into_inner().written.as_slice() == wanted
-}
-
-/// Returns whether a hundred requests get a hundred times the response to one of them, each by a write of its own.
-fn answers_in_turn(alloc: Global, hub: &mut Hub) -> Result<bool, AllocError> {
-    let sent = hundred_times(alloc, &ASKS_KEY)?;
-    let single = says(alloc, hub, 1, &ASKS_KEY);
-    let reply = replied(&single);
-    let wanted = hundred_times(alloc, reply)?;
-    Ok(is_key(reply) && writes_in_turn(alloc, hub, &sent, &wanted, reply.len()))
+    let end = serve_one(hub, 2, &mut reader, &mut writer);
+    equal!(rt; (end, reader.reads(), writes.get(), widest.get()), (Ok(()), 2, 100, 464));
+    equal!(rt; writer.into_inner().written.as_slice(), wanted);
 }
 
 /// A hundred requests of 38 bytes are read at once. No write has more than one response.
+fn check_hundred(rt: &impl Abort, alloc: Global, hub: &mut Hub) {
+    let sent = hundred_times(rt, alloc, &ASKS_KEY);
+    let wanted = hundred_times(rt, alloc, &key_reply());
+    check_served(rt, alloc, hub, &sent, &wanted);
+}
+
+/// Does so with a new hub.
+fn check_lines(rt: &impl Abort, alloc: Global) {
+    check_hundred(rt, alloc, &mut hub_of_key(rt, alloc));
+}
+
 #[test]
-fn hundred_requests_in_one_piece(rt: HostRuntime) -> Result<(), Fail> {
-    let Some(mut hub) = hub_of(rt.alloc(), &[b"a"], &[&HEAD, &KEY], 1) else {
-        return Err(Fail::new("there is no hub"));
-    };
-    assert!(rt; answers_in_turn(rt.alloc(), &mut hub)?);
-    Ok(())
+fn hundred_requests_in_one_piece(rt: HostRuntime) {
+    check_lines(&rt, rt.alloc());
 }

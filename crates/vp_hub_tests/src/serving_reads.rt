@@ -1,11 +1,12 @@
 //! Tests of how a connection is read: the sizes and the number of its reads.
 
-use crate::hubs::hub_of;
-use std::alloc::{AllocError, Global};
+use crate::check::equal;
+use crate::hubs::hub_of_none;
+use std::alloc::Global;
 use std::cell::Cell;
 use std::io;
 use std::io::{Error, ErrorKind, Read, Write};
-use std::test::Fail;
+use std::process::Abort;
 use vp_base::Counted;
 use vp_hub::{Hub, ServeFault, serve_one};
 
@@ -46,9 +47,26 @@ impl Write for Noted<'_> {
     }
 }
 
-/// Returns whether three requests in these bytes are read in three pieces, and each request is answered after the piece
-/// that ends it.
-fn reads_in_pieces(alloc: Global, hub: &mut Hub, sent: &[u8]) -> bool {
+/// Returns a request of 3,000 bytes.
+fn long_request() -> [u8; 3000] {
+    let mut request = [b'b'; 3000];
+    request[..35].copy_from_slice(b"GET /streams HTTP/1.1\r\nHost: x\r\nA: ");
+    request[2996..].copy_from_slice(b"\r\n\r\n");
+    request
+}
+
+/// Returns three such requests.
+fn three_requests() -> [u8; 9000] {
+    let mut requests = [0; 9000];
+    for number in 0..3 {
+        requests[number * 3000..(number + 1) * 3000].copy_from_slice(&long_request());
+    }
+    requests
+}
+
+/// Serves connection 2, which sends these bytes. Fails the test if it isn't read by four reads of at most 4,096 bytes,
+/// or isn't answered after each of the first three.
+fn check_pieces(rt: &impl Abort, alloc: Global, hub: &mut Hub, sent: &[u8]) {
     let (given, most) = (Cell::new(0), Cell::new(0));
     let mut reader = Counted::new(Asked {
         left: sent,
@@ -59,42 +77,21 @@ fn reads_in_pieces(alloc: Global, hub: &mut Hub, sent: &[u8]) -> bool {
         given: &given,
         at: Vec::new(alloc),
     });
-    let served = serve_one(hub, 2, &mut reader, &mut writer);
-    let at = writer.into_inner().at;
-    served == Ok(())
-        && most.get() == 4096
-        && reader.reads() == 4
-        && at.as_slice() == [4096, 8192, 9000].as_slice()
+    let end = serve_one(hub, 2, &mut reader, &mut writer);
+    equal!(rt; (end, most.get(), reader.reads()), (Ok(()), 4096, 4));
+    equal!(rt; writer.into_inner().at.as_slice(), [4096, 8192, 9000].as_slice());
 }
 
-/// Returns a request of 3,000 bytes.
-fn long_request(alloc: Global) -> Result<Vec<u8>, AllocError> {
-    let mut sent = b"GET /streams HTTP/1.1\r\nHost: x\r\nA: ".to_vec(alloc)?;
-    sent.extend_from_slice(&[b'b'; 2961])?;
-    sent.extend_from_slice(b"\r\n\r\n")?;
-    Ok(sent)
-}
-
-/// Returns three such requests.
-fn three_requests(alloc: Global) -> Result<Vec<u8>, AllocError> {
-    let request = long_request(alloc)?;
-    let mut sent = Vec::new(alloc);
-    for _ in 0..3 {
-        sent.extend_from_slice(&request)?;
-    }
-    Ok(sent)
+/// Does so with a new hub.
+fn check_reads(rt: &impl Abort, alloc: Global, sent: &[u8]) {
+    check_pieces(rt, alloc, &mut hub_of_none(rt, alloc), sent);
 }
 
 /// At most 4,096 bytes are read at once, and handed to the hub before the next read. Of three requests of 3,000 bytes
 /// each, one ends in each piece, and the last read finds the end.
 #[test]
-fn pieces_of_4096_bytes(rt: HostRuntime) -> Result<(), Fail> {
-    let sent = three_requests(rt.alloc())?;
-    let Some(mut hub) = hub_of(rt.alloc(), &[b"a"], &[], 1) else {
-        return Err(Fail::new("there is no hub"));
-    };
-    assert!(rt; reads_in_pieces(rt.alloc(), &mut hub, &sent));
-    Ok(())
+fn pieces_of_4096_bytes(rt: HostRuntime) {
+    check_reads(&rt, rt.alloc(), &three_requests());
 }
 
 /// A reader that gives single bytes of a repeated request, up to a total number.
@@ -133,44 +130,28 @@ impl Write for Nowhere {
     }
 }
 
-/// Returns whether a connection that gives `bytes` single bytes of a repeated request of 3,000 ends with this result
-/// after this number of reads.
-fn ends_by(
-    hub: &mut Hub,
-    request: &[u8],
-    bytes: usize,
-    wanted: Result<(), ServeFault>,
-    reads: u64,
-) -> bool {
+/// Serves connection 2, which gives `bytes` single bytes of a repeated request of 3,000. Fails the test if it doesn't
+/// end so after 1,048,576 reads.
+fn check_end(rt: &impl Abort, hub: &mut Hub, bytes: usize, wanted: Result<(), ServeFault>) {
+    let request = long_request();
     let mut reader = Counted::new(Again {
-        request,
+        request: &request,
         given: 0,
         all: bytes,
     });
     let mut writer = Counted::new(Nowhere);
-    let served = serve_one(hub, 2, &mut reader, &mut writer);
-    served == wanted && reader.reads() == reads
+    let end = serve_one(hub, 2, &mut reader, &mut writer);
+    equal!(rt; (bytes, end, reader.reads()), (bytes, wanted, 1_048_576));
 }
 
-/// Returns whether this is so of a new hub.
-fn hub_ends_by(
-    alloc: Global,
-    bytes: usize,
-    wanted: Result<(), ServeFault>,
-    reads: u64,
-) -> Result<bool, AllocError> {
-    let request = long_request(alloc)?;
-    Ok(match hub_of(alloc, &[b"a"], &[], 1) {
-        Some(mut hub) => ends_by(&mut hub, &request, bytes, wanted, reads),
-        None => false,
-    })
+/// Does so with a new hub.
+fn check_count(rt: &impl Abort, alloc: Global, bytes: usize, wanted: Result<(), ServeFault>) {
+    check_end(rt, &mut hub_of_none(rt, alloc), bytes, wanted);
 }
 
 /// A connection may end at its 1,048,576th read, and no later.
 #[test]
-fn reads_of_a_connection(rt: HostRuntime) -> Result<(), Fail> {
-    let turns = Err(ServeFault::ReadTurns);
-    assert!(rt; hub_ends_by(rt.alloc(), 1_048_575, Ok(()), 1_048_576)?);
-    assert!(rt; hub_ends_by(rt.alloc(), 1_048_576, turns, 1_048_576)?);
-    Ok(())
+fn reads_of_a_connection(rt: HostRuntime) {
+    check_count(&rt, rt.alloc(), 1_048_575, Ok(()));
+    check_count(&rt, rt.alloc(), 1_048_576, Err(ServeFault::ReadTurns));
 }

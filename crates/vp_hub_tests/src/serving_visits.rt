@@ -1,24 +1,19 @@
 //! Tests of connections served over memory.
 
-use crate::hubs::{HEAD, KEY, LINES, hub_of, is_refused, key_picture};
-use std::alloc::{AllocError, Global};
+ghost use Rattle.std.specs.Prelude.{◌≤◌};
+
+use crate::check::equal;
+use crate::hubs::{Answer, TAKEN, Told, check_all, hub_of_key, key_reply};
+use std::alloc::Global;
 use std::cell::Cell;
 use std::io;
 use std::io::{Error, ErrorKind, Read, Write};
-use std::test::Fail;
+use std::process::Abort;
 use vp_base::{Counted, FailAt};
-use vp_hub::{Event, Hub, HubFault, ServeFault, serve_one};
+use vp_hub::{Hub, HubFault, ServeFault, serve_one};
 
 // A request for the picture of the first packet.
 const SENT: &[u8] = b"GET /s/a/frame/0 HTTP/1.1\r\nHost: x\r\n\r\n";
-
-/// The response with the key packet's picture.
-fn key_reply() -> [u8; 464] {
-    let mut reply = [0; 464];
-    reply[..80].copy_from_slice(LINES);
-    reply[80..].copy_from_slice(&key_picture());
-    reply
-}
 
 /// A reader that gives one byte at each read.
 #[derive(Drop)]
@@ -32,124 +27,124 @@ impl Read for Single<'_> {
 }
 
 /// Serves connection 2 over single bytes. The first `reads` reads and the first `writes` writes succeed, and the next
-/// one fails. Returns the result, and whether these bytes are written.
-fn serve_two(
+/// one fails. Returns the result, and the bytes written.
+fn served(
     alloc: Global,
     hub: &mut Hub,
     sent: &[u8],
     (reads, writes): (u64, u64),
-    wanted: &[u8],
-) -> (Result<(), ServeFault>, bool) {
-    let mut written = Vec::new(alloc);
+) -> (Result<(), ServeFault>, Vec<u8>) {
     let mut reader = Counted::new(FailAt::new(Single(sent), reads));
-    let mut writer = Counted::new(FailAt::new(&mut written, writes));
-    let served = serve_one(hub, 2, &mut reader, &mut writer);
-    (served, written.as_slice() == wanted)
+    let mut writer = Counted::new(FailAt::new(Vec::new(alloc), writes));
+    let end = serve_one(hub, 2, &mut reader, &mut writer);
+    (end, writer.into_inner().into_inner())
 }
 
-fn serves_in_single_bytes(alloc: Global) -> bool {
-    match hub_of(alloc, &[b"a"], &[&HEAD, &KEY], 16) {
-        Some(mut hub) => {
-            serve_two(alloc, &mut hub, SENT, (1000, 1000), &key_reply()) == (Ok(()), true)
-        }
-        None => false,
-    }
+/// Fails the test if such a connection of this hub doesn't end so, or other bytes are written.
+fn check_served(
+    rt: &impl Abort,
+    alloc: Global,
+    hub: &mut Hub,
+    sent: &[u8],
+    calls: (u64, u64),
+    wanted: (Result<(), ServeFault>, &[u8]),
+) {
+    let (end, written) = served(alloc, hub, sent, calls);
+    equal!(rt; (calls, (end, written.as_slice())), (calls, wanted));
+}
+
+/// Serves connection 2 of a new hub that was fed a key packet, over single bytes. Fails the test if it doesn't get just
+/// these.
+fn check_visit(rt: &impl Abort, alloc: Global, sent: &[u8], calls: (u64, u64), wanted: &[u8]) {
+    check_served(
+        rt,
+        alloc,
+        &mut hub_of_key(rt, alloc),
+        sent,
+        calls,
+        (Ok(()), wanted),
+    );
 }
 
 #[test]
-fn serve_one_in_single_bytes(rt: HostRuntime) -> Result<(), Fail> {
-    assert!(rt; serves_in_single_bytes(rt.alloc()));
-    Ok(())
+fn serve_one_in_single_bytes(rt: HostRuntime) {
+    check_visit(&rt, rt.alloc(), SENT, (1000, 1000), &key_reply());
 }
 
-/// Returns whether 5,000 reads of an incomplete head are accepted without a response.
-fn takes_many_reads(alloc: Global) -> bool {
-    match hub_of(alloc, &[b"a"], &[], 16) {
-        Some(mut hub) => {
-            serve_two(alloc, &mut hub, &[b'x'; 5000], (6000, 0), b"") == (Ok(()), true)
-        }
-        None => false,
-    }
-}
-
+/// 5,000 reads of an incomplete head are accepted without a response.
 #[test]
-fn reads_are_not_refused(rt: HostRuntime) -> Result<(), Fail> {
-    assert!(rt; takes_many_reads(rt.alloc()));
-    Ok(())
+fn reads_are_not_refused(rt: HostRuntime) {
+    check_visit(&rt, rt.alloc(), &[b'x'; 5000], (6000, 0), b"");
 }
 
-/// Returns whether the connection is gone, so that another one with its number is accepted.
-fn has_gone(hub: &mut Hub) -> bool {
-    is_refused(&hub.step(&Event::Shut(2)), HubFault::UnknownConn)
-        && hub.step(&Event::Open(2)).is_ok()
-        && hub.step(&Event::Shut(2)).is_ok()
-}
+/// The connection is gone, so that another one with its number is accepted.
+const HAS_GONE: &[(Told<'static>, Answer<'static>)] = &[
+    (Told::Shut(2), Err(HubFault::UnknownConn)),
+    (Told::Open(2), TAKEN),
+    (Told::Shut(2), TAKEN),
+];
 
 /// Two requests for the picture of the first packet.
 const TWICE: &[u8] =
     b"GET /s/a/frame/0 HTTP/1.1\r\nHost: x\r\n\r\nGET /s/a/frame/0 HTTP/1.1\r\nHost: x\r\n\r\n";
 
-/// Returns `count` responses to them.
-fn key_replies(alloc: Global, count: usize) -> Result<Vec<u8>, AllocError> {
-    let mut replies = Vec::new(alloc);
-    for _ in 0..count {
-        replies.extend_from_slice(&key_reply())?;
-    }
-    Ok(replies)
+/// Returns both responses to them.
+fn key_replies() -> [u8; 928] {
+    let mut replies = [0; 928];
+    replies[..464].copy_from_slice(&key_reply());
+    replies[464..].copy_from_slice(&key_reply());
+    replies
 }
 
-/// Serves two requests up to a read or a write that fails. Returns whether just this is written before.
-fn fails_after(alloc: Global, reads: u64, writes: u64, wanted: &[u8]) -> bool {
-    match hub_of(alloc, &[b"a"], &[&HEAD, &KEY], 16) {
-        Some(mut hub) => {
-            let served = serve_two(alloc, &mut hub, TWICE, (reads, writes), wanted);
-            served == (Err(ServeFault::Device), true) && has_gone(&mut hub)
-        }
-        None => false,
-    }
+/// Serves two requests up to a read or a write that fails. Just this number of responses is written before.
+fn fails_after(rt: &impl Abort, alloc: Global, hub: &mut Hub, calls: (u64, u64), replies: usize)
+    requires { replies ≤ 2 }
+{
+    let whole = key_replies();
+    let wanted = (Err(ServeFault::Device), &whole[..464 * replies]);
+    check_served(rt, alloc, hub, TWICE, calls, wanted);
+    check_all(rt, alloc, hub, HAS_GONE);
 }
 
-/// Returns whether this number of responses is written before.
-fn fails_at(alloc: Global, reads: u64, writes: u64, replies: usize) -> Result<bool, AllocError> {
-    let wanted = key_replies(alloc, replies)?;
-    Ok(fails_after(alloc, reads, writes, &wanted))
-}
-
-#[test]
-fn each_write_fails(rt: HostRuntime) -> Result<(), Fail> {
-    let alloc = rt.alloc();
-    assert!(rt; fails_at(alloc, 1000, 0, 0)? && fails_at(alloc, 1000, 1, 1)?);
-    Ok(())
+/// Does so with a new hub.
+fn check_failure(rt: &impl Abort, alloc: Global, calls: (u64, u64), replies: usize)
+    requires { replies ≤ 2 }
+{
+    fails_after(rt, alloc, &mut hub_of_key(rt, alloc), calls, replies);
 }
 
 #[test]
-fn each_read_fails(rt: HostRuntime) -> Result<(), Fail> {
-    let alloc = rt.alloc();
+fn each_write_fails(rt: HostRuntime) {
+    check_failure(&rt, rt.alloc(), (1000, 0), 0);
+    check_failure(&rt, rt.alloc(), (1000, 1), 1);
+}
+
+#[test]
+fn each_read_fails(rt: HostRuntime) {
     for k in 0..38 {
-        assert!(rt; fails_at(alloc, k, 1000, 0)?);
-        assert!(rt; fails_at(alloc, 38 + k, 1000, 1)?);
+        check_failure(&rt, rt.alloc(), (k, 1000), 0);
+        check_failure(&rt, rt.alloc(), (38 + k, 1000), 1);
     }
-    assert!(rt; fails_at(alloc, 76, 1000, 2)?);
-    Ok(())
+    check_failure(&rt, rt.alloc(), (76, 1000), 2);
 }
 
-/// Returns whether a connection whose number is in use is refused, and nothing is read or written.
-fn turns_away(alloc: Global, hub: &mut Hub) -> bool {
+/// A connection whose number is in use is refused, and nothing is read or written.
+fn check_refused(rt: &impl Abort, alloc: Global, hub: &mut Hub) {
     let mut reader = Counted::new(SENT);
     let mut writer = Counted::new(Vec::new(alloc));
-    let served = serve_one(hub, 1, &mut reader, &mut writer);
-    served == Err(ServeFault::Hub(HubFault::AlreadyOpen))
-        && reader.into_inner() == SENT
-        && writer.into_inner().is_empty()
+    let end = serve_one(hub, 1, &mut reader, &mut writer);
+    let found = (end, reader.into_inner(), writer.into_inner().len());
+    equal!(rt; found, (Err(ServeFault::Hub(HubFault::AlreadyOpen)), SENT, 0));
+}
+
+/// Does so with a new hub.
+fn check_opening(rt: &impl Abort, alloc: Global) {
+    check_refused(rt, alloc, &mut hub_of_key(rt, alloc));
 }
 
 #[test]
-fn refused_opening_reads_nothing(rt: HostRuntime) -> Result<(), Fail> {
-    let Some(mut hub) = hub_of(rt.alloc(), &[b"a"], &[&HEAD, &KEY], 16) else {
-        return Err(Fail::new("there is no hub"));
-    };
-    assert!(rt; turns_away(rt.alloc(), &mut hub));
-    Ok(())
+fn refused_opening_reads_nothing(rt: HostRuntime) {
+    check_opening(&rt, rt.alloc());
 }
 
 /// A reader that gives the first request, and the second one only after something is written.
@@ -187,11 +182,8 @@ impl Write for Noting<'_> {
     }
 }
 
-/// Returns whether the first response is written before the bytes after its request are read.
-fn replies_before_reading(alloc: Global) -> bool {
-    let Some(mut hub) = hub_of(alloc, &[b"a"], &[&HEAD, &KEY], 16) else {
-        return false;
-    };
+/// The first response is written before the bytes after its request are read.
+fn check_turns(rt: &impl Abort, hub: &mut Hub) {
     let written = Cell::new(false);
     let mut reader = Counted::new(Asking {
         first: SENT,
@@ -199,11 +191,15 @@ fn replies_before_reading(alloc: Global) -> bool {
         written: &written,
     });
     let mut writer = Counted::new(Noting(&written));
-    serve_one(&mut hub, 2, &mut reader, &mut writer) == Ok(())
+    equal!(rt; serve_one(hub, 2, &mut reader, &mut writer), Ok(()));
+}
+
+/// Does so with a new hub.
+fn check_order(rt: &impl Abort, alloc: Global) {
+    check_turns(rt, &mut hub_of_key(rt, alloc));
 }
 
 #[test]
-fn replies_come_before_the_next_read(rt: HostRuntime) -> Result<(), Fail> {
-    assert!(rt; replies_before_reading(rt.alloc()));
-    Ok(())
+fn replies_come_before_the_next_read(rt: HostRuntime) {
+    check_order(&rt, rt.alloc());
 }
