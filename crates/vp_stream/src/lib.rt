@@ -15,7 +15,6 @@ mod seeking;
 mod shown_planes;
 mod stream;
 mod surveying;
-mod transcode_state;
 
 pub use answer::Answer;
 pub use cursor::Cursor;

@@ -5,7 +5,7 @@ use Rattle.vp_ivf.specs.declared.packet.IvfHead.{IvfHead}
 use Rattle.vp_decode.specs.Step.{Decoder, step, after}
 use Rattle.vp_stream.specs.declared.report.Report.{Report}
 use Rattle.vp_stream.specs.Transcode.{PictureWriter, TranscodeState, picture_to, shown_text}
-use Rattle.vp_stream.proofs.transcode_state.TranscodeState.packet.Goals as goal
+use Rattle.vp_stream.proofs.decoding.TranscodeState.packet.Goals as goal
 
 -- the decoder shows the packet's picture
 same_text : (decoder last : Decoder) (sizing : PictureWriter) (report : Report) (run : TranscodeState) (packet : List ℕ) (head : IvfHead)
