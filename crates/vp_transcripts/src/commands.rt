@@ -8,7 +8,7 @@
 use std::alloc::{AllocError, Global};
 use std::{fs, io};
 use vp_app::command;
-use vp_args::{EncodeOptions, ServeArgs, Task, read_args};
+use vp_args::{EncodeOptions, NamedFile, ServeArgs, Task, read_args};
 use vp_base::{Counted, Limits};
 use vp_commands::settings_of;
 use vp_encode::{EncodeAllFault, EncodeReport, Settings, encode_all};
@@ -17,7 +17,6 @@ use vp_scripts::{Found, Names, Script, limits, malformed};
 /// The state of the transcript commands for the command line: the limits of `limited`.
 #[derive(Drop)]
 pub(crate) struct Commands {
-    alloc: Global,
     limits: Limits,
 }
 
@@ -34,6 +33,14 @@ fn cut<'a>(line: &'a str, sign: &str) -> (&'a str, Option<&'a str>) {
         Some((line, name)) => (line, Some(name)),
         None => (line, None),
     }
+}
+
+/// Adds a line.
+pub(crate) fn tell_line(
+    line: Result<String, AllocError>,
+    found: &mut Found,
+) -> Result<(), AllocError> {
+    found.line(line?)
 }
 
 /// Prints bytes, if there are any, or stores them under a name.
@@ -74,15 +81,25 @@ fn run_over(rt: &HostRuntime, words: &[&str], input: &[u8]) -> Done {
     }
 }
 
-/// Returns the lines about faults without the hints under them, which begin with two spaces; usage errors as they are.
-fn without_hints(alloc: Global, errors: &[u8]) -> Result<Vec<u8>, AllocError> {
-    let mut lines = Vec::new(alloc);
+/// Splits a line into words.
+pub(crate) fn words_of<'a>(alloc: Global, line: &'a str) -> Result<Vec<&'a str>, AllocError> {
+    line.split(' ').collect(alloc)
+}
+
+/// Runs the program with the arguments in a line over an input.
+fn run_line(rt: &HostRuntime, line: &str, input: &[u8]) -> Result<Done, AllocError> {
+    let words = words_of(rt.alloc(), line)?;
+    Ok(run_over(rt, &words, input))
+}
+
+/// Appends the lines about faults without the hints under them, which begin with two spaces; usage errors as they are.
+fn add_without_hints(errors: &[u8], lines: &mut Vec<u8>) -> Result<(), AllocError> {
     for line in errors.split_inclusive(|byte| *byte == b'\n') {
         if errors.starts_with(b"error") || !line.starts_with(b"  ") {
             lines.extend_from_slice(line)?;
         }
     }
-    Ok(lines)
+    Ok(())
 }
 
 /// Returns the bytes of a name; none without a name.
@@ -93,95 +110,119 @@ fn input_of<'a>(names: &'a Names, name: Option<&str>) -> io::Result<&'a [u8]> {
     }
 }
 
-impl Commands {
-    pub(crate) fn new(alloc: Global) -> Commands {
-        Commands {
-            alloc,
-            limits: Limits::usual(),
-        }
-    }
+/// Prints the exit status of a run, and how many input bytes were left.
+fn tell_status(alloc: Global, done: &Done, found: &mut Found) -> Result<(), AllocError> {
+    tell_line(format!(in alloc; "status {}", done.status), found)?;
+    found.count_if_any("left", done.left as u64)
+}
 
-    /// Encodes a source with the arguments in a line, under the case's limits.
-    fn encode(&self, line: &str, names: &Names, found: &mut Found) -> io::Result<()> {
-        let (line, name) = line.split_once(" < ").ok_or(malformed())?;
-        let words: Vec<&str> = line.split(' ').collect(self.alloc)?;
-        let settings = asked(self.alloc, &words).ok_or(malformed())?;
-        let source = names.get(name)?;
-        encode_within(self.alloc, self.limits, settings, source, found)
-    }
+/// Prints the errors of a run without hints, or stores them under a name.
+fn tell_unhinted(
+    alloc: Global,
+    errors: &[u8],
+    name: Option<&str>,
+    names: &mut Names,
+    found: &mut Found,
+) -> io::Result<()> {
+    let mut lines = Vec::new(alloc);
+    add_without_hints(errors, &mut lines)?;
+    tell("errors", &lines, name, names, found)
+}
 
-    /// Runs the program with the arguments in a line.
-    fn run(
-        &self,
-        rt: &HostRuntime,
-        line: &str,
-        hints: Hints,
-        names: &mut Names,
-        found: &mut Found,
-    ) -> io::Result<()> {
-        let (line, errors) = cut(line, " 2> ");
-        let (line, output) = cut(line, " > ");
-        let (line, input) = cut(line, " < ");
-        let words: Vec<&str> = line.split(' ').collect(self.alloc)?;
-        let done = run_over(rt, &words, input_of(names, input)?);
-        match hints {
-            Hints::Shown => self.tell_done(&done, &done.errors, (output, errors), names, found),
-            Hints::LeftOut => {
-                let lines = without_hints(self.alloc, &done.errors)?;
-                self.tell_done(&done, &lines, (output, errors), names, found)
-            }
-        }
-    }
-
-    /// Prints the result of a run, or stores its output and these lines under these names.
-    fn tell_done(
-        &self,
-        done: &Done,
-        lines: &[u8],
-        (output, errors): (Option<&str>, Option<&str>),
-        names: &mut Names,
-        found: &mut Found,
-    ) -> io::Result<()> {
-        found.line(format!(in self.alloc; "status {}", done.status)?)?;
-        found.count_if_any("left", done.left as u64)?;
-        tell("output", &done.output, output, names, found)?;
-        tell("errors", lines, errors, names, found)
+/// Prints the result of a run, or stores its output and its errors under these names.
+fn tell_done(
+    alloc: Global,
+    (done, hints): (&Done, Hints),
+    (output, errors): (Option<&str>, Option<&str>),
+    names: &mut Names,
+    found: &mut Found,
+) -> io::Result<()> {
+    tell_status(alloc, done, found)?;
+    tell("output", &done.output, output, names, found)?;
+    match hints {
+        Hints::Shown => tell("errors", &done.errors, errors, names, found),
+        Hints::LeftOut => tell_unhinted(alloc, &done.errors, errors, names, found),
     }
 }
 
+/// Runs the program with the arguments in a line.
+fn run(
+    rt: &HostRuntime,
+    line: &str,
+    hints: Hints,
+    names: &mut Names,
+    found: &mut Found,
+) -> io::Result<()> {
+    let (line, errors) = cut(line, " 2> ");
+    let (line, output) = cut(line, " > ");
+    let (line, input) = cut(line, " < ");
+    let done = run_line(rt, line, input_of(names, input)?)?;
+    tell_done(rt.alloc(), (&done, hints), (output, errors), names, found)
+}
+
 /// Prints the settings that the options of `encode` select.
-fn tell_settings(alloc: Global, settings: &EncodeOptions, found: &mut Found) -> io::Result<()> {
+fn tell_settings(
+    alloc: Global,
+    settings: &EncodeOptions,
+    found: &mut Found,
+) -> Result<(), AllocError> {
     let (qi, level, sharpness) = (settings.qi, settings.level, settings.sharpness);
     let (key_every, golden_every) = (settings.key_every, settings.golden_every);
     let (range, partitions) = (settings.range, settings.partitions);
     let (simple, subpel) = (settings.simple, settings.subpel);
-    found.line(format!(in alloc; "qi {qi} filter {level} sharpness {sharpness} simple {simple}")?)?;
-    found.line(format!(in alloc; "key-every {key_every} golden-every {golden_every}")?)?;
-    found.line(format!(in alloc; "range {range} subpel {subpel} partitions {partitions}")?)?;
-    Ok(())
+    let filter = format!(in alloc; "qi {qi} filter {level} sharpness {sharpness} simple {simple}");
+    tell_line(filter, found)?;
+    let every = format!(in alloc; "key-every {key_every} golden-every {golden_every}");
+    tell_line(every, found)?;
+    let motion = format!(in alloc; "range {range} subpel {subpel} partitions {partitions}");
+    tell_line(motion, found)
+}
+
+/// Prints the name and the file of a stream.
+fn tell_file(alloc: Global, stream: &NamedFile<'_>, found: &mut Found) -> Result<(), AllocError> {
+    let (name, file) = (stream.name, stream.file);
+    tell_line(format!(in alloc; "stream {name} file {file}"), found)
 }
 
 /// Prints the values of the arguments of `serve`.
-fn tell_service(alloc: Global, service: &ServeArgs<'_>, found: &mut Found) -> io::Result<()> {
+fn tell_service(
+    alloc: Global,
+    service: &ServeArgs<'_>,
+    found: &mut Found,
+) -> Result<(), AllocError> {
     let (listen, connections) = (service.listen, service.connections);
     let (cache, show_address) = (service.cache, service.show_address);
-    found.line(format!(in alloc; "listen {listen} connections {connections}")?)?;
-    found.line(format!(in alloc; "cache {cache} show-address {show_address}")?)?;
+    let listens = format!(in alloc; "listen {listen} connections {connections}");
+    tell_line(listens, found)?;
+    let caches = format!(in alloc; "cache {cache} show-address {show_address}");
+    tell_line(caches, found)?;
     for stream in &service.streams {
-        let (name, file) = (stream.name, stream.file);
-        found.line(format!(in alloc; "stream {name} file {file}")?)?;
+        tell_file(alloc, stream, found)?;
     }
     Ok(())
 }
 
-/// Prints the task that the arguments ask for.
-fn tell_plan(alloc: Global, line: &str, found: &mut Found) -> io::Result<()> {
-    let words: Vec<&str> = line.split(' ').collect(alloc)?;
-    match read_args(alloc, &words) {
-        Ok(Task::Encode(encoding)) => tell_settings(alloc, &encoding.options, found),
-        Ok(Task::Serve(service)) => tell_service(alloc, &service, found),
+/// Prints a task.
+fn tell_task(alloc: Global, task: &Task<'_>, found: &mut Found) -> io::Result<()> {
+    match task {
+        Task::Encode(encoding) => Ok(tell_settings(alloc, &encoding.options, found)?),
+        Task::Serve(service) => Ok(tell_service(alloc, service, found)?),
         _ => Err(malformed()),
     }
+}
+
+/// Prints the task that these arguments ask for.
+fn tell_plan_of(alloc: Global, words: &[&str], found: &mut Found) -> io::Result<()> {
+    match read_args(alloc, words) {
+        Ok(task) => tell_task(alloc, &task, found),
+        Err(_) => Err(malformed()),
+    }
+}
+
+/// Prints the task that the arguments in a line ask for.
+fn tell_plan(alloc: Global, line: &str, found: &mut Found) -> io::Result<()> {
+    let words = words_of(alloc, line)?;
+    tell_plan_of(alloc, &words, found)
 }
 
 /// Returns the settings that the arguments of `encode` select.
@@ -192,18 +233,10 @@ fn asked(alloc: Global, words: &[&str]) -> Option<Settings> {
     }
 }
 
-/// Encodes a source under limits. Prints the report or the fault, and the number of bytes written.
-fn encode_within(
-    alloc: Global,
-    limits: Limits,
-    settings: Settings,
-    source: &[u8],
-    found: &mut Found,
-) -> io::Result<()> {
-    let mut reader = Counted::new(source);
-    let mut writer = Counted::new(Vec::new(alloc));
-    let done = encode_all(alloc, &mut reader, &mut writer, settings, limits);
-    tell_encoded(alloc, &done, writer.into_inner().len() as u64, found)
+/// Returns the settings that the arguments of `encode` in a line select.
+fn asked_in(alloc: Global, line: &str) -> Result<Option<Settings>, AllocError> {
+    let words = words_of(alloc, line)?;
+    Ok(asked(alloc, &words))
 }
 
 /// Prints the report or the fault, and the number of bytes written.
@@ -212,24 +245,109 @@ fn tell_encoded(
     done: &Result<EncodeReport, EncodeAllFault>,
     bytes: u64,
     found: &mut Found,
-) -> io::Result<()> {
-    match done {
+) -> Result<(), AllocError> {
+    let line = match done {
         Ok(report) => {
             let (frames, error) = (report.frames, report.error);
-            found.line(format!(in alloc; "frames {frames} error {error}")?)?;
+            format!(in alloc; "frames {frames} error {error}")
         }
-        Err(fault) => found.line(format!(in alloc; "refused {fault}")?)?,
-    }
-    Ok(found.count_if_any("bytes", bytes)?)
+        Err(fault) => format!(in alloc; "refused {fault}"),
+    };
+    tell_line(line, found)?;
+    found.count_if_any("bytes", bytes)
+}
+
+/// Encodes a source under limits. Prints the report or the fault, and the number of bytes written.
+fn encode_within(
+    alloc: Global,
+    limits: Limits,
+    settings: Settings,
+    source: &[u8],
+    found: &mut Found,
+) -> Result<(), AllocError> {
+    let mut reader = Counted::new(source);
+    let mut writer = Counted::new(Vec::new(alloc));
+    let done = encode_all(alloc, &mut reader, &mut writer, settings, limits);
+    tell_encoded(alloc, &done, writer.into_inner().len() as u64, found)
+}
+
+/// Encodes a source with the arguments in a line, under limits.
+fn encode(
+    alloc: Global,
+    limits: Limits,
+    line: &str,
+    names: &Names,
+    found: &mut Found,
+) -> io::Result<()> {
+    let (line, name) = line.split_once(" < ").ok_or(malformed())?;
+    let settings = asked_in(alloc, line)?.ok_or(malformed())?;
+    let source = names.get(name)?;
+    Ok(encode_within(alloc, limits, settings, source, found)?)
 }
 
 /// Prints the contents of a file, or stores them under a name.
+fn tell_contents(
+    bytes: &[u8],
+    name: Option<&str>,
+    names: &mut Names,
+    found: &mut Found,
+) -> io::Result<()> {
+    match name {
+        Some(name) => names.keep(name, bytes),
+        None => Ok(found.bytes("holds", bytes)?),
+    }
+}
+
+/// Reads a file, and prints its contents or stores them under a name.
 fn read(rt: &HostRuntime, line: &str, names: &mut Names, found: &mut Found) -> io::Result<()> {
     let (path, name) = cut(line, " > ");
-    match (fs::read(rt, path), name) {
-        (Ok(bytes), Some(name)) => names.keep(name, &bytes),
-        (Ok(bytes), None) => Ok(found.bytes("holds", &bytes)?),
-        (Err(_), _) => Ok(found.word("no file")?),
+    match fs::read(rt, path) {
+        Ok(bytes) => tell_contents(&bytes, name, names, found),
+        Err(_) => Ok(found.word("no file")?),
+    }
+}
+
+/// Prints the bytes of a text.
+fn show(text: &str, names: &Names, found: &mut Found) -> io::Result<()> {
+    let bytes = names.read(text)?;
+    Ok(found.bytes("bytes", &bytes)?)
+}
+
+/// Prints the MD5 of the bytes of a text.
+fn sum(text: &str, names: &Names, found: &mut Found) -> io::Result<()> {
+    let bytes = names.read(text)?;
+    Ok(found.sum(&bytes)?)
+}
+
+/// Carries out a command that needs no limits: a line of this word and the rest.
+fn carry_out(
+    rt: &HostRuntime,
+    (line, word, rest): (&str, &str, &str),
+    names: &mut Names,
+    found: &mut Found,
+) -> io::Result<()> {
+    match word {
+        "vp8" => run(rt, line, Hints::LeftOut, names, found),
+        "hinted" => run(rt, rest, Hints::Shown, names, found),
+        "plan" => tell_plan(rt.alloc(), rest, found),
+        "read" => read(rt, rest, names, found),
+        "show" => show(rest, names, found),
+        "sum" => sum(rest, names, found),
+        _ => Err(malformed()),
+    }
+}
+
+impl Commands {
+    pub(crate) fn new() -> Commands {
+        Commands {
+            limits: Limits::usual(),
+        }
+    }
+
+    /// Sets the limits of `limited`.
+    fn limit(&mut self, numbers: &str) -> io::Result<()> {
+        self.limits = limits(numbers)?;
+        Ok(())
     }
 }
 
@@ -246,18 +364,10 @@ impl Script for Commands {
         found: &mut Found,
     ) -> io::Result<()> {
         match line.split_once(' ') {
-            Some(("vp8", _)) => self.run(rt, line, Hints::LeftOut, names, found),
-            Some(("hinted", line)) => self.run(rt, line, Hints::Shown, names, found),
-            Some(("plan", words)) => tell_plan(self.alloc, words, found),
-            Some(("read", line)) => read(rt, line, names, found),
-            Some(("show", text)) => Ok(found.bytes("bytes", &names.read(text)?)?),
-            Some(("sum", text)) => Ok(found.sum(&names.read(text)?)?),
-            Some(("limited", words)) => self.encode(words, names, found),
-            Some(("limits", numbers)) => {
-                self.limits = limits(numbers)?;
-                Ok(())
-            }
-            _ => Err(malformed()),
+            Some(("limits", numbers)) => self.limit(numbers),
+            Some(("limited", words)) => encode(rt.alloc(), self.limits, words, names, found),
+            Some((word, rest)) => carry_out(rt, (line, word, rest), names, found),
+            None => Err(malformed()),
         }
     }
 }
