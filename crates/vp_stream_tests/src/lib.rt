@@ -15,6 +15,8 @@ mod damage;
 #[cfg(test)]
 mod files;
 #[cfg(test)]
+mod lines;
+#[cfg(test)]
 mod outcomes;
 #[cfg(test)]
 mod refs;
