@@ -9,7 +9,7 @@ use vp_base::Place;
 /// How far sums slide before all are made anew: by 64 macroblocks.
 pub(crate) const SLIDE: usize = 16 * 64;
 
-/// The sums of squares that are made: those of the first `columns` columns of the window around the macroblock at
+/// The sums of 8x8 squares that are made: those of the first `columns` columns of the window around the macroblock at
 /// `place`, from index `start` on.
 #[derive(Clone, Copy)]
 pub(crate) struct Kept {

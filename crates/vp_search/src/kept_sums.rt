@@ -17,14 +17,14 @@ use crate::window::{WINDOW_WIDTH, cut_window};
 use std::alloc::{AllocError, Global};
 use vp_base::{Place, Plane};
 
-/// What one search leaves for the next: the sums of the window's squares, where its best vector leads, and whether
-/// bounds excluded little; then a few macroblocks follow without sums. For the macroblock to the right of the one
+/// What one search leaves for the next: the sums of the pixels of the window's 8x8 squares, where its best vector leads,
+/// and whether bounds excluded little; then a few macroblocks follow without sums. For the macroblock to the right of the one
 /// before, only the sums of the new columns are made. Its memory is 84 KiB for range 64, 22 KiB for range 16.
 #[derive(Drop)]
 pub(crate) struct KeptSums {
     /// The pixels around the macroblock that was searched last.
     pub(crate) window: Vec<u8>,
-    /// The sums of a window's squares, and as many more as they slide.
+    /// The sums of a window's 8x8 squares, and as many more as they slide.
     pub(crate) sums: Vec<u16>,
     /// The coarse sums of all of them; none below a range of `LEAST_COARSE_RANGE`.
     pub(crate) coarse: Vec<u8>,
@@ -99,16 +99,16 @@ impl KeptSums {
             self.begin = spot_of(best.vector, range);
             return best;
         }
-        let moved = self.kept.moved_to(place);
+        let slid = self.kept.moved_to(place);
         let distance = place.column.saturating_sub(self.kept.place.column);
         let (sums, coarse) = (self.sums.as_mut_slice(), self.coarse.as_mut_slice());
-        fill_sums(sums, coarse, window.pixels, range, moved);
+        fill_sums(sums, coarse, window.pixels, range, slid);
         self.kept = Kept {
             columns: 2 * usize::from(range) + 9,
-            ..moved
+            ..slid
         };
-        let coarse_start = moved.start.min(self.coarse.len());
-        let summed = window.with_sums(&self.sums[moved.start..], &self.coarse[coarse_start..]);
+        let coarse_start = slid.start.min(self.coarse.len());
+        let summed = window.with_sums(&self.sums[slid.start..], &self.coarse[coarse_start..]);
         let Progress { best, unbounded } = summed.search(first, unbounded);
         self.unbounded = unbounded.macroblocks(distance);
         self.begin = spot_of(best.vector, range);

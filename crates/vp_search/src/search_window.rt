@@ -19,7 +19,7 @@ pub(crate) struct SearchWindow<'a, 's> {
     pub(crate) range: u8,
     /// Only vectors that cost less than this are sought; `u32::MAX` if all are.
     pub(crate) limit: u32,
-    /// The sums of the squares of both; None if no bounds are made.
+    /// The sums of the pixels of the 8x8 squares of both; None if no bounds are made.
     pub(crate) sums: Option<SquareSums<'s>>,
     ghost small: { range ≤ 64 },
     ghost room: { (2 * range + 16) * WINDOW_WIDTH ≤ length pixels.now },
@@ -32,7 +32,7 @@ impl<'a, 's> SearchWindow<'a, 's> {
     ghost use Rattle.vp_search.specs.Bounds.{IsSummed};
     ghost use Rattle.vp_search.specs.Coarse.{AreCoarse};
 
-    /// This window with sums: those of its squares that are made and, if there are any, its coarse sums. Not inlined:
+    /// This window with sums: those of its 8x8 squares that are made and, if there are any, coarse ones. Not inlined:
     /// else their places are computed anew for each group of vectors.
     #[inline(never)]
     pub(crate) fn with_sums<'b>(&self, places: &'b [u16], coarse: &'b [u8]) -> SearchWindow<'a, 'b>

@@ -3,12 +3,12 @@
 ghost use Rattle.std.specs.Prelude.{◌≡◌, ◌<◌, length};
 ghost use Rattle.vp_search.specs.Coarse.{AreCoarse};
 
-/// The sums of the squares of a block and of a window.
+/// The sums of the pixels of 8x8 squares, of a block and of a window.
 #[derive(Clone, Copy)]
 pub(crate) struct SquareSums<'a> {
     /// Those of the four squares of the block.
     pub(crate) block: [u16; 4],
-    /// Those of the squares at each place of the window.
+    /// That of the square at each place of the window.
     pub(crate) places: &'a [u16],
     /// Coarse sums of the squares of the block.
     pub(crate) coarse_block: [u8; 4],

@@ -31,8 +31,8 @@ pub(crate) struct Progress {
 }
 
 impl Unbounded {
-    /// None. A search without sums, all of whose rows have no bounds, begins with it too, and compares after four rows of
-    /// pixels.
+    /// None. A search without sums, all of whose rows have no bounds, begins with it too, and compares after four rows
+    /// of pixels.
     pub(crate) fn none() -> Unbounded {
         Unbounded {
             left: 0,
