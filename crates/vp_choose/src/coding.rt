@@ -50,8 +50,8 @@ fn luma_blocks(coding: &Coding, source: &[u8; 256], factors: &Factors) -> [Block
 }
 
 impl Coding {
-    /// Returns the levels of a macroblock with these source pixels: source minus prediction, quantised; luma's of B_PRED
-    /// are known.
+    /// Returns the levels of a macroblock with these source pixels: source minus prediction, quantised; luma's of
+    /// B_PRED are known.
     fn tokens(&self, source: &MacroblockPixels, factors: &Factors) -> Tokens
         requires factors { ArePositive factors.now }
         requires writable { IfSome self.now.subblocks (λ s. AreWritable false s.blocks) }
@@ -68,8 +68,8 @@ impl Coding {
         Tokens { blocks }
     }
 
-    /// Quantises source minus prediction, adds the residue to the prediction in the picture, and returns the choice, which
-    /// is skipped if it has no tokens. Luma of B_PRED, which is rebuilt already, is only stored.
+    /// Quantises source minus prediction, adds the residue to the prediction in the picture, and returns the choice,
+    /// which is skipped if it has no tokens. Luma of B_PRED, which is rebuilt already, is only stored.
     pub(crate) fn complete(
         &self,
         source: &MacroblockPixels,

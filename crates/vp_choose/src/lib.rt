@@ -1,6 +1,8 @@
 //! The encoder's choices for one macroblock: modes, motion vector and levels. RFC 6386 leaves all of them open.
 #![tactic(auto)]
 
+#[cfg(test)]
+mod check;
 mod chroma;
 mod coding;
 mod frame;

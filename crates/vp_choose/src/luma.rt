@@ -100,7 +100,8 @@ pub(crate) fn choose_luma_below(
     }
     let _known = picture.dim();
     let whole = choose_whole_luma(block, picture.plane(0), place);
-    // B_PRED costs 128 more than its subblocks. It is last in order, so it is chosen only if it costs less.
+    // B_PRED costs 128 more than its subblocks, as `luma_cost` defines. It is last in order, so it is chosen only if it
+    // costs less.
     let most = whole.cost.min(limit).saturating_sub(128);
     if let Some(rebuilt) = choose_subblocks(block, factors, picture, place, most) {
         let prediction = rebuilt.luma;

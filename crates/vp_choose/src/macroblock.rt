@@ -23,7 +23,7 @@ use crate::chroma::{IntraChroma, choose_chroma};
 use crate::coding::Coding;
 use crate::frame::{FrameSearch, Search};
 use crate::luma::{IntraLuma, choose_luma_below};
-use crate::motion::{Moved, motion_of};
+use crate::motion::{Moved, coded_motion};
 use vp_base::{Picture, Place};
 use vp_head::Reference;
 use vp_inter::{chroma_vector, luma_vector, predict_block8, predict_block16};
@@ -32,6 +32,9 @@ use vp_motion::{Motion, Vector, VectorMap};
 use vp_recon::MacroblockPixels;
 use vp_search::QuarterVector;
 use vp_tables::{ChromaMode, LumaMode, SubMode, VectorMode};
+
+/// The version of all frames that are encoded (RFC 6386, chapter 9.1): six-tap filters, and the normal loop filter.
+const VERSION: u8 = 0;
 
 /// Returns the intra coding of a macroblock whose luma is chosen.
 fn intra_coding(
@@ -77,7 +80,7 @@ fn intra_coding(
     }
 }
 
-/// Predicts an inter macroblock.
+/// Predicts an inter macroblock, as version 0 does: the encoder writes no other.
 fn inter_prediction(reference: &Picture, place: Place, vector: QuarterVector) -> MacroblockPixels
     requires columns { 16 * place.column ≤ 16384 }
     requires rows { 16 * place.row ≤ 16384 }
@@ -95,12 +98,12 @@ fn inter_prediction(reference: &Picture, place: Place, vector: QuarterVector) ->
     let _known = reference.dim();
     let [x, y] = [8 * place.column, 8 * place.row];
     let QuarterVector { row, column } = vector;
-    let vector = chroma_vector(0, &[row; 4], &[column; 4]);
-    let u = predict_block8(reference.plane(1), x, y, vector, 0);
-    let v = predict_block8(reference.plane(2), x, y, vector, 0);
+    let vector = chroma_vector(VERSION, &[row; 4], &[column; 4]);
+    let u = predict_block8(reference.plane(1), x, y, vector, VERSION);
+    let v = predict_block8(reference.plane(2), x, y, vector, VERSION);
     let vector = luma_vector(row, column);
     let [x, y] = [16 * place.column, 16 * place.row];
-    let luma = predict_block16(reference.plane(0), x, y, vector, 0);
+    let luma = predict_block16(reference.plane(0), x, y, vector, VERSION);
     MacroblockPixels { luma, u, v }
 }
 
@@ -120,7 +123,7 @@ fn inter_coding(search: &Search, vectors: &VectorMap, place: Place, moved: &Move
 {
     let reference = search.references.get(moved.reference);
     let prediction = inter_prediction(reference, place, moved.vector);
-    let motion = motion_of(vectors, place, moved);
+    let motion = coded_motion(vectors, place, moved);
     let modes = Modes {
         segment: 0,
         skip: false,

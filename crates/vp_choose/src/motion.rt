@@ -144,7 +144,7 @@ pub(crate) fn mode_of(candidates: &Candidates, vector: Vector) -> VectorMode
 }
 
 /// Returns the vector mode and the vectors that code the chosen motion.
-pub(crate) fn motion_of(vectors: &VectorMap, place: Place, moved: &Moved) -> Motion
+pub(crate) fn coded_motion(vectors: &VectorMap, place: Place, moved: &Moved) -> Motion
     requires place { Has vectors.now place }
     requires map { AreWithin 511 vectors.now }
     requires short { IsInSearchRange moved.now.vector }

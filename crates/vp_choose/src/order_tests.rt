@@ -3,6 +3,7 @@
 ghost use Rattle.std.specs.Prelude.{◌≡◌, ◌<◌, ◌≤◌};
 ghost use Rattle.vp_motion.specs.Vector.{IsWithin};
 
+use crate::check::equal;
 use crate::chroma::choose_chroma;
 use crate::frame::Search;
 use crate::luma::choose_luma_below;
@@ -145,8 +146,8 @@ fn square(alloc: Global, side: u16) -> Result<Picture, Fail> {
 #[test]
 fn subblocks_cost_128_more(rt: HostRuntime) -> Result<(), Fail> {
     let mut picture = square(rt.alloc(), 32)?;
-    assert!(rt; luma_mode(&nine_more(129), &mut picture, FIRST) == Some(LumaMode::H));
-    assert!(rt; luma_mode(&nine_more_with_slope(), &mut picture, FIRST) == Some(LumaMode::B));
+    equal!(&rt; luma_mode(&nine_more(129), &mut picture, FIRST), Some(LumaMode::H));
+    equal!(&rt; luma_mode(&nine_more_with_slope(), &mut picture, FIRST), Some(LumaMode::B));
     Ok(())
 }
 
@@ -162,11 +163,11 @@ fn subblocks_cost_128_more(rt: HostRuntime) -> Result<(), Fail> {
 #[test]
 fn ties_of_luma_modes(rt: HostRuntime) -> Result<(), Fail> {
     let mut picture = square(rt.alloc(), 32)?;
-    assert!(rt; luma_mode(&between(), &mut picture, FIRST) == Some(LumaMode::Dc));
+    equal!(&rt; luma_mode(&between(), &mut picture, FIRST), Some(LumaMode::Dc));
     surround(&mut picture, 0, 16, 101, [[100, 102], [100, 102]]);
-    assert!(rt; luma_mode(&woven::<16, 256>(), &mut picture, SECOND) == Some(LumaMode::V));
+    equal!(&rt; luma_mode(&woven::<16, 256>(), &mut picture, SECOND), Some(LumaMode::V));
     surround(&mut picture, 0, 16, 99, [[100, 100], [102, 102]]);
-    assert!(rt; luma_mode(&nine_more(103), &mut picture, SECOND) == Some(LumaMode::Tm));
+    equal!(&rt; luma_mode(&nine_more(103), &mut picture, SECOND), Some(LumaMode::Tm));
     Ok(())
 }
 
@@ -175,11 +176,11 @@ fn ties_of_luma_modes(rt: HostRuntime) -> Result<(), Fail> {
 #[test]
 fn ties_of_chroma_modes(rt: HostRuntime) -> Result<(), Fail> {
     let mut picture = square(rt.alloc(), 32)?;
-    assert!(rt; chroma_mode(&between(), &picture, FIRST) == Some(ChromaMode::Dc));
-    assert!(rt; chroma_mode(&[129; 64], &picture, FIRST) == Some(ChromaMode::H));
+    equal!(&rt; chroma_mode(&between(), &picture, FIRST), Some(ChromaMode::Dc));
+    equal!(&rt; chroma_mode(&[129; 64], &picture, FIRST), Some(ChromaMode::H));
     surround(&mut picture, 1, 8, 101, [[100, 102], [100, 102]]);
     surround(&mut picture, 2, 8, 101, [[100, 102], [100, 102]]);
-    assert!(rt; chroma_mode(&woven::<8, 64>(), &picture, SECOND) == Some(ChromaMode::V));
+    equal!(&rt; chroma_mode(&woven::<8, 64>(), &picture, SECOND), Some(ChromaMode::V));
     Ok(())
 }
 
@@ -207,11 +208,11 @@ fn first_mode_that_gives_a_vector(rt: HostRuntime) {
     };
     let other = Vector { row: 4, column: 0 };
     let still = Vector { row: 0, column: 0 };
-    assert!(rt; mode_of(&candidates(cut, cut), cut) == VectorMode::Nearest);
-    assert!(rt; mode_of(&candidates(cut, other), cut) == VectorMode::Nearest);
-    assert!(rt; mode_of(&candidates(other, cut), cut) == VectorMode::Near);
-    assert!(rt; mode_of(&candidates(other, other), cut) == VectorMode::New);
-    assert!(rt; mode_of(&candidates(still, still), still) == VectorMode::Zero);
+    equal!(&rt; mode_of(&candidates(cut, cut), cut), VectorMode::Nearest);
+    equal!(&rt; mode_of(&candidates(cut, other), cut), VectorMode::Nearest);
+    equal!(&rt; mode_of(&candidates(other, cut), cut), VectorMode::Near);
+    equal!(&rt; mode_of(&candidates(other, other), cut), VectorMode::New);
+    equal!(&rt; mode_of(&candidates(still, still), still), VectorMode::Zero);
 }
 
 /// An inter frame's header that replaces the last frame only.
@@ -310,9 +311,9 @@ fn spotted(alloc: Global) -> Result<Picture, Fail> {
 fn references_are_weighed_refined(rt: HostRuntime) -> Result<(), Fail> {
     let alloc = rt.alloc();
     let better_last = references(alloc, ramp(alloc, 0)?, spotted(alloc)?)?;
-    assert!(rt; reference_of(&better_last) == Reference::Last);
+    equal!(&rt; reference_of(&better_last), Reference::Last);
     let better_golden = references(alloc, spotted(alloc)?, ramp(alloc, 0)?)?;
-    assert!(rt; reference_of(&better_golden) == Reference::Golden);
+    equal!(&rt; reference_of(&better_golden), Reference::Golden);
     Ok(())
 }
 
@@ -321,7 +322,7 @@ fn references_are_weighed_refined(rt: HostRuntime) -> Result<(), Fail> {
 fn last_is_taken_before_golden(rt: HostRuntime) -> Result<(), Fail> {
     let alloc = rt.alloc();
     let equal = references(alloc, ramp(alloc, 2)?, ramp(alloc, 2)?)?;
-    assert!(rt; reference_of(&equal) == Reference::Last);
+    equal!(&rt; reference_of(&equal), Reference::Last);
     Ok(())
 }
 
@@ -330,8 +331,8 @@ fn last_is_taken_before_golden(rt: HostRuntime) -> Result<(), Fail> {
 fn golden_is_last_after_a_key_frame(rt: HostRuntime) -> Result<(), Fail> {
     let alloc = rt.alloc();
     let mut frames = Refs::of_key(Rc::new(alloc, square(alloc, 16)?)?)?;
-    assert!(rt; frames.golden_is_last());
+    equal!(&rt; frames.golden_is_last(), true);
     frames.update(&to_last(), Rc::new(alloc, square(alloc, 16)?)?)?;
-    assert!(rt; !frames.golden_is_last());
+    equal!(&rt; frames.golden_is_last(), false);
     Ok(())
 }

@@ -74,7 +74,8 @@ fn costs_of(block: &[u8; 16], predictions: &[[u8; 16]; 10]) -> [u32; 10]
     costs
 }
 
-/// Chooses the mode of one subblock, and rebuilds it. `short` are the factors of luma, made ready.
+/// Chooses the mode of one subblock, and rebuilds it. `place` is its own, in columns and rows of subblocks. `short` are
+/// the factors of luma, made ready.
 fn choose_subblock(
     source: &[u8; 16],
     factors: &Factors,

@@ -3,6 +3,7 @@
 ghost use Rattle.std.specs.Prelude.{◌≡◌, IfSome};
 
 use super::*;
+use crate::check::equal;
 use std::alloc::Global;
 use std::rc::Rc;
 use std::test::Fail;
@@ -56,7 +57,7 @@ fn is_bright(bytes: &[u8]) -> bool {
 }
 
 /// What the choice for a bright macroblock is.
-#[derive(Clone, Copy)]
+#[derive(Clone, Copy, Debug, PartialEq)]
 struct Seen {
     /// The modes of a flat picture brighter than the pixels around it.
     is_flat: bool,
@@ -114,7 +115,12 @@ fn is_flat(choice: &Choice) -> bool {
 #[test]
 fn encode_flat_bright(rt: HostRuntime) -> Result<(), Fail> {
     let seen = bright_choice(rt.alloc(), None)?;
-    assert!(rt; seen.is_flat && seen.is_bright);
+    let wanted = Seen {
+        is_flat: true,
+        is_still: false,
+        is_bright: true,
+    };
+    equal!(&rt; seen, wanted);
     Ok(())
 }
 
@@ -134,7 +140,12 @@ fn whole_search(references: &Refs) -> Search<'_>
 fn a_still_macroblock(rt: HostRuntime) -> Result<(), Fail> {
     let references = bright_references(rt.alloc(), 16)?;
     let seen = bright_choice(rt.alloc(), Some(whole_search(&references)))?;
-    assert!(rt; seen.is_still && seen.is_bright);
+    let wanted = Seen {
+        is_flat: false,
+        is_still: true,
+        is_bright: true,
+    };
+    equal!(&rt; seen, wanted);
     Ok(())
 }
 
@@ -143,7 +154,7 @@ fn a_still_macroblock(rt: HostRuntime) -> Result<(), Fail> {
 #[test]
 fn a_still_frame(rt: HostRuntime) -> Result<(), Fail> {
     let references = bright_references(rt.alloc(), 32)?;
-    assert!(rt; is_chosen_still(rt.alloc(), &references)?);
+    equal!(&rt; is_chosen_still(rt.alloc(), &references)?, true);
     Ok(())
 }
 

@@ -8,7 +8,7 @@ use Rattle.vp_motion.proofs.Sizes.{candidates-short, new-short}
 use Rattle.vp_motion.specs.Near.{candidates}
 use Rattle.vp_choose.specs.Frame.{no_biases}
 use Rattle.vp_choose.specs.Inter.{IsFirstGiving}
-use Rattle.vp_choose.proofs.motion.motion_of.Goals as goal
+use Rattle.vp_choose.proofs.motion.coded_motion.Goals as goal
 
 -- the first mode that gives a vector gives it
 first_gives : (c : Candidates) (v : Vector) (mode : VectorMode) → IsWithin 1023 (difference_of v c.best) → IsFirstGiving c v mode → GivesVector c mode v
