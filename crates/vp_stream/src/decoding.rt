@@ -103,7 +103,8 @@ impl TranscodeState {
 }
 
 /// Decodes an IVF file to its end, and writes each shown picture as soon as its packet is read. A packet that can't be
-/// decoded writes nothing, and decoding continues. As I420 each plane of a picture is written by a call of its own.
+/// decoded writes nothing, and decoding continues. As I420 a picture is written plane by plane, each by one call if the
+/// writer takes all.
 ///
 /// Errors: `DecodeFault`. If the form requires one size for all pictures, decoding ends before the first picture of
 /// another size than the first one.

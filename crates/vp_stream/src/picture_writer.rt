@@ -13,7 +13,7 @@ ghost use Rattle.vp_stream.specs.Transcode.{first_size, has_size, line_before, t
 use crate::fault::Interruption;
 use crate::form::Form;
 use crate::shown_planes::ShownPlanes;
-use std::alloc::Global;
+use std::alloc::{AllocError, Global};
 use std::io::Write;
 use std::marker::Model;
 use std::mem;
@@ -28,8 +28,8 @@ pub struct PictureWriter {
     alloc: Global,
     form: Form,
     size: Option<Dim>,
-    /// Memory for the pixels of the last picture that was copied to be written. It is used again for the next one of the
-    /// same size, and freed where no picture is written.
+    /// Memory for the pixels of the last picture that was copied to be written. It is used again for the next one of
+    /// the same size, and freed where no picture is written.
     text: Vec<u8>,
 }
 
@@ -84,8 +84,17 @@ impl PictureWriter {
         }
     }
 
-    // Writes a picture. As I420 it is written plane by plane, each by one call: where they are, without a copy, if all
-    // their columns are shown.
+    // Returns the I420 pixels of a picture, in the memory of those before.
+    fn cropped(&mut self, picture: &Picture) -> Result<Vec<u8>, AllocError>
+        ensures kept { self.new ≡ self.old }
+        ensures pixels { IfOk result (λ v. v.items ≡ i420 picture.now) }
+    {
+        let mut text = mem::replace(&mut self.text, Vec::new(self.alloc));
+        picture.crop_into(self.alloc, &mut text)?;
+        Ok(text)
+    }
+
+    // Writes a picture.
     fn write<W: Write>(
         &mut self,
         head: IvfHead,
@@ -104,45 +113,42 @@ impl PictureWriter {
         ensures quiet { result ≢ Err Interruption.Device →
             counted_failures writer.new ≡ counted_failures writer.old }
     {
-        if let Form::I420 = self.form {
-            if let Some(planes) = ShownPlanes::of(picture) {
-                planes.put(writer)?;
-                return Ok(());
+        match self.form {
+            Form::I420 => self.write_i420(picture, writer),
+            Form::Y4m => {
+                let text = self.cropped(picture)?;
+                let written = self.write_y4m(head, picture.dim(), &text, writer);
+                self.text = text;
+                written
             }
         }
-        let mut text = mem::replace(&mut self.text, Vec::new(self.alloc));
-        picture.crop_into(self.alloc, &mut text)?;
-        let written = self.write_text(head, picture, &text, writer);
-        self.text = text;
-        written
     }
 
-    // Writes a picture, given its I420 pixels.
-    fn write_text<W: Write>(
+    // Writes a picture plane by plane: without a copy, if all columns of its planes are shown.
+    fn write_i420<W: Write>(
         &mut self,
-        head: IvfHead,
         picture: &Picture,
-        text: &[u8],
         writer: &mut Counted<W>,
     ) -> Result<(), Interruption>
-        requires { text.now ≡ i420 picture.now }
-        ensures ok { OnOk result (self.new ≡ with_picture self.old picture.now) }
-        ensures fits { OnOk result (fits self.old picture.now ≡ true) }
-        ensures change { result ≡ Err Interruption.SizeChange → fits self.old picture.now ≡ false }
+        ensures kept { self.new ≡ self.old }
+        ensures refused { result ≢ Err Interruption.SizeChange }
         ensures written { OnOk result (Appends (counted_contents W.contents writer.old)
-            (counted_contents W.contents writer.new) (one_text self.old head picture.now)) }
+            (counted_contents W.contents writer.new) (i420 picture.now)) }
         ensures prefix { AppendsPrefix (counted_contents W.contents writer.old)
-            (counted_contents W.contents writer.new) (one_text self.old head picture.now) }
+            (counted_contents W.contents writer.new) (i420 picture.now) }
         ensures device { result ≡ Err Interruption.Device →
             HasFailed (counted_failures writer.old) (counted_failures writer.new) }
         ensures quiet { result ≢ Err Interruption.Device →
             counted_failures writer.new ≡ counted_failures writer.old }
     {
-        let dim = picture.dim();
-        match self.form {
-            Form::I420 => Ok(ShownPlanes::cut(dim, text).put(writer)?),
-            Form::Y4m => self.write_y4m(head, dim, text, writer),
+        if let Some(planes) = ShownPlanes::of(picture) {
+            planes.put(writer)?;
+            return Ok(());
         }
+        let text = self.cropped(picture)?;
+        let written = ShownPlanes::cut(picture.dim(), &text).put(writer);
+        self.text = text;
+        Ok(written?)
     }
 
     // Writes a picture after its frame line. The first picture is preceded by the file's header line.

@@ -58,7 +58,7 @@ impl<'a> ShownPlanes<'a> {
         ShownPlanes { y, u, v }
     }
 
-    /// Writes them as I420, each plane by one call. On `Device` a prefix of them is written; a failed write is not retried.
+    /// Writes them as I420, plane by plane. On `Device` a prefix of them is written; a failed write is not retried.
     pub(crate) fn put<W: Write>(&self, writer: &mut Counted<W>) -> Result<(), Device>
         ensures ok { OnOk result (Appends (counted_contents W.contents writer.old)
             (counted_contents W.contents writer.new) (self.now.y.now ++ self.now.u.now ++ self.now.v.now)) }
