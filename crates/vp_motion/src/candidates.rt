@@ -1,9 +1,8 @@
 //! The candidate vectors of a macroblock (RFC 6386, chapter 16.3).
 
-ghost use Rattle.std.specs.Prelude.{◌≡◌, ℕ, ◌+◌, ◌-◌, ◌*◌, ◌<◌, ◌≤◌, IfSome, pos, neg_ℤ, ◌≤ℤ◌};
+ghost use Rattle.std.specs.Prelude.{◌≡◌, ℕ, ◌+◌, ◌-◌, ◌*◌, ◌<◌, ◌≤◌, pos, neg_ℤ, ◌≤ℤ◌};
 ghost use Rattle.std.specs.Int.{from_bool};
-ghost use Rattle.vp_base.specs.Grid.{Has, look};
-ghost use Rattle.vp_motion.specs.Map.{intra};
+ghost use Rattle.vp_base.specs.Grid.{Has};
 ghost use Rattle.vp_motion.specs.Vector.{IsWithin};
 ghost use Rattle.vp_motion.specs.Near.{bias_corrected, bias_of, candidates, clamped, clamped_vector};
 ghost use Rattle.vp_motion.specs.Near.{negated, same, splits, split_count, weighted_neighbour};
@@ -15,17 +14,6 @@ use crate::packed::PackedVector;
 use crate::vector::{Candidates, MacroblockMotion, Nearby, Vector};
 use vp_base::Place;
 use vp_head::{Reference, SignBiases};
-
-/// The entry at an optional place, or the motion outside the frame.
-fn look(map: &VectorMap, place: Option<Place>) -> &MacroblockMotion
-    requires { IfSome place (Has map.now) }
-    ensures { result.now ≡ look intra map.now place }
-{
-    match place {
-        Some(place) => map.get(place),
-        None => map.outside(),
-    }
-}
 
 /// The lower bound of a clamped component, in quarter pixels. `macroblocks` counts those from the frame's left or top
 /// edge up to this one, inclusive.
@@ -177,7 +165,7 @@ pub(crate) fn nearby(
     ensures light { AreLight result }
 {
     let (above, corner) = map.row_above(place);
-    let left = look(map, place.left());
+    let left = map.left(place);
     count(
         seen_vector(reference, biases, above),
         seen_vector(reference, biases, left),
@@ -194,7 +182,7 @@ pub(crate) fn split_count(map: &VectorMap, place: Place) -> u8
     ensures light { result < 6 }
 {
     let (above, corner) = map.row_above(place);
-    let left = look(map, place.left());
+    let left = map.left(place);
     split_weight(above, 2) + split_weight(left, 2) + split_weight(corner, 1)
 }
 

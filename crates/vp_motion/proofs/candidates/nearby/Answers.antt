@@ -1,6 +1,4 @@
 use Rattle.std.proofs.Common.{◌∙◌, ◌++◌, ap}
-use Rattle.vp_base.specs.Grid.{look}
-use Rattle.vp_motion.specs.Map.{intra}
 use Rattle.vp_motion.specs.Vector.{MacroblockMotion}
 use Rattle.vp_motion.specs.Near.{candidates, clamped_vector, neighbours, split_count, weighted_neighbour}
 use Rattle.vp_motion.proofs.FirstTwo.{chosen, entries_are_chosen}
@@ -11,7 +9,7 @@ unfolding candidates neighbours
 returns-clause-value c =
     let by = λ (weight : _) (e : MacroblockMotion). weighted_neighbour c.args.reference c.args.biases weight e in
     let above = c.seen_vector.ensures 2 ∙ ap (by 2) c.row_above.ensures.above in
-    let left = c.seen_vector-2.ensures 2 ∙ ap (by 2) (c.look-left.ensures ∙ ap (look intra c.args.map.now) c.left.ensures.value) in
+    let left = c.seen_vector-2.ensures 2 ∙ ap (by 2) c.left-left.ensures in
     let corner = c.seen_vector-3.ensures 1 ∙ ap (by 1) c.row_above.ensures.corner in
     let clamp = clamped_vector c.args.map.now c.args.place in
     let splits = split_count c.args.map.now c.args.place in
