@@ -16,4 +16,4 @@ pub use laws::{
     unfiltered_picture_solves_its_equation,
 };
 pub use macroblock::{predict_macroblock, rebuild_macroblock, rebuild_subblock};
-pub use predictor::Predictor;
+pub use predictor::{Predictor, has_y2};
