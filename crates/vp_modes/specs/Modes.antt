@@ -1,6 +1,6 @@
 -- The mode syntax elements of a macroblock, in order (RFC 6386, chapters 10, 11, 16.1, 16.2 and 19.3). Pinned by the
 -- tests `all_ones_header` and `modes_of_a_picture`; inter frames by streams of other encoders in the gate.
-use Rattle.std.specs.Prelude.{ℕ, Bool, false, not, List, replicate, slice_set, Option, Some, None, if◌then◌else◌}
+use Rattle.std.specs.Prelude.{ℕ, Bool, false, not, List, replicate, slice_set, Option, if◌then◌else◌}
 use Rattle.std.specs.Option.{option_map_or}
 use Rattle.vp_base.specs.declared.place.Place.{Place}
 use Rattle.vp_base.specs.Grid.{Grid, at}

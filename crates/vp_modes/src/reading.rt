@@ -108,11 +108,12 @@ fn read_chroma(header: &Header, d: &mut BoolDecoder) -> ChromaMode
     ensures value { result ≡ (chroma_mode header.now d.old).0 }
     ensures rest { d.new ≡ (chroma_mode header.now d.old).1 }
 {
-    if header.key {
-        read_chroma_by(&KEY_CHROMA_PROBABILITIES, d)
+    let probabilities = if header.key {
+        &KEY_CHROMA_PROBABILITIES
     } else {
-        read_chroma_by(&header.probabilities.chroma, d)
-    }
+        &header.probabilities.chroma
+    };
+    read_chroma_by(probabilities, d)
 }
 
 /// The mode probabilities of subblock `k` of the macroblock at `place`. `found` contains its subblock modes before

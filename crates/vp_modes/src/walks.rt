@@ -1,5 +1,6 @@
 //! Reading the leaves of the mode trees (RFC 6386, chapter 8.1). The walks are unrolled, each pair of a tree an `if`: a
-//! loop over the table of a tree takes some 20 instructions more for each bool.
+//! loop over the table of a tree takes some 20 instructions more for each bool. They are inlined: a decoder that is lent
+//! to a function stays in registers in none of a row's macroblocks, which costs 40 instructions for each.
 
 ghost use Rattle.std.specs.Prelude.{◌≡◌};
 ghost use Rattle.vp_tree.specs.Tree.{walk_from};
@@ -11,6 +12,7 @@ use vp_tables::{
 
 /// Reads the luma mode of a macroblock of a key frame (chapter 11.2).
 #[tactic(auto, unfolding(vp_tree::specs::Tree::walk_from, vp_tree::specs::Tree::walk, vp_bool::specs::Reader::bind))]
+#[inline(always)]
 pub(crate) fn read_key_luma(d: &mut BoolDecoder) -> LumaMode
     ensures value { result ≡ (walk_from LumaMode.Dc KEY_LUMA_TREE KEY_LUMA_PROBABILITIES 0 d.old).0 }
     ensures rest { d.new ≡ (walk_from LumaMode.Dc KEY_LUMA_TREE KEY_LUMA_PROBABILITIES 0 d.old).1 }
@@ -32,6 +34,7 @@ pub(crate) fn read_key_luma(d: &mut BoolDecoder) -> LumaMode
 
 /// Reads the luma mode of an intra macroblock of an inter frame (chapter 16.1).
 #[tactic(auto, unfolding(vp_tree::specs::Tree::walk_from, vp_tree::specs::Tree::walk, vp_bool::specs::Reader::bind))]
+#[inline(always)]
 pub(crate) fn read_inter_luma(probabilities: &[u8; 4], d: &mut BoolDecoder) -> LumaMode
     ensures value { result ≡ (walk_from LumaMode.Dc LUMA_TREE probabilities.now 0 d.old).0 }
     ensures rest { d.new ≡ (walk_from LumaMode.Dc LUMA_TREE probabilities.now 0 d.old).1 }
@@ -53,6 +56,7 @@ pub(crate) fn read_inter_luma(probabilities: &[u8; 4], d: &mut BoolDecoder) -> L
 
 /// Reads a chroma mode (chapter 11.4).
 #[tactic(auto, unfolding(vp_tree::specs::Tree::walk_from, vp_tree::specs::Tree::walk, vp_bool::specs::Reader::bind))]
+#[inline(always)]
 pub(crate) fn read_chroma_by(probabilities: &[u8; 3], d: &mut BoolDecoder) -> ChromaMode
     ensures value { result ≡ (walk_from ChromaMode.Dc CHROMA_TREE probabilities.now 0 d.old).0 }
     ensures rest { d.new ≡ (walk_from ChromaMode.Dc CHROMA_TREE probabilities.now 0 d.old).1 }
