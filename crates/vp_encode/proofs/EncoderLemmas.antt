@@ -1,5 +1,5 @@
 -- What an encoder's packet says is what was chosen, and what it leaves is what the encoder keeps.
-use Rattle.std.proofs.Common.{◌≡◌, ◌∙◌, ℕ, zero, ◌*◌, ◌<◌, ◌≤◌, true, false, List, [], ◌∷◌, map, min, refl, sym, ap, subst, arith, inl, inr}
+use Rattle.std.proofs.Common.{◌≡◌, ◌∙◌, ℕ, ◌*◌, ◌<◌, ◌≤◌, true, false, List, [], ◌∷◌, map, min, refl, sym, ap, subst, arith, inl, inr}
 use Rattle.std.specs.Prelude.{◌⊎◌, Option, Some, None, IfSome, Ok, not, ◌==◌}
 use Rattle.std.proofs.lemmas.Bool.{cases_Bool}
 use Rattle.vp_base.specs.declared.limits.Dim.{Dim}

@@ -1,5 +1,5 @@
 -- A packet that was put together is opened: its tag, its first partition and its token partitions.
-use Rattle.std.proofs.Common.{◌≡◌, ◌∙◌, ℕ, ◌+◌, ◌*◌, ◌/◌, ◌%◌, ◌^◌, ◌<◌, ◌≤◌, List, [], ◌∷◌, ◌++◌, length, sym, ap, arith, ◌-◌, true, take, drop, refl, subst, append_assoc, length-append}
+use Rattle.std.proofs.Common.{◌≡◌, ◌∙◌, ℕ, ◌+◌, ◌*◌, ◌/◌, ◌%◌, ◌^◌, ◌<◌, ◌≤◌, List, [], ◌∷◌, ◌++◌, length, sym, ap, arith, true, take, drop, refl, subst, append_assoc, length-append}
 use Rattle.std.specs.Prelude.{Some, None, Ok, ◌==◌, Option, IfSome}
 use Rattle.std.proofs.lemmas.Bool.{le-ltb}
 use Rattle.vp_base.specs.declared.limits.Dim.{Dim}

@@ -1,5 +1,5 @@
 -- How the tokens of a frame are written, row after row, and what is read of them.
-use Rattle.std.proofs.Common.{◌≡◌, ◌∙◌, ℕ, zero, suc, ◌+◌, ◌-◌, ◌%◌, ◌<◌, Bool, true, List, [], ◌∷◌, ◌++◌, length, replicate, map, refl, sym, ap, subst, arith, inl, inr, get_or, length-append, add-one}
+use Rattle.std.proofs.Common.{◌≡◌, ◌∙◌, ℕ, zero, suc, ◌+◌, ◌-◌, ◌%◌, ◌<◌, Bool, true, false, not, ◌||◌, List, [], ◌∷◌, ◌++◌, length, replicate, map, refl, sym, ap, subst, arith, inl, inr, get_or, length-append, add-one}
 use Rattle.std.specs.Prelude.{slice_index_or, slice_set, Option, Some, None, unwrap_or}
 use Rattle.std.proofs.lemmas.Bool.{cases_Bool, cases_lt, cases_eq}
 use Rattle.std.proofs.lemmas.List.{length-set, get_or-set_same, get_or-set_other, length-replicate, ext_get_or, length-map, get_or-map}
@@ -15,11 +15,15 @@ use Rattle.vp_bool.proofs.WritingLemmas.{reads-append, probabilities-append, pro
 use Rattle.vp_base.specs.declared.place.Place.{Place}
 use Rattle.vp_base.specs.Grid.{Grid, Has, at, entry, with_entry}
 use Rattle.vp_base.proofs.OverLemmas.{over-none, over-more}
+use Rattle.vp_tables.specs.Modes.{is_by_subblocks, is_split}
 use Rattle.vp_head.specs.Reference.{is_intra}
+use Rattle.vp_motion.specs.Vector.{MacroblockMotion}
+use Rattle.vp_motion.specs.Map.{intra}
 use Rattle.vp_refs.specs.References.{References}
 use Rattle.vp_recon.specs.Predictor.{has_y2 as source_has_y2}
 use Rattle.vp_tokens.specs.declared.contexts.Tokens.{Tokens}
 use Rattle.vp_tokens.specs.Blocks.{Blocks, blocks_of, macroblock}
+use Rattle.vp_tokens.specs.Spelled.{AreSpelled}
 use Rattle.vp_tokens.specs.Contexts.{Contexts, AreContextsAt, right}
 use Rattle.vp_tokens.proofs.Steps.{row_begins}
 use Rattle.vp_decode.specs.MacroblockInfo.{place}
@@ -28,7 +32,9 @@ use Rattle.vp_decode.specs.TokenRows.{tokens_at, seen_read, row_seen, row_tokens
 use Rattle.vp_decode.proofs.TokenGrid.{tokens_in_turn, rests_in_turn}
 use Rattle.vp_choose.specs.declared.frame.Choice.{Choice}
 use Rattle.vp_encode.specs.declared.coded_frame.CodedFrame.{CodedFrame}
-use Rattle.vp_encode.specs.CodedFrame.{nothing, coded_choice, saved_motion, choice_has_y2}
+use Rattle.vp_encode.specs.CodedFrame.{nothing, coded_choice, saved_motion, choice_has_y2, IsInterPlain, AreTokensSpelled}
+use Rattle.vp_encode.specs.FrameChoices.{IsMotionOf}
+use Rattle.vp_encode.proofs.RasterOrder.{in_rows}
 use Rattle.vp_encode.specs.PacketContents.{HasFinalZero}
 use Rattle.vp_encode.specs.Written.{finished, partition_of_bools, IsPlanOf, IsTokenRow, AllRead, AreTokenRows, AreTokens, none_seen}
 
@@ -46,6 +52,10 @@ closed_by xs = record {
 
 -- ---- what a plan of the frame reads at a place
 
+or_none : (b : Bool) → not (b || false) ≡ not b
+or_none true = refl
+or_none false = refl
+
 source_y2 : (references : Option References) (version : ℕ) (x : Choice) → (references ≡ None → is_intra x.modes.reference ≡ true)
     → source_has_y2 (predictor_by references version x.modes (saved_motion x)) ≡ choice_has_y2 x
 source_y2 None version x own = let e : is_intra x.modes.reference ≡ true = own refl in rw e refl
@@ -56,6 +66,29 @@ unfolding predictor_at
 plan_y2 c f p plan inside =
     (λ i. source_has_y2 (predictor_by f.references f.version (plan.maps.modes p inside i) (plan.maps.motion p inside i)))
     ∙ source_y2 f.references f.version (coded_choice c p) (λ none. plan.own none p inside)
+
+-- an inter macroblock has no luma mode, and an intra macroblock no vectors
+mode_y2 : (x : Choice) → (is_intra x.modes.reference ≡ false → is_by_subblocks x.modes.luma ≡ false)
+    → not (is_split (saved_motion x).mode || is_by_subblocks x.modes.luma) ≡ choice_has_y2 x
+unfolding intra
+mode_y2 x plain = elim (cases_Bool (is_intra x.modes.reference)) [
+  | inl own ↦ rw own refl
+  | inr inter ↦ rw (inter, plain inter) (or_none (is_split x.motion.mode))
+]
+
+pub y2_at : (c : CodedFrame) (p : Place) (x : Choice) (k : Grid MacroblockMotion) (m : MacroblockMotion) (y2 : Bool) → IsMotionOf c.macroblocks k → IsInterPlain c
+    → Has c.macroblocks p → entry c.macroblocks p ≡ Some x → entry k p ≡ Some m → y2 ≡ not (is_split m.mode || is_by_subblocks x.modes.luma) → y2 ≡ choice_has_y2 x
+y2_at c p x k m y2 motion plain inside is held y2_is =
+    let same : coded_choice c p ≡ x = ap (λ o. unwrap_or o nothing) is in
+    let moved : m ≡ saved_motion x = ap (λ o. unwrap_or o intra) (sym held) ∙ motion.moved p inside (in_rows p c.macroblocks.rows inside.row) ∙ ap saved_motion same in
+    y2_is ∙ (λ i. not (is_split (moved i).mode || is_by_subblocks x.modes.luma))
+    ∙ mode_y2 x (λ inter. subst (λ (z : Choice). is_by_subblocks z.modes.luma ≡ false) same (plain p inside (subst (λ (z : Choice). is_intra z.modes.reference ≡ false) (sym same) inter)))
+
+pub spelled_at : (c : CodedFrame) (p : Place) (x : Choice) (y2 : Bool) → AreTokensSpelled c → Has c.macroblocks p → entry c.macroblocks p ≡ Some x → y2 ≡ choice_has_y2 x
+    → AreSpelled y2 x.tokens.blocks
+spelled_at c p x y2 spelled inside is y2_is =
+    subst (λ (b : Bool). AreSpelled b x.tokens.blocks) (sym y2_is)
+    (subst (λ (z : Choice). AreSpelled (choice_has_y2 z) z.tokens.blocks) (ap (λ o. unwrap_or o nothing) is) (spelled.blocks p inside))
 
 plan_tokens : (c : CodedFrame) (f : FrameInfo) (p : Place) (g : Grid Blocks) → IsPlanOf c f → Has c.macroblocks p
     → macroblock c.header.probabilities.coefficients g p (choice_has_y2 (coded_choice c p)) (coded_choice c p).modes.skip ≡ tokens_at f p g

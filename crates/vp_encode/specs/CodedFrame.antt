@@ -55,6 +55,11 @@ abbrev pub AreModesSpelled : CodedFrame → Grid Modes → Type 0
 AreModesSpelled c before = (p : Place) → Has c.macroblocks p → modes.AreWritableModes c.header before p
     (coded_choice c p).modes
 
+-- an inter macroblock has no luma mode, so that it is not B_PRED
+abbrev pub IsInterPlain : CodedFrame → Type 0
+IsInterPlain c = (p : Place) → Has c.macroblocks p → is_intra (coded_choice c p).modes.reference ≡ false
+    → is_by_subblocks (coded_choice c p).modes.luma ≡ false
+
 -- the vectors can be written, relative to those of the macroblocks above and to the left
 abbrev pub IsMotionSpelled : CodedFrame → Type 0
 IsMotionSpelled c = (p : Place) → Has c.macroblocks p → is_intra (coded_choice c p).modes.reference ≡ false

@@ -4,7 +4,6 @@ ghost use Rattle.std.specs.Prelude.{◌≡◌, length};
 ghost use Rattle.vp_encode.specs.EncodeProgress.{start, TakesPicture};
 
 use crate::encoder::Encoder;
-use crate::fault::EncodeFault;
 use crate::report::{EncodeAllFault, EncodeReport, EncodedSoFar};
 use std::alloc::Global;
 use std::marker::Model;
@@ -64,9 +63,7 @@ impl EncodeProgress {
         }
         let encoded = match self.encoder.encode(picture) {
             Ok(encoded) => encoded,
-            Err(EncodeFault::SourceSize) => unreachable!(),
-            Err(EncodeFault::TooLong) => return Err(EncodeAllFault::TooLong),
-            Err(EncodeFault::Memory) => return Err(EncodeAllFault::Memory),
+            Err(fault) => return Err(EncodeAllFault::of_picture(fault)),
         };
         if encoded.packet.len() > self.limits.packet_bytes as usize {
             return Err(EncodeAllFault::PacketTooLarge);

@@ -74,7 +74,8 @@ pub(crate) fn choose_frame(
     requires height { source.now.height ≡ dim.h }
     requires segments { IfSome (option_map (λ k. k.now) kept) (λ k. AreUnsegmented dim k.segments) }
     ensures header { IfOk result (λ f. f.coded.header ≡ header_over
-        (context_over dim (option_map (λ k. k.now) kept.entry)).saved (is_none kept.entry) refresh_golden settings.now) }
+        (context_over dim (option_map (λ k. k.now) kept.entry)).saved (is_none kept.entry) refresh_golden
+        settings.now) }
     ensures chosen { IfOk result (λ f. AreChosen (frame_over (option_map
         (λ k. k.now) kept.entry) settings.now source.now) f.coded.macroblocks) }
     ensures motion { IfOk result (λ f. IsMotionOf f.coded.macroblocks f.motion) }

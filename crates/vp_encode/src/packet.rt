@@ -111,7 +111,7 @@ pub(crate) fn write_packet(
     if first.len() > MOST_FIRST {
         return Err(PacketError::TooLong);
     }
-    let parts = write_tokens(alloc, coded)?;
+    let parts = write_tokens(alloc, coded, motion)?;
     put_together(alloc, key, &first, &parts)
 }
 

@@ -1,9 +1,11 @@
 //! The report and the faults of encoding a file.
 
-ghost use Rattle.std.specs.Prelude.{◌≡◌, Some};
+ghost use Rattle.std.specs.Prelude.{◌≡◌, ◌≢◌, Some};
+ghost use Rattle.vp_encode.specs.declared.fault.EncodeFault.{EncodeFault};
+ghost use Rattle.vp_encode.specs.declared.report.EncodeAllFault.{EncodeAllFault};
 ghost use Rattle.vp_encode.specs.Names.{encode_fault_name};
 
-use crate::fault::SettingsFault;
+use crate::fault::{EncodeFault, SettingsFault};
 use std::alloc::AllocError;
 use std::fmt;
 use vp_base::Device;
@@ -54,6 +56,21 @@ pub enum EncodeAllFault {
     Device,
     /// Out of memory.
     Memory,
+}
+
+impl EncodeAllFault {
+    /// Returns the fault of a file of which a picture of the encoder's size can't be encoded.
+    pub fn of_picture(fault: EncodeFault) -> EncodeAllFault
+        requires { fault ≢ EncodeFault.SourceSize }
+        ensures too_long { fault ≡ EncodeFault.TooLong → result ≡ EncodeAllFault.TooLong }
+        ensures memory { fault ≡ EncodeFault.Memory → result ≡ EncodeAllFault.Memory }
+    {
+        match fault {
+            EncodeFault::SourceSize => unreachable!(),
+            EncodeFault::TooLong => EncodeAllFault::TooLong,
+            EncodeFault::Memory => EncodeAllFault::Memory,
+        }
+    }
 }
 
 /// Writes the fault's name.

@@ -8,38 +8,31 @@ ghost use Rattle.vp_tokens.specs.Contexts.{AreContextsAt};
 ghost use Rattle.vp_tokens.specs.Partitions.{lists};
 ghost use Rattle.vp_decode.specs.MacroblockInfo.{place};
 ghost use Rattle.vp_decode.specs.Frame.{FrameInfo};
-ghost use Rattle.vp_encode.specs.CodedFrame.{AreTokensSpelled, choice_has_y2};
+ghost use Rattle.vp_encode.specs.CodedFrame.{AreTokensSpelled, IsInterPlain};
+ghost use Rattle.vp_encode.specs.FrameChoices.{IsMotionOf};
 ghost use Rattle.vp_encode.specs.Written.{IsPlanOf, IsTokenRow, AreTokenRows, none_seen, finished, AreTokenPartitions};
 
 use crate::coded_frame::CodedFrame;
 use std::alloc::{AllocError, Global};
 use vp_base::Place;
 use vp_bool::BoolEncoder;
-use vp_choose::Choice;
 use vp_decode::partition_count;
+use vp_motion::VectorMap;
+use vp_recon::has_y2;
 use vp_tokens::{Contexts, write_macroblock};
-
-/// Returns whether a macroblock has a Y2 block: not with B_PRED or split vectors (RFC 6386, chapter 13). A choice has no
-/// `Predictor`, whose `has_y2` says the same: that needs the reference frames, which aren't needed to write.
-fn has_y2(macroblock: &Choice) -> bool
-    ensures { result ≡ choice_has_y2 macroblock.now }
-{
-    if macroblock.modes.reference.is_intra() {
-        !macroblock.modes.luma.is_by_subblocks()
-    } else {
-        !macroblock.motion.mode.is_split()
-    }
-}
 
 /// Writes the tokens of a row of macroblocks into the row's partition.
 fn write_token_row(
     coded: &CodedFrame,
+    motion: &VectorMap,
     row: usize,
     contexts: &mut Contexts,
     e: &mut BoolEncoder,
 ) -> Result<(), AllocError>
     requires row { row < coded.now.macroblocks.rows }
     requires columns { length contexts.old.above ≡ coded.now.macroblocks.columns }
+    requires motion { IsMotionOf coded.now.macroblocks motion.now }
+    requires plain { IsInterPlain coded.now }
     requires spelled { AreTokensSpelled coded.now }
     ensures row { OnOk result ((f : FrameInfo) (g : Grid Blocks) → IsPlanOf coded.now f
         → g.columns ≡ coded.now.macroblocks.columns → g.rows ≡ coded.now.macroblocks.rows
@@ -50,12 +43,13 @@ fn write_token_row(
     for column in 0..coded.macroblocks.columns() {
         let place = Place { column, row };
         let macroblock = coded.macroblocks.get(place);
+        let modes = &macroblock.modes;
         write_macroblock(
             &coded.header.probabilities.coefficients,
             contexts,
             place,
-            has_y2(macroblock),
-            macroblock.modes.skip,
+            has_y2(modes.luma, motion.get(place).mode),
+            modes.skip,
             &macroblock.tokens,
             e,
         )?;
@@ -66,6 +60,7 @@ fn write_token_row(
 /// Writes the tokens of all rows. Row r goes into partition r modulo the number of partitions (RFC 6386, chapter 9.5).
 fn write_token_rows(
     coded: &CodedFrame,
+    motion: &VectorMap,
     contexts: &mut Contexts,
     encoders: &mut [BoolEncoder],
 ) -> Result<(), AllocError>
@@ -74,6 +69,8 @@ fn write_token_rows(
     requires stands { (rows : ℕ) → AreContextsAt (none_seen coded.now.macroblocks.columns rows)
         (place 0 0) contexts.old }
     requires empty { (i : ℕ) → i < length encoders.old → slice_index_or encoders.old i whole_interval ≡ whole_interval }
+    requires motion { IsMotionOf coded.now.macroblocks motion.now }
+    requires plain { IsInterPlain coded.now }
     requires spelled { AreTokensSpelled coded.now }
     ensures { OnOk result ((f : FrameInfo) → IsPlanOf coded.now f
         → AreTokenRows f coded.now coded.now.macroblocks.rows contexts.new encoders.new) }
@@ -81,7 +78,7 @@ fn write_token_rows(
     for row in 0..coded.macroblocks.rows() {
         let at = row % encoders.len();
         let encoder = &mut encoders[at];
-        write_token_row(coded, row, contexts, encoder)?;
+        write_token_row(coded, motion, row, contexts, encoder)?;
     }
     Ok(())
 }
@@ -119,9 +116,15 @@ fn finish_all(alloc: Global, encoders: Vec<BoolEncoder>) -> Result<Vec<Vec<u8>>,
     Ok(parts)
 }
 
-/// Returns the token partitions of a frame, as many as its header says.
-pub(crate) fn write_tokens(alloc: Global, coded: &CodedFrame) -> Result<Vec<Vec<u8>>, AllocError>
+/// Returns the token partitions of a frame with this motion, as many as its header says.
+pub(crate) fn write_tokens(
+    alloc: Global,
+    coded: &CodedFrame,
+    motion: &VectorMap,
+) -> Result<Vec<Vec<u8>>, AllocError>
     requires few { coded.now.header.log2_partitions ≤ 3 }
+    requires motion { IsMotionOf coded.now.macroblocks motion.now }
+    requires plain { IsInterPlain coded.now }
     requires spelled { AreTokensSpelled coded.now }
     ensures parts { IfOk result (λ v. AreTokenPartitions coded.now (lists v.items)) }
     ensures some { IfOk result (λ v. 0 < length v.items) }
@@ -129,7 +132,7 @@ pub(crate) fn write_tokens(alloc: Global, coded: &CodedFrame) -> Result<Vec<Vec<
 {
     let mut contexts = Contexts::new(alloc, coded.macroblocks.columns())?;
     let mut encoders = new_encoders(alloc, partition_count(coded.header.log2_partitions))?;
-    write_token_rows(coded, &mut contexts, &mut encoders)?;
+    write_token_rows(coded, motion, &mut contexts, &mut encoders)?;
     let parts = finish_all(alloc, encoders)?;
     Ok(parts)
 }

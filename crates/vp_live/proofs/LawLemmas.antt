@@ -18,11 +18,7 @@ use Rattle.vp_encode.specs.File.{Work, HasDone, HasOneMore, IsEndedBehind, encod
 use Rattle.vp_encode.specs.Playing.{answers_from_state, bytes_of}
 use Rattle.vp_encode.proofs.PlayingLemmas.{plays}
 use Rattle.vp_live.specs.Live.{IsRefused, IsHeadFault, IsNextFault, IsLiveEnded, live_file}
-use Rattle.vp_live.specs.Laws.{DifferInCount, LiveFilesAreEncoded, LiveFaultsAreEncodes, LiveFilesPlayBack}
-
-count_differs : (w h rate scale a b : ℕ) (rest : List ℕ) → DifferInCount (head_text w h rate scale a ++ rest) (head_text w h rate scale b ++ rest)
-unfolding head_text
-count_differs w h rate scale a b rest = record { front = refl; back = refl }
+use Rattle.vp_live.specs.Laws.{LiveFilesAreEncoded, LiveFaultsAreEncodes, LiveFilesPlayBack}
 
 head_alike : (w h rate scale count : ℕ) (rest : List ℕ) → next_head (head_text w h rate scale count ++ rest) ≡ Ok (Some (parsed_ivf_head (head_text w h rate scale 0 ++ rest)))
 unfolding head_text next_head
@@ -43,7 +39,12 @@ count_unread max n w h rate scale a b rest =
 pub are_encoded : LiveFilesAreEncoded
 are_encoded limits settings report file before after live =
     let w = live.work in (
-      count_differs w.head.w w.head.h w.head.rate w.head.scale 0 _ (packets_text (map timed (enumerate_from 0 (map packet_of w.frames)))),
+      record {
+        head = record { w = w.head.w; h = w.head.h; rate = w.head.rate; scale = w.head.scale };
+        packets = map timed (enumerate_from 0 (map packet_of w.frames));
+        first = (0, refl);
+        second = (_, refl);
+      },
       record { work = w; done = live.done; whole = live.whole; frames = live.frames; error = live.error; writes = refl },
     )
 

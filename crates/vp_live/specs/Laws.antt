@@ -1,9 +1,12 @@
 -- The statements of the laws of live files: how they relate to what `encode_all` writes and returns, and what they
 -- show. Pinned by the test `live_file_of_two_frames`.
-use Rattle.std.specs.Prelude.{◌≡◌, ◌≢◌, ℕ, List, [], Option, None, Some, Ok, take, drop, map}
+use Rattle.std.specs.Prelude.{◌≡◌, ◌≢◌, ℕ, List, [], Option, None, Some, Ok, map}
 use Rattle.vp_base.specs.declared.limits.Limits.{Limits}
+use Rattle.vp_ivf.specs.declared.packet.IvfHead.{IvfHead}
+use Rattle.vp_ivf.specs.declared.packet.Packet.{Packet}
 use Rattle.vp_ivf.specs.Ivf.{Contents, read_file}
 use Rattle.vp_ivf.specs.Reader.{finish_answer}
+use Rattle.vp_ivf.specs.Text.{file_text}
 use Rattle.vp_encode.specs.declared.settings.Settings.{Settings}
 use Rattle.vp_encode.specs.declared.report.EncodeReport.{EncodeReport}
 use Rattle.vp_encode.specs.declared.report.EncodeAllFault.{EncodeAllFault}
@@ -12,10 +15,12 @@ use Rattle.vp_encode.specs.File.{Work, IsDone, IsEncodeReported, IsEndedBehind, 
 use Rattle.vp_encode.specs.Playing.{FitsLimits, answers_from_state, bytes_of, shown}
 use Rattle.vp_live.specs.Live.{IsLiveReported, IsLiveEnded, live_file}
 
--- the files differ in bytes 24 to 27 alone, which are the head's number of packets
+-- files of the same head and the same packets, whose number in the head may differ
 pub record DifferInCount (a b : List ℕ) : Type 0 where
-  pub front : take 24 a ≡ take 24 b
-  pub back : drop 28 a ≡ drop 28 b
+  pub head : IvfHead
+  pub packets : List Packet
+  pub first : (count : ℕ) × (a ≡ file_text head count packets)
+  pub second : (count : ℕ) × (b ≡ file_text head count packets)
 
 -- A live file that ended well differs in the head's number of packets alone from a file that is a right result of
 -- `encode_all` for the same source, with the same report.

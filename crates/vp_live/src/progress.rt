@@ -9,7 +9,7 @@ use crate::writing::write_packet;
 use std::io::Write;
 use std::marker::Model;
 use vp_base::{Counted, Limits, Picture};
-use vp_encode::{EncodeAllFault, EncodeFault, EncodeReport, Encoded, EncodedSoFar, Encoder};
+use vp_encode::{EncodeAllFault, EncodeReport, Encoded, EncodedSoFar, Encoder};
 
 /// An encoder, the number of the packets that it made, the sum of their lengths, and that of their squared errors.
 #[derive(Drop)]
@@ -78,9 +78,7 @@ impl LiveProgress {
         }
         let encoded = match self.encoder.encode(picture) {
             Ok(encoded) => encoded,
-            Err(EncodeFault::SourceSize) => unreachable!(),
-            Err(EncodeFault::TooLong) => return Err(EncodeAllFault::TooLong),
-            Err(EncodeFault::Memory) => return Err(EncodeAllFault::Memory),
+            Err(fault) => return Err(EncodeAllFault::of_picture(fault)),
         };
         if encoded.packet.len() > self.limits.packet_bytes as usize {
             return Err(EncodeAllFault::PacketTooLarge);

@@ -1,7 +1,12 @@
 use Rattle.std.proofs.Common.{◌<◌, ◌^◌, length, ap, arith, inl, inr}
 use Rattle.std.proofs.lemmas.Result.{IfOk-weaker, IfErr-weaker}
+use Rattle.vp_tables.specs.Modes.{is_by_subblocks}
+use Rattle.vp_modes.specs.Entry.{Modes}
 use Rattle.vp_tokens.specs.Partitions.{lists}
 use Rattle.vp_encode.proofs.packet.write_packet.Goals as goal
+
+pub write_tokens-requires-clause-plain : goal.write_tokens-requires-clause-plain
+write_tokens-requires-clause-plain c = λ p inside inter. ap (λ (m : Modes). is_by_subblocks m.luma) ((c.requires.told.modes p inside).inter inter)
 
 pub put_together-requires-clause-first : goal.put_together-requires-clause-first
 put_together-requires-clause-first c = omega (arith, ap length c.deref.ensures.value, c.in_ok-first.first.ok.0, c.len.ensures, c.if-len-gt-MOST_FIRST.false)
