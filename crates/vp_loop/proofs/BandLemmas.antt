@@ -3,21 +3,17 @@ use Rattle.std.proofs.Common.{◌≡◌, ℕ, zero, suc, ◌+◌, ◌-◌, ◌*�
 use Rattle.std.proofs.lemmas.Bool.Decides.{nat_tests}
 use Rattle.vp_base.specs.Raster.{Raster}
 use Rattle.vp_base.specs.Over.{over}
+use Rattle.vp_loop.specs.declared.edges.Orientation.{Orientation}
+use Rattle.vp_loop.specs.declared.edges.Orientation.TheVariants.{Vertical, Horizontal}
 use Rattle.vp_loop.specs.declared.lines.LineStep.{LineStep}
 use Rattle.vp_loop.specs.declared.limits.EdgeLimits.{EdgeLimits}
-use Rattle.vp_loop.specs.Edges.{Orientation, vertical, horizontal, line_step, edge_lines, inner_edges, outer_step, inner_step, own_edge, edges_inside, block_edges, block_filtered}
-use Rattle.vp_loop.specs.Laws.{columns_of, rows_of}
+use Rattle.vp_loop.specs.Edges.{pick, line_step, edge_lines, inner_edges, outer_step, inner_step, own_edge, edges_inside, block_edges, block_filtered}
 
--- how far above a macroblock its lines may begin
-abbrev pub reach : Orientation → ℕ
-reach vertical = 0
-reach horizontal = 4
-
--- a line that ends before column right and row bottom, and begins at row top at the earliest, or so far above it
-pub record IsInBand (right top bottom : ℕ) (orientation : Orientation) (x y : ℕ) : Type 0 where
-  pub columns : x + columns_of orientation ≤ right
-  pub rows : y + rows_of orientation ≤ bottom
-  pub begins : top ≤ y + reach orientation
+-- n lines that end before column right and row bottom, and begin at row top at the earliest, or down columns four rows above
+pub record IsInBand (right top bottom : ℕ) (orientation : Orientation) (n x y : ℕ) : Type 0 where
+  pub columns : x + pick orientation 8 n ≤ right
+  pub rows : y + pick orientation n 8 ≤ bottom
+  pub begins : top ≤ y + pick orientation 0 4
 
 -- a macroblock of so many pixels each way in that band
 pub record IsBlockIn (right top bottom size x y : ℕ) : Type 0 where
@@ -28,6 +24,26 @@ pub record IsBlockIn (right top bottom size x y : ℕ) : Type 0 where
   pub rows : y + size ≤ bottom
   pub begins : top ≤ y
 
+module _ (right top bottom : ℕ) where
+  line_in : (orientation : Orientation) (n x y m : ℕ) → IsInBand right top bottom orientation n x y → m < n
+      → IsInBand right top bottom orientation 1 (pick orientation x (x + m)) (pick orientation (y + m) y)
+  line_in Vertical n x y m fits below = record { columns = omega arith; rows = omega arith; begins = omega arith }
+  line_in Horizontal n x y m fits below = record { columns = omega arith; rows = omega arith; begins = omega arith }
+
+  inner_in : (orientation : Orientation) (size x y i : ℕ) → IsBlockIn right top bottom size x y → i < size / 4 - 1
+      → IsInBand right top bottom orientation size (pick orientation (x + 4 * i) x) (pick orientation y (y + 4 * i))
+  inner_in Vertical size x y i fits below = record { columns = omega arith; rows = omega arith; begins = omega arith }
+  inner_in Horizontal size x y i fits below = record { columns = omega arith; rows = omega arith; begins = omega arith }
+
+  own_in : (orientation : Orientation) (size x y : ℕ) → IsBlockIn right top bottom size x y → nat_lt 0 (pick orientation x y) ≡ true
+      → IsInBand right top bottom orientation size (pick orientation (x - 4) x) (pick orientation y (y - 4))
+  own_in Vertical size x y fits e =
+      let left : 4 ≤ x = fits.left (grind (arith, nat_tests)) in
+      record { columns = omega arith; rows = omega arith; begins = omega arith }
+  own_in Horizontal size x y fits e =
+      let high : 4 ≤ y = fits.high (grind (arith, nat_tests)) in
+      record { columns = omega arith; rows = omega arith; begins = omega arith }
+
 module _ (P : (Raster → Raster) → Type 0) (same : P (λ p. p)) (next : (f g : Raster → Raster) → P f → P g → P (λ p. g (f p))) where
   pub holds-over : (n : ℕ) (f : ℕ → Raster → Raster) → ((m : ℕ) → m < n → P (f m)) → P (λ p. over n f p)
   unfolding over
@@ -35,69 +51,38 @@ module _ (P : (Raster → Raster) → Type 0) (same : P (λ p. p)) (next : (f g 
   holds-over (suc n) f each =
       next (λ p. over n f p) (f n) (holds-over n f (λ m below. each m (let i : m < suc n = omega arith in i))) (each n (omega arith))
 
-  pub holds-when : (b : Bool) (f : Raster → Raster) → (b ≡ true → P f) → P (λ p. cond b (f p) p)
+  holds-when : (b : Bool) (f : Raster → Raster) → (b ≡ true → P f) → P (λ p. cond b (f p) p)
   holds-when true f a = a refl
   holds-when false f a = same
 
-  module _ (right top bottom : ℕ) (line : (orientation : Orientation) (step : LineStep) (x y : ℕ) → IsInBand right top bottom orientation x y → P (λ p. line_step orientation step x y p)) where
-    holds-vertical : (step : LineStep) (n x y : ℕ) → x + 8 ≤ right → y + n ≤ bottom → top ≤ y → P (λ p. edge_lines vertical step n x y p)
+  module _ (right top bottom : ℕ) (line : (orientation : Orientation) (step : LineStep) (x y : ℕ) → IsInBand right top bottom orientation 1 x y → P (λ p. line_step orientation step x y p)) where
+    holds-lines : (orientation : Orientation) (step : LineStep) (n x y : ℕ) → IsInBand right top bottom orientation n x y → P (λ p. edge_lines orientation step n x y p)
     unfolding edge_lines
-    holds-vertical step n x y columns rows begins =
-        holds-over n (λ j. line_step vertical step x (y + j)) (λ m below. line vertical step x (y + m) (record { columns = columns; rows = omega arith; begins = omega arith }))
+    holds-lines orientation step n x y fits =
+        holds-over n (λ k. line_step orientation step (pick orientation x (x + k)) (pick orientation (y + k) y))
+        (λ m below. line orientation step (pick orientation x (x + m)) (pick orientation (y + m) y) (line_in right top bottom orientation n x y m fits below))
 
-    holds-horizontal : (step : LineStep) (n x y : ℕ) → x + n ≤ right → y + 8 ≤ bottom → top ≤ y + 4 → P (λ p. edge_lines horizontal step n x y p)
-    unfolding edge_lines
-    holds-horizontal step n x y columns rows begins =
-        holds-over n (λ j. line_step horizontal step (x + j) y) (λ m below. line horizontal step (x + m) y (record { columns = omega arith; rows = rows; begins = begins }))
-
-    holds-inner_vertical : (step : LineStep) (size x y : ℕ) → x + size ≤ right → y + size ≤ bottom → top ≤ y → P (λ p. inner_edges vertical step size x y p)
+    holds-inner : (orientation : Orientation) (step : LineStep) (size x y : ℕ) → IsBlockIn right top bottom size x y → P (λ p. inner_edges orientation step size x y p)
     unfolding inner_edges
-    holds-inner_vertical step size x y columns rows begins =
-        holds-over (size / 4 - 1) (λ i. edge_lines vertical step size (x + 4 * i) y) (λ m below. holds-vertical step size (x + 4 * m) y (omega arith) rows begins)
+    holds-inner orientation step size x y fits =
+        holds-over (size / 4 - 1) (λ i. edge_lines orientation step size (pick orientation (x + 4 * i) x) (pick orientation y (y + 4 * i)))
+        (λ i below. holds-lines orientation step size (pick orientation (x + 4 * i) x) (pick orientation y (y + 4 * i)) (inner_in right top bottom orientation size x y i fits below))
 
-    holds-inner_horizontal : (step : LineStep) (size x y : ℕ) → x + size ≤ right → y + size ≤ bottom → top ≤ y → P (λ p. inner_edges horizontal step size x y p)
-    unfolding inner_edges
-    holds-inner_horizontal step size x y columns rows begins =
-        holds-over (size / 4 - 1) (λ i. edge_lines horizontal step size x (y + 4 * i)) (λ m below. holds-horizontal step size x (y + 4 * m) columns (omega arith) (omega arith))
-
-    holds-inside_vertical : (size : ℕ) (limits : EdgeLimits) (x y : ℕ) → IsBlockIn right top bottom size x y → P (λ p. edges_inside vertical limits size x y p)
-    holds-inside_vertical size limits x y fits = go limits.inner
-      where
-        go : (inner : Option ℕ) → P (λ p. edges_inside vertical (record limits { inner = inner }) size x y p)
-        go None = same
-        go (Some limit) = holds-inner_vertical (inner_step limits limit) size x y fits.columns fits.rows fits.begins
-
-    holds-inside_horizontal : (size : ℕ) (limits : EdgeLimits) (x y : ℕ) → IsBlockIn right top bottom size x y → P (λ p. edges_inside horizontal limits size x y p)
-    holds-inside_horizontal size limits x y fits = go limits.inner
-      where
-        go : (inner : Option ℕ) → P (λ p. edges_inside horizontal (record limits { inner = inner }) size x y p)
-        go None = same
-        go (Some limit) = holds-inner_horizontal (inner_step limits limit) size x y fits.columns fits.rows fits.begins
-
-    holds-edges_vertical : (size : ℕ) (limits : EdgeLimits) (x y : ℕ) → IsBlockIn right top bottom size x y → P (λ p. block_edges vertical size limits x y p)
+    holds-edges : (orientation : Orientation) (size : ℕ) (limits : EdgeLimits) (x y : ℕ) → IsBlockIn right top bottom size x y → P (λ p. block_edges orientation size limits x y p)
     unfolding block_edges
-    holds-edges_vertical size limits x y fits =
-        let big = fits.big in
-        let columns = fits.columns in
-        let left = fits.left in
-        next (λ p. own_edge vertical (outer_step limits) size x y p) (λ p. edges_inside vertical limits size x y p)
-        (holds-when (nat_lt 0 x) (edge_lines vertical (outer_step limits) size (x - 4) y) (λ e. holds-vertical (outer_step limits) size (x - 4) y (grind (arith, nat_tests)) fits.rows fits.begins))
-        (holds-inside_vertical size limits x y fits)
-
-    holds-edges_horizontal : (size : ℕ) (limits : EdgeLimits) (x y : ℕ) → IsBlockIn right top bottom size x y → P (λ p. block_edges horizontal size limits x y p)
-    unfolding block_edges
-    holds-edges_horizontal size limits x y fits =
-        let big = fits.big in
-        let rows = fits.rows in
-        let high = fits.high in
-        let begins = fits.begins in
-        next (λ p. own_edge horizontal (outer_step limits) size x y p) (λ p. edges_inside horizontal limits size x y p)
-        (holds-when (nat_lt 0 y) (edge_lines horizontal (outer_step limits) size x (y - 4)) (λ e. holds-horizontal (outer_step limits) size x (y - 4) fits.columns (grind (arith, nat_tests)) (omega arith)))
-        (holds-inside_horizontal size limits x y fits)
+    holds-edges orientation size limits x y fits =
+        next (λ p. own_edge orientation (outer_step limits) size x y p) (λ p. edges_inside orientation limits size x y p)
+        (holds-when (nat_lt 0 (pick orientation x y)) (edge_lines orientation (outer_step limits) size (pick orientation (x - 4) x) (pick orientation y (y - 4)))
+        (λ e. holds-lines orientation (outer_step limits) size (pick orientation (x - 4) x) (pick orientation y (y - 4)) (own_in right top bottom orientation size x y fits e)))
+        (inside limits.inner)
+      where
+        inside : (inner : Option ℕ) → P (λ p. edges_inside orientation (record limits { inner = inner }) size x y p)
+        inside None = same
+        inside (Some limit) = holds-inner orientation (inner_step limits limit) size x y fits
 
     pub holds-block : (size : ℕ) (limits : Option EdgeLimits) (x y : ℕ) → IsBlockIn right top bottom size x y → P (λ p. block_filtered size limits x y p)
     unfolding block_filtered
     holds-block size None x y fits = same
     holds-block size (Some limits) x y fits =
-        next (λ p. block_edges vertical size limits x y p) (λ p. block_edges horizontal size limits x y p)
-        (holds-edges_vertical size limits x y fits) (holds-edges_horizontal size limits x y fits)
+        next (λ p. block_edges Vertical size limits x y p) (λ p. block_edges Horizontal size limits x y p)
+        (holds-edges Vertical size limits x y fits) (holds-edges Horizontal size limits x y fits)

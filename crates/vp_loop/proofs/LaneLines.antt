@@ -41,10 +41,10 @@ up_is x t = let e : int_min (pos 255) (int_max (pos 0) (pos x +ℤ t)) ≡ clamp
 down_is : (x : ℕ) (t : ℤ) → clamp_to_byte (pos x -ℤ t) ≡ pixel_from (signed x -ℤ t)
 down_is x t = let e : int_min (pos 255) (int_max (pos 0) (pos x -ℤ t)) ≡ clamp8 (signed x -ℤ t) +ℤ pos 128 = omega (arith, ints, clamps) in ap unsigned_abs e
 
-pub up_zero : (x : ℕ) → x < 256 → clamp_to_byte (pos x +ℤ pos 0) ≡ x
+up_zero : (x : ℕ) → x < 256 → clamp_to_byte (pos x +ℤ pos 0) ≡ x
 up_zero x h = let e : int_min (pos 255) (int_max (pos 0) (pos x +ℤ pos 0)) ≡ pos x = omega (arith, ints, clamps) in ap unsigned_abs e
 
-pub down_zero : (x : ℕ) → x < 256 → clamp_to_byte (pos x -ℤ pos 0) ≡ x
+down_zero : (x : ℕ) → x < 256 → clamp_to_byte (pos x -ℤ pos 0) ≡ x
 down_zero x h = let e : int_min (pos 255) (int_max (pos 0) (pos x -ℤ pos 0)) ≡ pos x = omega (arith, ints, clamps) in ap unsigned_abs e
 
 -- ---- what the lanes compute: m is the mask, outer whether p1 and q1 pull too
@@ -70,26 +70,46 @@ eighth_is outer l k = ap (λ a. eighth a k) (pull_is outer l)
 half_is : (outer : Bool) (l : Line) → lane_half true outer l ≡ outer_tap_adjustment outer l
 half_is outer l = ap (λ f. cond outer (pos 0) (floor_div (f +ℤ pos 1) 2)) (eighth_is outer l (pos 4))
 
-half_zero : (outer : Bool) (l : Line) → lane_half false outer l ≡ pos 0
-half_zero true l = refl
-half_zero false l = refl
-
 share_is : (l : Line) (k : ℤ) → lane_share true true l k ≡ weighted_filter_value k l
 share_is l k = ap (λ w. clamp8 (floor_div (w *ℤ k +ℤ pos 63) 128)) (pull_is true l)
+
+-- ---- a pull that changes no pixel
+
+abbrev pub HasNoEighth : ℤ → Type 0
+HasNoEighth z = (floor_div (clamp8 (z +ℤ pos 3)) 8 ≡ pos 0) × (floor_div (clamp8 (z +ℤ pos 4)) 8 ≡ pos 0)
+
+abbrev share : ℤ → ℤ → ℤ
+share z k = clamp8 (floor_div (z *ℤ k +ℤ pos 63) 128)
+
+abbrev pub HasNoShare : ℤ → Type 0
+HasNoShare z = (share z (pos 9) ≡ pos 0) × (share z (pos 18) ≡ pos 0) × (share z (pos 27) ≡ pos 0)
+
+up_none : (x : ℕ) (t : ℤ) → x < 256 → t ≡ pos 0 → clamp_to_byte (pos x +ℤ t) ≡ x
+up_none x t h e = ap (λ z. clamp_to_byte (pos x +ℤ z)) e ∙ up_zero x h
+
+down_none : (x : ℕ) (t : ℤ) → x < 256 → t ≡ pos 0 → clamp_to_byte (pos x -ℤ t) ≡ x
+down_none x t h e = ap (λ z. clamp_to_byte (pos x -ℤ z)) e ∙ down_zero x h
+
+either_none : (b : Bool) (s t : ℤ) → s ≡ pos 0 → t ≡ pos 0 → cond b s t ≡ pos 0
+either_none true s t e f = e
+either_none false s t e f = f
 
 -- the simple step
 abbrev pub lane_drawn : Bool → Line → Line
 lane_drawn m l = record l { p0 = clamp_to_byte (pos l.p0 +ℤ lane_eighth m true l (pos 3)); q0 = clamp_to_byte (pos l.q0 -ℤ lane_eighth m true l (pos 4)) }
+
+pub drawn_same : (m : Bool) (l : Line) → l.p0 < 256 → l.q0 < 256 → HasNoEighth (lane_pull m true l) → lane_drawn m l ≡ l
+drawn_same m l b0 c0 none =
+    let e0 = up_none l.p0 (lane_eighth m true l (pos 3)) b0 none.0 in
+    let f0 = down_none l.q0 (lane_eighth m true l (pos 4)) c0 none.1 in
+    λ i. record l { p0 = e0 i; q0 = f0 i }
 
 pub drawn_is : (m : Bool) (l : Line) → l.p0 < 256 → l.q0 < 256 → lane_drawn m l ≡ cond m (common_adjusted true l) l
 drawn_is true l b0 c0 =
     let a = ap (λ t. clamp_to_byte (pos l.p0 +ℤ t)) (eighth_is true l (pos 3)) ∙ up_is l.p0 (eighth (filter_value true l) (pos 3)) in
     let c = ap (λ t. clamp_to_byte (pos l.q0 -ℤ t)) (eighth_is true l (pos 4)) ∙ down_is l.q0 (eighth (filter_value true l) (pos 4)) in
     λ i. record l { p0 = a i; q0 = c i }
-drawn_is false l b0 c0 =
-    let a = up_zero l.p0 b0 in
-    let c = down_zero l.q0 c0 in
-    λ i. record l { p0 = a i; q0 = c i }
+drawn_is false l b0 c0 = drawn_same false l b0 c0 (refl, refl)
 
 -- the inner step
 abbrev pub lane_inner : Bool → Bool → Line → Line
@@ -100,6 +120,15 @@ lane_inner m high l = record l {
   q1 = clamp_to_byte (pos l.q1 -ℤ lane_half m high l);
 }
 
+pub inner_same : (m high : Bool) (l : Line) → l.p1 < 256 → l.p0 < 256 → l.q0 < 256 → l.q1 < 256 → HasNoEighth (lane_pull m high l) → lane_inner m high l ≡ l
+inner_same m high l b1 b0 c0 c1 none =
+    let half : lane_half m high l ≡ pos 0 = either_none high (pos 0) (floor_div (lane_eighth m high l (pos 4) +ℤ pos 1) 2) refl (ap (λ z. floor_div (z +ℤ pos 1) 2) none.1) in
+    let e1 = up_none l.p1 (lane_half m high l) b1 half in
+    let e0 = up_none l.p0 (lane_eighth m high l (pos 3)) b0 none.0 in
+    let f0 = down_none l.q0 (lane_eighth m high l (pos 4)) c0 none.1 in
+    let f1 = down_none l.q1 (lane_half m high l) c1 half in
+    λ i. record l { p1 = e1 i; p0 = e0 i; q0 = f0 i; q1 = f1 i }
+
 pub inner_is : (m high : Bool) (l : Line) → l.p1 < 256 → l.p0 < 256 → l.q0 < 256 → l.q1 < 256 → lane_inner m high l ≡ cond m (subblock_edge_filtered high l) l
 inner_is true high l b1 b0 c0 c1 =
     let e1 = ap (λ t. clamp_to_byte (pos l.p1 +ℤ t)) (half_is high l) ∙ up_is l.p1 (outer_tap_adjustment high l) in
@@ -107,12 +136,7 @@ inner_is true high l b1 b0 c0 c1 =
     let f0 = ap (λ t. clamp_to_byte (pos l.q0 -ℤ t)) (eighth_is high l (pos 4)) ∙ down_is l.q0 (eighth (filter_value high l) (pos 4)) in
     let f1 = ap (λ t. clamp_to_byte (pos l.q1 -ℤ t)) (half_is high l) ∙ down_is l.q1 (outer_tap_adjustment high l) in
     λ i. record l { p1 = e1 i; p0 = e0 i; q0 = f0 i; q1 = f1 i }
-inner_is false high l b1 b0 c0 c1 =
-    let e1 = ap (λ t. clamp_to_byte (pos l.p1 +ℤ t)) (half_zero high l) ∙ up_zero l.p1 b1 in
-    let e0 = up_zero l.p0 b0 in
-    let f0 = down_zero l.q0 c0 in
-    let f1 = ap (λ t. clamp_to_byte (pos l.q1 -ℤ t)) (half_zero high l) ∙ down_zero l.q1 c1 in
-    λ i. record l { p1 = e1 i; p0 = e0 i; q0 = f0 i; q1 = f1 i }
+inner_is false high l b1 b0 c0 c1 = inner_same false high l b1 b0 c0 c1 (refl, refl)
 
 -- the step over the edge of a macroblock
 abbrev pub lane_outer : Bool → Bool → Line → Line
@@ -125,12 +149,20 @@ lane_outer m high l = record l {
   q2 = clamp_to_byte (pos l.q2 -ℤ cond high (pos 0) (lane_share m true l (pos 9)));
 }
 
-unchanged : (l : Line) (high : Bool) → l.p2 < 256 → l.p1 < 256 → l.p0 < 256 → l.q0 < 256 → l.q1 < 256 → l.q2 < 256 → lane_outer false high l ≡ l
-unchanged l high b2 b1 b0 c0 c1 c2 = go high
-  where
-    go : (high : Bool) → lane_outer false high l ≡ l
-    go true = λ i. record l { p2 = up_zero l.p2 b2 i; p1 = up_zero l.p1 b1 i; p0 = up_zero l.p0 b0 i; q0 = down_zero l.q0 c0 i; q1 = down_zero l.q1 c1 i; q2 = down_zero l.q2 c2 i }
-    go false = λ i. record l { p2 = up_zero l.p2 b2 i; p1 = up_zero l.p1 b1 i; p0 = up_zero l.p0 b0 i; q0 = down_zero l.q0 c0 i; q1 = down_zero l.q1 c1 i; q2 = down_zero l.q2 c2 i }
+pub outer_same : (m high : Bool) (l : Line) → l.p2 < 256 → l.p1 < 256 → l.p0 < 256 → l.q0 < 256 → l.q1 < 256 → l.q2 < 256 → HasNoEighth (lane_pull m true l) → HasNoShare (lane_pull m true l)
+    → lane_outer m high l ≡ l
+outer_same m high l b2 b1 b0 c0 c1 c2 none small =
+    let t2 : cond high (pos 0) (lane_share m true l (pos 9)) ≡ pos 0 = either_none high (pos 0) (lane_share m true l (pos 9)) refl small.0 in
+    let t1 : cond high (pos 0) (lane_share m true l (pos 18)) ≡ pos 0 = either_none high (pos 0) (lane_share m true l (pos 18)) refl small.1 in
+    let u0 : cond high (lane_eighth m true l (pos 3)) (lane_share m true l (pos 27)) ≡ pos 0 = either_none high (lane_eighth m true l (pos 3)) (lane_share m true l (pos 27)) none.0 small.2 in
+    let v0 : cond high (lane_eighth m true l (pos 4)) (lane_share m true l (pos 27)) ≡ pos 0 = either_none high (lane_eighth m true l (pos 4)) (lane_share m true l (pos 27)) none.1 small.2 in
+    let e2 = up_none l.p2 _ b2 t2 in
+    let e1 = up_none l.p1 _ b1 t1 in
+    let e0 = up_none l.p0 _ b0 u0 in
+    let f0 = down_none l.q0 _ c0 v0 in
+    let f1 = down_none l.q1 _ c1 t1 in
+    let f2 = down_none l.q2 _ c2 t2 in
+    λ i. record l { p2 = e2 i; p1 = e1 i; p0 = e0 i; q0 = f0 i; q1 = f1 i; q2 = f2 i }
 
 pub outer_is : (m high : Bool) (l : Line) → l.p2 < 256 → l.p1 < 256 → l.p0 < 256 → l.q0 < 256 → l.q1 < 256 → l.q2 < 256 → lane_outer m high l ≡ cond m (macroblock_edge_filtered high l) l
 outer_is true true l b2 b1 b0 c0 c1 c2 =
@@ -149,4 +181,4 @@ outer_is true false l b2 b1 b0 c0 c1 c2 =
     let f1 = ap (λ t. clamp_to_byte (pos l.q1 -ℤ t)) (share_is l (pos 18)) ∙ down_is l.q1 (weighted_filter_value (pos 18) l) in
     let f2 = ap (λ t. clamp_to_byte (pos l.q2 -ℤ t)) (share_is l (pos 9)) ∙ down_is l.q2 (weighted_filter_value (pos 9) l) in
     λ i. record l { p2 = e2 i; p1 = e1 i; p0 = e0 i; q0 = f0 i; q1 = f1 i; q2 = f2 i }
-outer_is false high l b2 b1 b0 c0 c1 c2 = unchanged l high b2 b1 b0 c0 c1 c2
+outer_is false high l b2 b1 b0 c0 c1 c2 = outer_same false high l b2 b1 b0 c0 c1 c2 (refl, refl) (refl, refl, refl)

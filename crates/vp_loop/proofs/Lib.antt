@@ -1,6 +1,5 @@
 pub mod Shift
 pub mod FilterValueLemmas
-pub mod StillLemmas
 pub mod StepLemmas
 pub mod EdgeLemmas
 pub mod FrameLemmas
@@ -14,6 +13,6 @@ pub mod TransposeLemmas
 pub mod ArrayLemmas
 pub mod RowReads
 pub mod RowWrites
-pub mod WriteLemmas
-pub mod KeptLemmas
+pub mod EdgeWrites
 pub mod LevelLemmas
+pub mod Formerly

@@ -1,11 +1,16 @@
 -- Lines of a plane, by the list of its pixels.
-use Rattle.std.proofs.Common.{◌≡◌, ◌∙◌, ℕ, ◌+◌, ◌*◌, ◌<◌, ◌≤◌, List, get_or, ap, arith}
+use Rattle.std.proofs.Common.{◌≡◌, ◌∙◌, ℕ, ◌+◌, ◌-◌, ◌*◌, ◌<◌, ◌≤◌, List, [], get_or, ap, sym, arith, inl, inr}
 use Rattle.std.proofs.lemmas.Simd.{get_or-chunk}
+use Rattle.std.proofs.lemmas.Bool.{cases_lt}
 use Rattle.std.proofs.lemmas.Nat.{row_fits}
 use lib.Lanes.{chunk}
 use Rattle.vp_base.specs.Raster.{Raster, pixel}
-use Rattle.vp_loop.specs.Edges.{vertical, horizontal, line_at}
-use Rattle.vp_loop.specs.Lanes.{line_in, line_in_column}
+use Rattle.vp_loop.specs.declared.edges.Orientation.{Orientation}
+use Rattle.vp_loop.specs.declared.edges.Orientation.TheVariants.{Vertical, Horizontal}
+use Rattle.vp_loop.specs.declared.edges.Edge.{Edge}
+use Rattle.vp_loop.specs.declared.lanes.Lines.{Lines}
+use Rattle.vp_loop.specs.Edges.{pick, line_from, line_at}
+use Rattle.vp_loop.specs.Lanes.{line_of, own_line, IsEdgeIn, HasLines, HasCorner}
 
 -- a block's last row ends within the list
 pub block_room : (x y w h n r size : ℕ) → size ≡ h * w → x + n ≤ w → y + r < h → (y * w + x) + r * w + n ≤ size
@@ -16,22 +21,51 @@ block_room x y w h n r size whole columns rows =
 pub at_row : (ps r : List ℕ) (n a i c : ℕ) → r ≡ chunk a n ps → c < n → a + c ≡ i → get_or r c 0 ≡ get_or ps i 0
 at_row ps r n a i c e within here = ap (λ l. get_or l c 0) e ∙ (get_or-chunk a n ps c 0 within ∙ ap (λ (k : ℕ). get_or ps k 0) here)
 
-pub row_at : (ps r : List ℕ) (a i : ℕ) → r ≡ chunk a 8 ps → a ≡ i → line_in r ≡ line_in (chunk i 8 ps)
-row_at ps r a i e here = ap line_in e ∙ ap (λ (k : ℕ). line_in (chunk k 8 ps)) here
+pub pixel_is : (p : Raster) (ps : List ℕ) (x y at w r c : ℕ) → ps ≡ p.pixels → w ≡ p.width → at ≡ y * w + x → get_or ps (at + r * w + c) 0 ≡ pixel p (x + c) (y + r)
+pixel_is p ps x y at w r c same wide here =
+    ap (λ (l : List ℕ). get_or l (at + r * w + c) 0) same
+    ∙ (ap (λ (n : ℕ). get_or p.pixels n 0) (let e : at + r * w + c ≡ (y + r) * w + (x + c) = omega arith in e)
+    ∙ ap (λ (v : ℕ). get_or p.pixels ((y + r) * v + (x + c)) 0) wide)
 
-pub horizontal_in : (p : Raster) (ps : List ℕ) (x y i w : ℕ) → ps ≡ p.pixels → w ≡ p.width → i ≡ y * w + x → line_in_column ps i w ≡ line_at horizontal p x y
-unfolding line_at
-horizontal_in p ps x y i w same wide here =
-    let at : (k j : ℕ) → j ≡ (y + k) * w + x → get_or ps j 0 ≡ pixel p x (y + k) =
-    λ k j e. ap (λ (l : List ℕ). get_or l j 0) same ∙ (ap (λ (n : ℕ). get_or p.pixels n 0) e ∙ ap (λ (v : ℕ). get_or p.pixels ((y + k) * v + x) 0) wide) in
-    let e0 = at 0 i (omega arith) in let e1 = at 1 (i + w) (omega arith) in let e2 = at 2 (i + 2 * w) (omega arith) in let e3 = at 3 (i + 3 * w) (omega arith) in let e4 = at 4 (i + 4 * w) (omega arith) in
-    let e5 = at 5 (i + 5 * w) (omega arith) in let e6 = at 6 (i + 6 * w) (omega arith) in let e7 = at 7 (i + 7 * w) (omega arith) in
-    λ j. record { p3 = e0 j; p2 = e1 j; p1 = e2 j; p0 = e3 j; q0 = e4 j; q1 = e5 j; q2 = e6 j; q3 = e7 j }
+pub line_from-same : (f g : ℕ → ℕ) → ((k : ℕ) → k < 8 → f k ≡ g k) → line_from f ≡ line_from g
+line_from-same f g all =
+    let e0 = all 0 (omega arith) in let e1 = all 1 (omega arith) in let e2 = all 2 (omega arith) in let e3 = all 3 (omega arith) in
+    let e4 = all 4 (omega arith) in let e5 = all 5 (omega arith) in let e6 = all 6 (omega arith) in let e7 = all 7 (omega arith) in
+    λ i. record { p3 = e0 i; p2 = e1 i; p1 = e2 i; p0 = e3 i; q0 = e4 i; q1 = e5 i; q2 = e6 i; q3 = e7 i }
 
-pub vertical_in : (p : Raster) (ps : List ℕ) (x y i w : ℕ) → ps ≡ p.pixels → w ≡ p.width → i ≡ y * w + x → line_in (chunk i 8 ps) ≡ line_at vertical p x y
+-- a line of those pixels
+pub own_line_is : (orientation : Orientation) (p : Raster) (f : ℕ → ℕ) (x y k : ℕ) → ((m : ℕ) → m < 8 → f m ≡ pixel p (x + pick orientation m k) (y + pick orientation k m)) → line_from f ≡ own_line orientation p x y k
 unfolding line_at
-vertical_in p ps x y i w same wide here =
-    let at : (k : ℕ) → k < 8 → get_or (chunk i 8 ps) k 0 ≡ pixel p (x + k) y =
-    λ k below. get_or-chunk i 8 ps k 0 below ∙ (ap (λ (l : List ℕ). get_or l (i + k) 0) same ∙ (ap (λ (n : ℕ). get_or p.pixels n 0) (let e : i + k ≡ y * w + (x + k) = omega arith in e) ∙ ap (λ (v : ℕ). get_or p.pixels (y * v + (x + k)) 0) wide)) in
-    let e0 = at 0 (omega arith) in let e1 = at 1 (omega arith) in let e2 = at 2 (omega arith) in let e3 = at 3 (omega arith) in let e4 = at 4 (omega arith) in let e5 = at 5 (omega arith) in let e6 = at 6 (omega arith) in let e7 = at 7 (omega arith) in
-    λ j. record { p3 = e0 j; p2 = e1 j; p1 = e2 j; p0 = e3 j; q0 = e4 j; q1 = e5 j; q2 = e6 j; q3 = e7 j }
+own_line_is Vertical p f x y k same = line_from-same f (λ m. pixel p (x + m) (y + k)) same
+own_line_is Horizontal p f x y k same = line_from-same f (λ m. pixel p (x + k) (y + m)) same
+
+-- the lines of a corner
+pub corner_lines : (edge : Edge) (rows : List (List ℕ)) (l : Lines) (lane : ℕ → ℕ) (p : Raster) (orientation : Orientation) → edge.orientation ≡ orientation → HasCorner edge rows p → IsEdgeIn edge.orientation 8 edge.x edge.y p
+    → ((k : ℕ) → k < 8 → line_of l (lane k) ≡ line_from (λ m. get_or (get_or rows (pick orientation k m) []) (pick orientation m k) 0)) → HasLines edge l 8 lane p
+corner_lines edge rows l lane p orientation e corner fits read = record {
+  whole = corner.whole;
+  fits = fits;
+  lines = λ k h.
+      read k h
+      ∙ (own_line_is orientation p (λ m. get_or (get_or rows (pick orientation k m) []) (pick orientation m k) 0) edge.x edge.y k (λ m below. each orientation k m h below)
+      ∙ ap (λ (o : Orientation). own_line o p edge.x edge.y k) (sym e));
+}
+  where
+    each : (o : Orientation) (k m : ℕ) → k < 8 → m < 8 → get_or (get_or rows (pick o k m) []) (pick o m k) 0 ≡ pixel p (edge.x + pick o m k) (edge.y + pick o k m)
+    each Vertical k m h below = corner.pixels k m h below
+    each Horizontal k m h below = corner.pixels m k below h
+
+pub corner_fits : (orientation : Orientation) (x y : ℕ) (p : Raster) → IsEdgeIn orientation 8 x y p → (x + 8 ≤ p.width) × (y + 8 ≤ p.height)
+corner_fits Vertical x y p fits = fits
+corner_fits Horizontal x y p fits = fits
+
+-- eight lines, and eight more
+pub both_halves : (p : Raster) (l : Lines) (x y : ℕ) → ((j : ℕ) → j < 8 → line_of l j ≡ own_line Vertical p x y j) → ((j : ℕ) → j < 8 → line_of l (j + 8) ≡ own_line Vertical p x (y + 8) j)
+    → (j : ℕ) → j < 16 → line_of l j ≡ own_line Vertical p x y j
+both_halves p l x y first second j below = elim (cases_lt j 8) [
+  | inl early ↦ first j early
+  | inr late ↦
+      let back : j - 8 + 8 ≡ j = omega arith in
+      let down : y + 8 + (j - 8) ≡ y + j = omega arith in
+      ap (line_of l) (sym back) ∙ (second (j - 8) (omega arith) ∙ ap (λ (n : ℕ). line_at Vertical p x n) down)
+]

@@ -1,5 +1,5 @@
 -- Sixteen rows of eight bytes, joined two by two.
-use Rattle.std.proofs.Common.{◌≡◌, ℕ, zero, suc, ◌+◌, ◌-◌, ◌*◌, ◌/◌, ◌%◌, ◌<◌, List, [], ◌∷◌, ◌++◌, length, get_or, ap, ◌∙◌, subst, arith}
+use Rattle.std.proofs.Common.{◌≡◌, ℕ, zero, suc, ◌+◌, ◌-◌, ◌*◌, ◌/◌, ◌%◌, ◌<◌, List, [], ◌∷◌, ◌++◌, length, get_or, refl, ap, ◌∙◌, subst, arith}
 use Rattle.std.proofs.lemmas.List.{get_or_append_left, get_or-append_right}
 use Rattle.vp_loop.specs.declared.lines.Line.{Line}
 use Rattle.vp_loop.specs.Lanes.{line_in}
@@ -19,16 +19,16 @@ below_sixteen P a0 a1 a2 a3 b0 b1 b2 b3 c0 c1 c2 c3 d0 d1 d2 d3 k h =
     (below_four _ a0 a1 a2 a3) (below_four _ b0 b1 b2 b3) (below_four _ c0 c1 c2 c3) (below_four _ d0 d1 d2 d3)
     (k / 4) (omega arith) (k % 4) (omega arith))
 
-pub low : (a b : List ℕ) (k : ℕ) → length a ≡ 8 → k < 8 → get_or (a ++ b) k 0 ≡ get_or a k 0
-low a b k l h = get_or_append_left a b 0 k (omega arith)
+pub low : (n : ℕ) (a b : List ℕ) (k : ℕ) → length a ≡ n → k < n → get_or (a ++ b) k 0 ≡ get_or a k 0
+low n a b k l h = get_or_append_left a b 0 k (omega arith)
 
-pub high : (a b : List ℕ) (k i : ℕ) → length a ≡ 8 → i ≡ 8 + k → get_or (a ++ b) i 0 ≡ get_or b k 0
-high a b k i l h = let e : i - 8 ≡ k = omega arith in get_or-append_right a b 8 i 0 l (omega arith) ∙ ap (λ n. get_or b n 0) e
+pub high : (n : ℕ) (a b : List ℕ) (k i : ℕ) → length a ≡ n → i ≡ n + k → get_or (a ++ b) i 0 ≡ get_or b k 0
+high n a b k i l h = let e : i - n ≡ k = omega arith in get_or-append_right a b n i 0 l (omega arith) ∙ ap (λ (m : ℕ). get_or b m 0) e
 
 pub front : (a b : List ℕ) → length a ≡ 8 → line_in (a ++ b) ≡ line_in a
 front a b l =
-    let e0 = low a b 0 l (omega arith) in let e1 = low a b 1 l (omega arith) in let e2 = low a b 2 l (omega arith) in let e3 = low a b 3 l (omega arith) in
-    let e4 = low a b 4 l (omega arith) in let e5 = low a b 5 l (omega arith) in let e6 = low a b 6 l (omega arith) in let e7 = low a b 7 l (omega arith) in
+    let e0 = low 8 a b 0 l (omega arith) in let e1 = low 8 a b 1 l (omega arith) in let e2 = low 8 a b 2 l (omega arith) in let e3 = low 8 a b 3 l (omega arith) in
+    let e4 = low 8 a b 4 l (omega arith) in let e5 = low 8 a b 5 l (omega arith) in let e6 = low 8 a b 6 l (omega arith) in let e7 = low 8 a b 7 l (omega arith) in
     λ i. record { p3 = e0 i; p2 = e1 i; p1 = e2 i; p0 = e3 i; q0 = e4 i; q1 = e5 i; q2 = e6 i; q3 = e7 i }
 
 abbrev pub second : List ℕ → Line
@@ -45,8 +45,8 @@ second r = record {
 
 pub back : (a b : List ℕ) → length a ≡ 8 → second (a ++ b) ≡ line_in b
 back a b l =
-    let e0 = high a b 0 8 l (omega arith) in let e1 = high a b 1 9 l (omega arith) in let e2 = high a b 2 10 l (omega arith) in let e3 = high a b 3 11 l (omega arith) in
-    let e4 = high a b 4 12 l (omega arith) in let e5 = high a b 5 13 l (omega arith) in let e6 = high a b 6 14 l (omega arith) in let e7 = high a b 7 15 l (omega arith) in
+    let e0 = high 8 a b 0 8 l (omega arith) in let e1 = high 8 a b 1 9 l (omega arith) in let e2 = high 8 a b 2 10 l (omega arith) in let e3 = high 8 a b 3 11 l (omega arith) in
+    let e4 = high 8 a b 4 12 l (omega arith) in let e5 = high 8 a b 5 13 l (omega arith) in let e6 = high 8 a b 6 14 l (omega arith) in let e7 = high 8 a b 7 15 l (omega arith) in
     λ i. record { p3 = e0 i; p2 = e1 i; p1 = e2 i; p0 = e3 i; q0 = e4 i; q1 = e5 i; q2 = e6 i; q3 = e7 i }
 
 pub below_eight : (P : ℕ → Type 0) → P 0 → P 1 → P 2 → P 3 → P 4 → P 5 → P 6 → P 7 → (k : ℕ) → k < 8 → P k
@@ -69,15 +69,8 @@ joined c0 c1 c2 c3 c4 c5 c6 c7 m =
 pub joined_is : (c0 c1 c2 c3 c4 c5 c6 c7 : List ℕ) (m : ℕ) → length c0 ≡ 16 → length c1 ≡ 16 → length c2 ≡ 16 → length c3 ≡ 16 → m < 16
     → joined c0 c1 c2 c3 c4 c5 c6 c7 m ≡ (get_or c0 m 0 ∷ get_or c1 m 0 ∷ get_or c2 m 0 ∷ get_or c3 m 0 ∷ get_or c4 m 0 ∷ get_or c5 m 0 ∷ get_or c6 m 0 ∷ get_or c7 m 0 ∷ [])
 joined_is c0 c1 c2 c3 c4 c5 c6 c7 m l0 l1 l2 l3 h =
-    let z : 16 + m - 16 ≡ m = omega arith in
-    let e0 = get_or_append_left c0 c4 0 m (omega arith) in
-    let e1 = get_or_append_left c1 c5 0 m (omega arith) in
-    let e2 = get_or_append_left c2 c6 0 m (omega arith) in
-    let e3 = get_or_append_left c3 c7 0 m (omega arith) in
-    let e4 = get_or-append_right c0 c4 16 (16 + m) 0 l0 (omega arith) ∙ ap (λ n. get_or c4 n 0) z in
-    let e5 = get_or-append_right c1 c5 16 (16 + m) 0 l1 (omega arith) ∙ ap (λ n. get_or c5 n 0) z in
-    let e6 = get_or-append_right c2 c6 16 (16 + m) 0 l2 (omega arith) ∙ ap (λ n. get_or c6 n 0) z in
-    let e7 = get_or-append_right c3 c7 16 (16 + m) 0 l3 (omega arith) ∙ ap (λ n. get_or c7 n 0) z in
+    let e0 = low 16 c0 c4 m l0 h in let e1 = low 16 c1 c5 m l1 h in let e2 = low 16 c2 c6 m l2 h in let e3 = low 16 c3 c7 m l3 h in
+    let e4 = high 16 c0 c4 m (16 + m) l0 refl in let e5 = high 16 c1 c5 m (16 + m) l1 refl in let e6 = high 16 c2 c6 m (16 + m) l2 refl in let e7 = high 16 c3 c7 m (16 + m) l3 refl in
     λ i. e0 i ∷ e1 i ∷ e2 i ∷ e3 i ∷ e4 i ∷ e5 i ∷ e6 i ∷ e7 i ∷ []
 
 -- .. and of four
@@ -88,9 +81,5 @@ joined_four c0 c1 c2 c3 m =
 pub joined_four_is : (c0 c1 c2 c3 : List ℕ) (m : ℕ) → length c0 ≡ 16 → length c1 ≡ 16 → m < 16
     → joined_four c0 c1 c2 c3 m ≡ (get_or c0 m 0 ∷ get_or c1 m 0 ∷ get_or c2 m 0 ∷ get_or c3 m 0 ∷ [])
 joined_four_is c0 c1 c2 c3 m l0 l1 h =
-    let z : 16 + m - 16 ≡ m = omega arith in
-    let e0 = get_or_append_left c0 c2 0 m (omega arith) in
-    let e1 = get_or_append_left c1 c3 0 m (omega arith) in
-    let e2 = get_or-append_right c0 c2 16 (16 + m) 0 l0 (omega arith) ∙ ap (λ n. get_or c2 n 0) z in
-    let e3 = get_or-append_right c1 c3 16 (16 + m) 0 l1 (omega arith) ∙ ap (λ n. get_or c3 n 0) z in
+    let e0 = low 16 c0 c2 m l0 h in let e1 = low 16 c1 c3 m l1 h in let e2 = high 16 c0 c2 m (16 + m) l0 refl in let e3 = high 16 c1 c3 m (16 + m) l1 refl in
     λ i. e0 i ∷ e1 i ∷ e2 i ∷ e3 i ∷ []

@@ -10,17 +10,17 @@ use Rattle.vp_base.specs.Over.{over}
 use Rattle.vp_loop.specs.declared.lines.Line.{Line}
 use Rattle.vp_loop.specs.declared.lines.LineStep.{LineStep}
 use Rattle.vp_loop.specs.declared.lines.EdgeKind.TheVariants.{Simple, Inner, Macroblock}
+use Rattle.vp_loop.specs.declared.edges.Orientation.{Orientation}
+use Rattle.vp_loop.specs.declared.edges.Orientation.TheVariants.{Vertical, Horizontal}
 use Rattle.vp_loop.specs.declared.limits.EdgeLimits.{EdgeLimits}
 use Rattle.vp_loop.specs.declared.limits.FilterKind.TheVariants as filter_is
 use Rattle.vp_loop.specs.declared.strength.Level.{Level}
 use Rattle.vp_loop.specs.LineSteps.{stepped}
 
--- the orientation of an edge; a line of eight pixels crosses it
-pub data Orientation : Type 0 where
-  -- its lines are in rows
-  vertical : Orientation
-  -- its lines are in columns
-  horizontal : Orientation
+-- a at a vertical edge, whose lines are in rows, and b at a horizontal one, whose lines are in columns
+abbrev pub pick : Orientation → ℕ → ℕ → ℕ
+pick Vertical a b = a
+pick Horizontal a b = b
 
 -- the line that has f k as pixel k; 0 is p3, 7 is q3
 abbrev pub line_from : (ℕ → ℕ) → Line
@@ -28,8 +28,7 @@ line_from f = record { p3 = f 0; p2 = f 1; p1 = f 2; p0 = f 3; q0 = f 4; q1 = f 
 
 -- the line that begins with p3 at column x of row y
 unfoldable pub line_at : Orientation → Raster → ℕ → ℕ → Line
-line_at vertical p x y = line_from (λ k. pixel p (x + k) y)
-line_at horizontal p x y = line_from (λ k. pixel p x (y + k))
+line_at orientation p x y = line_from (λ k. pixel p (pick orientation (x + k) x) (pick orientation y (y + k)))
 
 -- pixel k of a line
 abbrev pub pixel_at : Line → ℕ → ℕ
@@ -37,13 +36,14 @@ pixel_at l k = slice_index (l.p3 ∷ l.p2 ∷ l.p1 ∷ l.p0 ∷ l.q0 ∷ l.q1 �
 
 -- one line step: the eight pixels of the line are replaced, from the one at column x of row y on
 abbrev pub line_step : Orientation → LineStep → ℕ → ℕ → Raster → Raster
-line_step vertical step x y p = with_block p x y 8 1 (λ r c. pixel_at (stepped step (line_at vertical p x y)) c)
-line_step horizontal step x y p = with_block p x y 1 8 (λ r c. pixel_at (stepped step (line_at horizontal p x y)) r)
+line_step orientation step x y p =
+    with_block p x y (pick orientation 8 1) (pick orientation 1 8)
+    (λ r c. pixel_at (stepped step (line_at orientation p x y)) (pick orientation c r))
 
 -- the steps of the n lines of an edge, by increasing coordinate; the first line begins at column x of row y
 unfoldable pub edge_lines : Orientation → LineStep → ℕ → ℕ → ℕ → Raster → Raster
-edge_lines vertical step n x y p = over n (λ j. line_step vertical step x (y + j)) p
-edge_lines horizontal step n x y p = over n (λ j. line_step horizontal step (x + j) y) p
+edge_lines orientation step n x y p =
+    over n (λ k. line_step orientation step (pick orientation x (x + k)) (pick orientation (y + k) y)) p
 
 -- The limits of a macroblock's edges. Here alone a 0 among the numbers of a level has a meaning of its own: as an edge
 -- limit, that the macroblock isn't filtered; as an interior limit, the simple filter; as an inner limit, that the edges
@@ -80,13 +80,16 @@ inner_step limits limit = record (outer_step limits) {
 
 -- the left or top edge of a macroblock, unless the plane begins there
 abbrev pub own_edge : Orientation → LineStep → ℕ → ℕ → ℕ → Raster → Raster
-own_edge vertical step size x y p = if nat_lt 0 x then edge_lines vertical step size (x - 4) y p else p
-own_edge horizontal step size x y p = if nat_lt 0 y then edge_lines horizontal step size x (y - 4) p else p
+own_edge orientation step size x y p =
+    if nat_lt 0 (pick orientation x y)
+    then edge_lines orientation step size (pick orientation (x - 4) x) (pick orientation y (y - 4)) p
+    else p
 
 -- the edges inside a macroblock of size by size pixels: at 4, 8 and 12 of 16, at 4 of 8
 unfoldable pub inner_edges : Orientation → LineStep → ℕ → ℕ → ℕ → Raster → Raster
-inner_edges vertical step size x y p = over (size / 4 - 1) (λ i. edge_lines vertical step size (x + 4 * i) y) p
-inner_edges horizontal step size x y p = over (size / 4 - 1) (λ i. edge_lines horizontal step size x (y + 4 * i)) p
+inner_edges orientation step size x y p =
+    over (size / 4 - 1) (λ i. edge_lines orientation step size (pick orientation (x + 4 * i) x)
+    (pick orientation y (y + 4 * i))) p
 
 -- the edges inside a macroblock, where they are filtered
 abbrev pub edges_inside : Orientation → EdgeLimits → ℕ → ℕ → ℕ → Raster → Raster
@@ -102,15 +105,8 @@ block_edges orientation size limits x y p =
 unfoldable pub block_filtered : ℕ → Option EdgeLimits → ℕ → ℕ → Raster → Raster
 block_filtered size None x y p = p
 block_filtered size (Some limits) x y p =
-    block_edges horizontal size limits x y (block_edges vertical size limits x y p)
+    block_edges Horizontal size limits x y (block_edges Vertical size limits x y p)
 
 -- p with f applied to plane k
 abbrev pub on_plane : ℕ → (Raster → Raster) → Image → Image
 on_plane k f p = with_plane p k (f (plane_of p k))
-
--- p with f applied to luma, or to both chroma planes
-abbrev pub on_luma : (Raster → Raster) → Image → Image
-on_luma f p = record p { luma = f p.luma }
-
-abbrev pub on_chroma : (Raster → Raster) → Image → Image
-on_chroma f p = record p { u = f p.u; v = f p.v }

@@ -7,23 +7,23 @@ use Rattle.vp_base.specs.Block.{is_in_block, with_block, IsWhole}
 use Rattle.vp_base.specs.Image.{Image, macroblocks, IsAligned, AreWhole}
 use Rattle.vp_base.specs.Rows.{AreSameAbove, AreSameFrom, AreOneSize}
 use Rattle.vp_loop.specs.declared.lines.LineStep.{LineStep}
+use Rattle.vp_loop.specs.declared.edges.Orientation.{Orientation}
+use Rattle.vp_loop.specs.declared.edges.Orientation.TheVariants.{Vertical, Horizontal}
 use Rattle.vp_loop.specs.declared.limits.EdgeLimits.{EdgeLimits}
 use Rattle.vp_loop.specs.declared.limits.FilterKind.{FilterKind}
 use Rattle.vp_loop.specs.declared.limits.FilterKind.TheVariants as filter_is
 use Rattle.vp_loop.specs.declared.strength.Level.{Level}
 use Rattle.vp_loop.specs.LineSteps.{stepped}
-use Rattle.vp_loop.specs.Edges.{Orientation, vertical, horizontal, line_at, pixel_at, line_step, edge_lines}
-use Rattle.vp_loop.specs.Edges.{edge_limits, outer_step, own_edge, edges_inside, on_plane}
+use Rattle.vp_loop.specs.Edges.{line_at, pixel_at, line_step, edge_lines}
+use Rattle.vp_loop.specs.Edges.{pick, edge_limits, outer_step, own_edge, edges_inside, on_plane}
 use Rattle.vp_loop.specs.Filtered.{macroblock_filtered, row_filtered}
 
 -- the number of columns and rows of a line
 abbrev pub columns_of : Orientation → ℕ
-columns_of vertical = 8
-columns_of horizontal = 1
+columns_of orientation = pick orientation 8 1
 
 abbrev pub rows_of : Orientation → ℕ
-rows_of vertical = 1
-rows_of horizontal = 8
+rows_of orientation = pick orientation 1 8
 
 -- a line of a plane: the orientation of the edge that it crosses, and the column and row at which it begins
 pub record PlaneLine : Type 0 where
@@ -109,10 +109,10 @@ in_planes filter_is.Normal f column row p = record p {
 abbrev pub filtered_by_edges : Option EdgeLimits → ℕ → ℕ → Image → Image
 filtered_by_edges None column row p = p
 filtered_by_edges (Some limits) column row p =
-    in_planes limits.kind (edges_inside horizontal limits) column row
-    (in_planes limits.kind (own_edge horizontal (outer_step limits)) column row
-    (in_planes limits.kind (edges_inside vertical limits) column row
-    (in_planes limits.kind (own_edge vertical (outer_step limits)) column row p)))
+    in_planes limits.kind (edges_inside Horizontal limits) column row
+    (in_planes limits.kind (own_edge Horizontal (outer_step limits)) column row
+    (in_planes limits.kind (edges_inside Vertical limits) column row
+    (in_planes limits.kind (own_edge Vertical (outer_step limits)) column row p)))
 
 -- Filtering edge by edge gives the same result as plane by plane.
 abbrev pub EdgeByEdge : Type 0
@@ -125,8 +125,8 @@ abbrev pub EdgesAtOnce : Type 0
 EdgesAtOnce =
     (step : LineStep) (n x y : ℕ) (p : Raster) → IsWhole p
     → (x + 8 ≤ p.width → y + n ≤ p.height
-    → edge_lines vertical step n x y p ≡ with_block p x y 8 n (λ r c. pixel_at
-    (stepped step (line_at vertical p x (y + r))) c))
+    → edge_lines Vertical step n x y p ≡ with_block p x y 8 n (λ r c. pixel_at
+    (stepped step (line_at Vertical p x (y + r))) c))
     × (x + n ≤ p.width → y + 8 ≤ p.height
-    → edge_lines horizontal step n x y p ≡ with_block p x y n 8 (λ r c. pixel_at
-    (stepped step (line_at horizontal p (x + c) y)) r))
+    → edge_lines Horizontal step n x y p ≡ with_block p x y n 8 (λ r c. pixel_at
+    (stepped step (line_at Horizontal p (x + c) y)) r))

@@ -1,300 +1,181 @@
 //! Filtering the edges of one macroblock. All lines of an edge are filtered at once, and those of both chroma planes
-//! together.
+//! together. The parameters `LUMA` and `VERTICAL` change no result: they give each kind of edge its own copy of a
+//! function, and a copy with one caller is compiled for that kind alone.
 
-ghost use Rattle.std.specs.Prelude.{◌≡◌, ℕ, ◌+◌, ◌<◌, ◌≤◌, Some, IsTrue};
+ghost use Rattle.std.specs.Prelude.{◌≡◌, ℕ, ◌+◌, ◌-◌, ◌*◌, ◌/◌, ◌<◌, ◌≤◌, Some};
 ghost use Rattle.vp_base.specs.Image.{Image};
-ghost use Rattle.vp_loop.specs.Lanes.{KeepsEnds};
-ghost use Rattle.vp_loop.specs.Edges.{vertical, horizontal, edge_lines, inner_edges, block_edges, block_filtered};
-ghost use Rattle.vp_loop.specs.Edges.{on_luma, on_chroma};
+ghost use Rattle.vp_loop.specs.Edges.{pick, edge_lines, own_edge, inner_edges, block_edges};
+ghost use Rattle.vp_loop.specs.Edges.{block_filtered};
+ghost use Rattle.vp_loop.specs.Lanes.{KeepsEnds, unwritten, size_in, on_planes, IsEdgeWithin, IsBlockWithin};
 
 use crate::limits::EdgeLimits;
 use crate::lines::LineStep;
-use crate::store::{write_rows4, write_rows8, write_rows16};
-use crate::transpose::{
-    first_halves, load_horizontal_chroma_edge, load_horizontal_edge, load_vertical_chroma_edge,
-    load_vertical_edge, second_halves, untranspose, untranspose_middle,
-};
+use crate::load::load;
+use crate::store::store;
 use vp_base::Picture;
 
-/// Filters a vertical luma edge: sixteen lines, the first of which begins at column `x` of row `y`. If `INNER`, only
-/// the middle four pixels of each line are written.
-#[inline(always)]
-fn filter_vertical_luma_edge<const INNER: bool>(
-    picture: &mut Picture,
-    x: usize,
-    y: usize,
-    step: LineStep,
-)
-    requires columns { x + 8 ≤ picture.old.luma.width }
-    requires rows { y + 16 ≤ picture.old.luma.height }
-    requires ends { IsTrue INNER → KeepsEnds 2 step }
-    ensures value { picture.new ≡ on_luma (edge_lines vertical step 16 x y) picture.old }
-    ensures wide { picture.new.luma.width ≡ picture.old.luma.width }
-    ensures high { picture.new.luma.height ≡ picture.old.luma.height }
-{
-    let _known = picture.plane(0).width();
-    let l = match step.apply_to_all(load_vertical_edge(picture.plane(0), x, y)) {
-        None => return,
-        Some(l) => l,
-    };
-    if INNER {
-        let lines = untranspose_middle(l.p1, l.p0, l.q0, l.q1);
-        write_rows4(picture, 0, x + 2, y, &lines);
-    } else {
-        let lines = untranspose(l);
-        write_rows8(picture, 0, x, y, &lines);
+/// The planes whose edges are filtered at once.
+#[derive(Clone, Copy)]
+pub(crate) enum Planes {
+    /// Luma: an edge has sixteen lines.
+    Luma,
+    /// Both chroma planes: an edge has eight lines in each.
+    Chroma,
+}
+
+/// The orientation of an edge; a line of eight pixels crosses it.
+#[derive(Clone, Copy)]
+pub(crate) enum Orientation {
+    /// Its lines are in rows.
+    Vertical,
+    /// Its lines are in columns.
+    Horizontal,
+}
+
+/// An edge of a macroblock. Its first line begins at column `x` of row `y`.
+#[derive(Clone, Copy)]
+pub(crate) struct Edge {
+    pub(crate) planes: Planes,
+    pub(crate) orientation: Orientation,
+    pub(crate) x: usize,
+    pub(crate) y: usize,
+}
+
+impl Planes {
+    /// The number of edges inside a macroblock in each direction.
+    #[inline(always)]
+    fn edges_inside(self) -> usize
+        ensures { result ≡ size_in self / 4 - 1 }
+    {
+        match self {
+            Planes::Luma => 3,
+            Planes::Chroma => 1,
+        }
     }
 }
 
-/// Filters a horizontal luma edge: sixteen lines, the first of which begins at column `x` of row `y`. The first and
-/// last `kept` rows, which the step does not change, are not written.
-#[inline(always)]
-fn filter_horizontal_luma_edge(
-    picture: &mut Picture,
-    x: usize,
-    y: usize,
-    step: LineStep,
-    kept: usize,
-)
-    requires columns { x + 16 ≤ picture.old.luma.width }
-    requires rows { y + 8 ≤ picture.old.luma.height }
-    requires few { kept ≤ 4 }
-    requires ends { KeepsEnds kept step }
-    ensures value { picture.new ≡ on_luma (edge_lines horizontal step 16 x y) picture.old }
-    ensures wide { picture.new.luma.width ≡ picture.old.luma.width }
-    ensures high { picture.new.luma.height ≡ picture.old.luma.height }
-{
-    let _known = picture.plane(0).height();
-    let l = match step.apply_to_all(load_horizontal_edge(picture.plane(0), x, y)) {
-        None => return,
-        Some(l) => l,
-    };
-    let rows = [l.p3, l.p2, l.p1, l.p0, l.q0, l.q1, l.q2, l.q3];
-    write_rows16(picture, 0, x, y + kept, &rows[kept..8 - kept]);
+impl Edge {
+    /// The edge `by` pixels further right or down.
+    #[inline(always)]
+    fn after(self, by: usize) -> Edge
+        requires { self.x + self.y + by ≤ 100000 }
+        ensures { result ≡ record self {
+          x = pick self.orientation (self.x + by) self.x;
+          y = pick self.orientation self.y (self.y + by);
+        } }
+    {
+        match self.orientation {
+            Orientation::Vertical => Edge {
+                x: self.x + by,
+                ..self
+            },
+            Orientation::Horizontal => Edge {
+                y: self.y + by,
+                ..self
+            },
+        }
+    }
 }
 
-/// Filters a vertical edge of both chroma planes: eight lines of each. If `INNER`, only the middle four pixels of each
-/// line are written.
+/// Filters an edge. One `inside` a macroblock has a step that changes only the middle four pixels of each line.
 #[inline(always)]
-fn filter_vertical_chroma_edge<const INNER: bool>(
+fn filter_edge(picture: &mut Picture, edge: Edge, step: LineStep, inside: bool)
+    requires within { IsEdgeWithin edge picture.old }
+    requires ends { KeepsEnds (unwritten inside edge.orientation) step }
+    ensures { picture.new ≡ on_planes edge.planes (λ n lane. edge_lines edge.orientation step n edge.x edge.y)
+        picture.old }
+{
+    match step.apply_to_all(load(picture, edge)) {
+        None => {}
+        Some(lines) => store(picture, edge, lines, inside),
+    }
+}
+
+/// Filters the left or top edge of a macroblock, unless the plane begins there. `edge` is at its first pixel.
+#[inline(always)]
+fn filter_own_edge<const LUMA: bool, const VERTICAL: bool>(
     picture: &mut Picture,
-    x: usize,
-    y: usize,
+    edge: Edge,
     step: LineStep,
 )
-    requires u_columns { x + 8 ≤ picture.old.u.width }
-    requires u_rows { y + 8 ≤ picture.old.u.height }
-    requires v_columns { x + 8 ≤ picture.old.v.width }
-    requires v_rows { y + 8 ≤ picture.old.v.height }
-    requires ends { IsTrue INNER → KeepsEnds 2 step }
-    ensures value { picture.new ≡ on_chroma (edge_lines vertical step 8 x y) picture.old }
-    ensures u_wide { picture.new.u.width ≡ picture.old.u.width }
-    ensures u_high { picture.new.u.height ≡ picture.old.u.height }
-    ensures v_wide { picture.new.v.width ≡ picture.old.v.width }
-    ensures v_high { picture.new.v.height ≡ picture.old.v.height }
+    requires { IsBlockWithin edge.planes edge.x edge.y picture.old }
+    ensures { picture.new ≡ on_planes edge.planes (λ n lane. own_edge edge.orientation step n edge.x edge.y)
+        picture.old }
 {
-    let _known = picture.plane(1).width();
-    let _known = picture.plane(2).width();
-    let l = match step.apply_to_all(load_vertical_chroma_edge(
-        picture.plane(1),
-        picture.plane(2),
+    match edge.orientation {
+        Orientation::Vertical => {
+            if edge.x > 0 {
+                let x = edge.x - 4;
+                filter_edge(picture, Edge { x, ..edge }, step, false);
+            }
+        }
+        Orientation::Horizontal => {
+            if edge.y > 0 {
+                let y = edge.y - 4;
+                filter_edge(picture, Edge { y, ..edge }, step, false);
+            }
+        }
+    }
+}
+
+/// Filters the edges inside a macroblock in one direction. `edge` is at its first pixel.
+#[inline(always)]
+fn filter_inner_edges(picture: &mut Picture, edge: Edge, step: LineStep)
+    requires within { IsBlockWithin edge.planes edge.x edge.y picture.old }
+    requires ends { KeepsEnds 2 step }
+    ensures { picture.new ≡ on_planes edge.planes (λ n lane. inner_edges edge.orientation step n edge.x edge.y)
+        picture.old }
+{
+    let _known = picture.dim();
+    for i in 0..edge.planes.edges_inside() {
+        filter_edge(picture, edge.after(4 * i), step, true);
+    }
+}
+
+/// Filters the edges of a macroblock in one direction. `edge` is at its first pixel.
+#[inline(always)]
+fn filter_edges<const LUMA: bool, const VERTICAL: bool>(
+    picture: &mut Picture,
+    edge: Edge,
+    limits: EdgeLimits,
+)
+    requires { IsBlockWithin edge.planes edge.x edge.y picture.old }
+    ensures { picture.new ≡ on_planes edge.planes (λ n lane. block_edges edge.orientation n limits edge.x edge.y)
+        picture.old }
+{
+    filter_own_edge::<LUMA, VERTICAL>(picture, edge, limits.outer_step());
+    match limits.inner {
+        None => {}
+        Some(limit) => filter_inner_edges(picture, edge, limits.inner_step(limit)),
+    }
+}
+
+/// Filters the edges of a macroblock in these planes. Its first pixels are at column `x` of row `y`.
+#[inline(always)]
+pub(crate) fn filter_block<const LUMA: bool>(
+    picture: &mut Picture,
+    planes: Planes,
+    x: usize,
+    y: usize,
+    limits: EdgeLimits,
+)
+    requires { IsBlockWithin planes x y picture.old }
+    ensures { picture.new ≡ on_planes planes (λ n lane. block_filtered n (Some limits) x y) picture.old }
+{
+    let edge = Edge {
+        planes,
+        orientation: Orientation::Vertical,
         x,
         y,
-    )) {
-        None => return,
-        Some(l) => l,
     };
-    if INNER {
-        let lines = untranspose_middle(l.p1, l.p0, l.q0, l.q1);
-        write_rows4(picture, 1, x + 2, y, &lines[0..8]);
-        write_rows4(picture, 2, x + 2, y, &lines[8..16]);
-    } else {
-        let lines = untranspose(l);
-        write_rows8(picture, 1, x, y, &lines[0..8]);
-        write_rows8(picture, 2, x, y, &lines[8..16]);
-    }
-}
-
-/// Filters a horizontal edge of both chroma planes: eight lines of each, without the first and last `kept` rows.
-#[inline(always)]
-fn filter_horizontal_chroma_edge(
-    picture: &mut Picture,
-    x: usize,
-    y: usize,
-    step: LineStep,
-    kept: usize,
-)
-    requires u_columns { x + 8 ≤ picture.old.u.width }
-    requires u_rows { y + 8 ≤ picture.old.u.height }
-    requires v_columns { x + 8 ≤ picture.old.v.width }
-    requires v_rows { y + 8 ≤ picture.old.v.height }
-    requires few { kept ≤ 4 }
-    requires ends { KeepsEnds kept step }
-    ensures value { picture.new ≡ on_chroma (edge_lines horizontal step 8 x y) picture.old }
-    ensures u_wide { picture.new.u.width ≡ picture.old.u.width }
-    ensures u_high { picture.new.u.height ≡ picture.old.u.height }
-    ensures v_wide { picture.new.v.width ≡ picture.old.v.width }
-    ensures v_high { picture.new.v.height ≡ picture.old.v.height }
-{
-    let _known = picture.plane(1).height();
-    let _known = picture.plane(2).height();
-    let l = match step.apply_to_all(load_horizontal_chroma_edge(
-        picture.plane(1),
-        picture.plane(2),
-        x,
-        y,
-    )) {
-        None => return,
-        Some(l) => l,
-    };
-    let u_rows = first_halves(l);
-    let v_rows = second_halves(l);
-    write_rows8(picture, 1, x, y + kept, &u_rows[kept..8 - kept]);
-    write_rows8(picture, 2, x, y + kept, &v_rows[kept..8 - kept]);
-}
-
-/// Filters the vertical luma edges inside a macroblock.
-#[inline(always)]
-fn filter_inner_vertical_luma_edges(picture: &mut Picture, x: usize, y: usize, step: LineStep)
-    requires columns { x + 16 ≤ picture.old.luma.width }
-    requires rows { y + 16 ≤ picture.old.luma.height }
-    requires ends { KeepsEnds 2 step }
-    ensures value { picture.new ≡ on_luma (inner_edges vertical step 16 x y) picture.old }
-    ensures wide { picture.new.luma.width ≡ picture.old.luma.width }
-    ensures high { picture.new.luma.height ≡ picture.old.luma.height }
-{
-    let _known = picture.plane(0).width();
-    for i in 0..3 {
-        filter_vertical_luma_edge::<true>(picture, x + 4 * i, y, step);
-    }
-}
-
-/// Filters the horizontal luma edges inside a macroblock.
-#[inline(always)]
-fn filter_inner_horizontal_luma_edges(picture: &mut Picture, x: usize, y: usize, step: LineStep)
-    requires columns { x + 16 ≤ picture.old.luma.width }
-    requires rows { y + 16 ≤ picture.old.luma.height }
-    requires ends { KeepsEnds 2 step }
-    ensures value { picture.new ≡ on_luma (inner_edges horizontal step 16 x y) picture.old }
-    ensures wide { picture.new.luma.width ≡ picture.old.luma.width }
-    ensures high { picture.new.luma.height ≡ picture.old.luma.height }
-{
-    let _known = picture.plane(0).height();
-    for i in 0..3 {
-        filter_horizontal_luma_edge(picture, x, y + 4 * i, step, 2);
-    }
-}
-
-/// Filters the vertical luma edges of a macroblock. At the left of the plane there is no left edge.
-#[tactic(auto, unfolding(crate::specs::Edges::block_edges))]
-#[inline(always)]
-fn filter_vertical_luma_edges(picture: &mut Picture, x: usize, y: usize, limits: EdgeLimits)
-    requires columns { x + 16 ≤ picture.old.luma.width }
-    requires rows { y + 16 ≤ picture.old.luma.height }
-    requires left { 0 < x → 4 ≤ x }
-    ensures value { picture.new ≡ on_luma (block_edges vertical 16 limits x y) picture.old }
-    ensures wide { picture.new.luma.width ≡ picture.old.luma.width }
-    ensures high { picture.new.luma.height ≡ picture.old.luma.height }
-{
-    if x > 0 {
-        filter_vertical_luma_edge::<false>(picture, x - 4, y, limits.outer_step());
-    }
-    if let Some(limit) = limits.inner {
-        filter_inner_vertical_luma_edges(picture, x, y, limits.inner_step(limit));
-    }
-}
-
-/// Filters the horizontal luma edges of a macroblock. At the top of the plane there is no top edge.
-#[tactic(auto, unfolding(crate::specs::Edges::block_edges))]
-#[inline(always)]
-fn filter_horizontal_luma_edges(picture: &mut Picture, x: usize, y: usize, limits: EdgeLimits)
-    requires columns { x + 16 ≤ picture.old.luma.width }
-    requires rows { y + 16 ≤ picture.old.luma.height }
-    requires top { 0 < y → 4 ≤ y }
-    ensures value { picture.new ≡ on_luma (block_edges horizontal 16 limits x y) picture.old }
-    ensures wide { picture.new.luma.width ≡ picture.old.luma.width }
-    ensures high { picture.new.luma.height ≡ picture.old.luma.height }
-{
-    if y > 0 {
-        filter_horizontal_luma_edge(picture, x, y - 4, limits.outer_step(), 1);
-    }
-    if let Some(limit) = limits.inner {
-        filter_inner_horizontal_luma_edges(picture, x, y, limits.inner_step(limit));
-    }
-}
-
-/// Filters the vertical edges of a macroblock of both chroma planes, which have one edge inside.
-#[tactic(auto, using(crate::proofs::WriteLemmas::inner_vertical), unfolding(crate::specs::Edges::block_edges))]
-#[inline(always)]
-fn filter_vertical_chroma_edges(picture: &mut Picture, x: usize, y: usize, limits: EdgeLimits)
-    requires u_columns { x + 8 ≤ picture.old.u.width }
-    requires u_rows { y + 8 ≤ picture.old.u.height }
-    requires v_columns { x + 8 ≤ picture.old.v.width }
-    requires v_rows { y + 8 ≤ picture.old.v.height }
-    requires left { 0 < x → 4 ≤ x }
-    ensures value { picture.new ≡ on_chroma (block_edges vertical 8 limits x y) picture.old }
-    ensures u_wide { picture.new.u.width ≡ picture.old.u.width }
-    ensures u_high { picture.new.u.height ≡ picture.old.u.height }
-    ensures v_wide { picture.new.v.width ≡ picture.old.v.width }
-    ensures v_high { picture.new.v.height ≡ picture.old.v.height }
-{
-    if x > 0 {
-        filter_vertical_chroma_edge::<false>(picture, x - 4, y, limits.outer_step());
-    }
-    if let Some(limit) = limits.inner {
-        filter_vertical_chroma_edge::<true>(picture, x, y, limits.inner_step(limit));
-    }
-}
-
-/// Filters the horizontal edges of a macroblock of both chroma planes, which have one edge inside.
-#[tactic(auto, using(crate::proofs::WriteLemmas::inner_horizontal), unfolding(crate::specs::Edges::block_edges))]
-#[inline(always)]
-fn filter_horizontal_chroma_edges(picture: &mut Picture, x: usize, y: usize, limits: EdgeLimits)
-    requires u_columns { x + 8 ≤ picture.old.u.width }
-    requires u_rows { y + 8 ≤ picture.old.u.height }
-    requires v_columns { x + 8 ≤ picture.old.v.width }
-    requires v_rows { y + 8 ≤ picture.old.v.height }
-    requires top { 0 < y → 4 ≤ y }
-    ensures value { picture.new ≡ on_chroma (block_edges horizontal 8 limits x y) picture.old }
-    ensures u_wide { picture.new.u.width ≡ picture.old.u.width }
-    ensures u_high { picture.new.u.height ≡ picture.old.u.height }
-    ensures v_wide { picture.new.v.width ≡ picture.old.v.width }
-    ensures v_high { picture.new.v.height ≡ picture.old.v.height }
-{
-    if y > 0 {
-        filter_horizontal_chroma_edge(picture, x, y - 4, limits.outer_step(), 1);
-    }
-    if let Some(limit) = limits.inner {
-        filter_horizontal_chroma_edge(picture, x, y, limits.inner_step(limit), 2);
-    }
-}
-
-/// Filters the luma of the macroblock whose first pixel is at column `x` of row `y`.
-#[tactic(auto, unfolding(crate::specs::Edges::block_filtered))]
-#[inline(always)]
-pub(crate) fn filter_luma(picture: &mut Picture, x: usize, y: usize, limits: EdgeLimits)
-    requires columns { x + 16 ≤ picture.old.luma.width }
-    requires rows { y + 16 ≤ picture.old.luma.height }
-    requires left { 0 < x → 4 ≤ x }
-    requires top { 0 < y → 4 ≤ y }
-    ensures { picture.new ≡ on_luma (block_filtered 16 (Some limits) x y) picture.old }
-{
-    filter_vertical_luma_edges(picture, x, y, limits);
-    filter_horizontal_luma_edges(picture, x, y, limits);
-}
-
-/// Filters both chroma planes of the macroblock whose first pixels are at column `x` of row `y`.
-#[tactic(auto, unfolding(crate::specs::Edges::block_filtered))]
-#[inline(always)]
-pub(crate) fn filter_chroma(picture: &mut Picture, x: usize, y: usize, limits: EdgeLimits)
-    requires u_columns { x + 8 ≤ picture.old.u.width }
-    requires u_rows { y + 8 ≤ picture.old.u.height }
-    requires v_columns { x + 8 ≤ picture.old.v.width }
-    requires v_rows { y + 8 ≤ picture.old.v.height }
-    requires left { 0 < x → 4 ≤ x }
-    requires top { 0 < y → 4 ≤ y }
-    ensures { picture.new ≡ on_chroma (block_filtered 8 (Some limits) x y) picture.old }
-{
-    filter_vertical_chroma_edges(picture, x, y, limits);
-    filter_horizontal_chroma_edges(picture, x, y, limits);
+    filter_edges::<LUMA, true>(picture, edge, limits);
+    let orientation = Orientation::Horizontal;
+    filter_edges::<LUMA, false>(
+        picture,
+        Edge {
+            orientation,
+            ..edge
+        },
+        limits,
+    );
 }

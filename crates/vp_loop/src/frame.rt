@@ -2,10 +2,10 @@
 
 ghost use Rattle.std.specs.Prelude.{◌≡◌, ℕ, ◌+◌, ◌*◌, ◌/◌, ◌<◌, ◌≤◌, length};
 ghost use Rattle.vp_base.specs.Image.{Image, macroblocks, plane_of, with_plane};
-ghost use Rattle.vp_loop.specs.Edges.{edge_limits, chroma_limits, block_filtered, on_luma, on_chroma};
+ghost use Rattle.vp_loop.specs.Edges.{edge_limits, chroma_limits, block_filtered};
 ghost use Rattle.vp_loop.specs.Filtered.{macroblock_filtered, row_filtered, filtered, level_in};
 
-use crate::edges::{filter_chroma, filter_luma};
+use crate::edges::{Planes, filter_block};
 use crate::limits::{EdgeLimits, FilterKind};
 use crate::strength::Level;
 use vp_base::Picture;
@@ -22,10 +22,16 @@ fn filter_macroblock(picture: &mut Picture, level: Level, column: usize, row: us
         None => return,
         Some(limits) => limits,
     };
-    filter_luma(picture, 16 * column, 16 * row, limits);
+    filter_block::<true>(picture, Planes::Luma, 16 * column, 16 * row, limits);
     match limits.kind {
         FilterKind::Simple => {}
-        FilterKind::Normal => filter_chroma(picture, 8 * column, 8 * row, limits),
+        FilterKind::Normal => filter_block::<false>(
+            picture,
+            Planes::Chroma,
+            8 * column,
+            8 * row,
+            limits,
+        ),
     }
 }
 

@@ -8,6 +8,7 @@ mod laws;
 mod level_table;
 mod limits;
 mod lines;
+mod load;
 mod store;
 mod strength;
 mod transpose;

@@ -1,24 +1,20 @@
-//! Loading the lines of an edge: those of a vertical edge are transposed to lanes and back, those of a horizontal edge
-//! need no transpose.
+//! Rows of pixels to lines in lanes, and back. The lines of a vertical edge are transposed.
 
-ghost use Rattle.std.specs.Prelude.{◌≡◌, ℕ, ◌+◌, ◌*◌, ◌-◌, ◌≤◌, ◌<◌, List, [], ◌∷◌, length, slice_index};
-ghost use Rattle.std.specs.Prelude.{slice_index_or};
-ghost use Rattle.std.specs.Simd.Lanes.{chunk};
-ghost use Rattle.vp_loop.specs.Edges.{vertical, horizontal, line_at, pixel_at};
-ghost use Rattle.vp_loop.specs.Lanes.{line_of, line_in, line_in_column};
+ghost use Rattle.std.specs.Prelude.{◌≡◌, ℕ, ◌+◌, ◌<◌, [], ◌∷◌, length, slice_index, slice_index_or};
+ghost use Rattle.vp_loop.specs.Edges.{line_from, pixel_at};
+ghost use Rattle.vp_loop.specs.Lanes.{line_of, pixels_of, middle_of};
 
 use crate::lanes::Lines;
 use std::simd::prelude::*;
-use vp_base::Plane;
-use vp_lanes::{load8, load16};
 
-/// Transposes sixteen rows of eight pixels to lines.
+/// The lines in eight rows of eight pixels, followed by those in eight others.
 #[inline(always)]
-fn transpose(rows: [u8x8; 16]) -> Lines
-    ensures { (j : ℕ) → j < 16 → line_of result j ≡ line_in (slice_index_or rows j []) }
+pub(crate) fn transpose(first: [u8x8; 8], second: [u8x8; 8]) -> Lines
+    ensures first { (j : ℕ) → j < 8 → line_of result j ≡ line_from (slice_index (slice_index_or first j [])) }
+    ensures second { (j : ℕ) → j < 8 → line_of result (j + 8) ≡ line_from (slice_index (slice_index_or second j [])) }
 {
-    let [r0, r1, r2, r3, r4, r5, r6, r7, ..] = rows;
-    let [.., r8, r9, r10, r11, r12, r13, r14, r15] = rows;
+    let [r0, r1, r2, r3, r4, r5, r6, r7] = first;
+    let [r8, r9, r10, r11, r12, r13, r14, r15] = second;
     let a0 = r0.shuffle::<16>(r8, [0, 8, 1, 9, 2, 10, 3, 11, 4, 12, 5, 13, 6, 14, 7, 15]);
     let a1 = r1.shuffle::<16>(r9, [0, 8, 1, 9, 2, 10, 3, 11, 4, 12, 5, 13, 6, 14, 7, 15]);
     let a2 = r2.shuffle::<16>(r10, [0, 8, 1, 9, 2, 10, 3, 11, 4, 12, 5, 13, 6, 14, 7, 15]);
@@ -55,9 +51,7 @@ fn transpose(rows: [u8x8; 16]) -> Lines
 #[inline(always)]
 pub(crate) fn untranspose(l: Lines) -> [u8x8; 16]
     ensures len { length result ≡ 16 }
-    ensures value { (j : ℕ) → j < 16 → slice_index_or result j []
-        ≡ (slice_index l.p3 j ∷ slice_index l.p2 j ∷ slice_index l.p1 j ∷ slice_index l.p0 j ∷ slice_index l.q0 j
-        ∷ slice_index l.q1 j ∷ slice_index l.q2 j ∷ slice_index l.q3 j ∷ []) }
+    ensures value { (j : ℕ) → j < 16 → slice_index_or result j [] ≡ pixels_of (line_of l j) }
 {
     let (a0, a1) = l.p3.interleave(l.q0);
     let (b0, b1) = l.p2.interleave(l.q1);
@@ -92,13 +86,12 @@ pub(crate) fn untranspose(l: Lines) -> [u8x8; 16]
 }
 
 /// Transposes the middle four pixels of sixteen lines to rows.
-pub(crate) fn untranspose_middle(p1: u8x16, p0: u8x16, q0: u8x16, q1: u8x16) -> [u8x4; 16]
+pub(crate) fn untranspose_middle(l: Lines) -> [u8x4; 16]
     ensures len { length result ≡ 16 }
-    ensures value { (j : ℕ) → j < 16 → slice_index_or result j []
-        ≡ (slice_index p1 j ∷ slice_index p0 j ∷ slice_index q0 j ∷ slice_index q1 j ∷ []) }
+    ensures value { (j : ℕ) → j < 16 → slice_index_or result j [] ≡ middle_of (line_of l j) }
 {
-    let (a0, a1) = p1.interleave(q0);
-    let (b0, b1) = p0.interleave(q1);
+    let (a0, a1) = l.p1.interleave(l.q0);
+    let (b0, b1) = l.p0.interleave(l.q1);
     let (v0, v1) = a0.interleave(b0);
     let (v2, v3) = a1.interleave(b1);
     [
@@ -130,7 +123,7 @@ fn first_half(v: u8x16) -> u8x8
 
 /// The last eight lanes.
 fn second_half(v: u8x16) -> u8x8
-    ensures { (c : ℕ) → c < 8 → slice_index result c ≡ slice_index v (8 + c) }
+    ensures { (c : ℕ) → c < 8 → slice_index result c ≡ slice_index v (c + 8) }
 {
     v.extract::<8, 8>()
 }
@@ -157,7 +150,7 @@ pub(crate) fn first_halves(l: Lines) -> [u8x8; 8]
 pub(crate) fn second_halves(l: Lines) -> [u8x8; 8]
     ensures len { length result ≡ 8 }
     ensures value { (c : ℕ) → c < 8 → (r : ℕ) → r < 8 → slice_index (slice_index_or result r []) c
-        ≡ pixel_at (line_of l (8 + c)) r }
+        ≡ pixel_at (line_of l (c + 8)) r }
 {
     [
         second_half(l.p3),
@@ -171,231 +164,35 @@ pub(crate) fn second_halves(l: Lines) -> [u8x8; 8]
     ]
 }
 
-/// Loads eight pixels of one plane from index `u_at` on, followed by eight of the other from `v_at` on.
+/// Eight lanes, followed by eight others.
 #[inline(always)]
-fn eight_of_both(u: &[u8], u_at: usize, v: &[u8], v_at: usize) -> u8x16
-    requires u_room { u_at + 8 ≤ length u.now }
-    requires v_room { v_at + 8 ≤ length v.now }
-    ensures first { (c : ℕ) → c < 8 → slice_index result c ≡ slice_index u.now (u_at + c) }
-    ensures second { (c : ℕ) → c < 8 → slice_index result (8 + c) ≡ slice_index v.now (v_at + c) }
+fn joined(first: u8x8, second: u8x8) -> u8x16
+    ensures first { (c : ℕ) → c < 8 → slice_index result c ≡ slice_index first c }
+    ensures second { (c : ℕ) → c < 8 → slice_index result (c + 8) ≡ slice_index second c }
 {
-    load8(u, u_at).shuffle::<16>(
-        load8(v, v_at),
+    first.shuffle::<16>(
+        second,
         [0, 1, 2, 3, 4, 5, 6, 7, 8, 9, 10, 11, 12, 13, 14, 15],
     )
 }
 
-/// Loads the sixteen lines of a horizontal edge, the first from index `at` on. Rows are `stride` apart: each index is
-/// the previous one plus `stride`.
+/// The lines down eight rows of eight pixels, followed by those down eight others.
 #[inline(always)]
-fn rows_horizontal(pixels: &[u8], at: usize, stride: usize) -> Lines
-    requires room { at + 7 * stride + 16 ≤ length pixels.now }
-    ensures { (c : ℕ) → c < 16 → line_of result c ≡ line_in_column pixels.now (at + c) stride }
+pub(crate) fn join(first: [u8x8; 8], second: [u8x8; 8]) -> Lines
+    ensures first { (j : ℕ) → j < 8 → line_of result j ≡ line_from (λ r. slice_index (slice_index_or first r []) j) }
+    ensures second { (j : ℕ) → j < 8
+        → line_of result (j + 8) ≡ line_from (λ r. slice_index (slice_index_or second r []) j) }
 {
-    let a1 = at + stride;
-    let a2 = a1 + stride;
-    let a3 = a2 + stride;
-    let a4 = a3 + stride;
-    let a5 = a4 + stride;
-    let a6 = a5 + stride;
-    let a7 = a6 + stride;
+    let [u0, u1, u2, u3, u4, u5, u6, u7] = first;
+    let [v0, v1, v2, v3, v4, v5, v6, v7] = second;
     Lines {
-        p3: load16(pixels, at),
-        p2: load16(pixels, a1),
-        p1: load16(pixels, a2),
-        p0: load16(pixels, a3),
-        q0: load16(pixels, a4),
-        q1: load16(pixels, a5),
-        q2: load16(pixels, a6),
-        q3: load16(pixels, a7),
+        p3: joined(u0, v0),
+        p2: joined(u1, v1),
+        p1: joined(u2, v2),
+        p0: joined(u3, v3),
+        q0: joined(u4, v4),
+        q1: joined(u5, v5),
+        q2: joined(u6, v6),
+        q3: joined(u7, v7),
     }
-}
-
-/// Loads the lines of a horizontal edge: eight of one plane, followed by eight of the other.
-#[inline(always)]
-fn load_rows_horizontal_chroma(
-    u: &[u8],
-    u_at: usize,
-    u_stride: usize,
-    v: &[u8],
-    v_at: usize,
-    v_stride: usize,
-) -> Lines
-    requires u_room { u_at + 7 * u_stride + 8 ≤ length u.now }
-    requires v_room { v_at + 7 * v_stride + 8 ≤ length v.now }
-    ensures first { (c : ℕ) → c < 8 → line_of result c ≡ line_in_column u.now (u_at + c) u_stride }
-    ensures second { (c : ℕ) → c < 8 → line_of result (8 + c) ≡ line_in_column v.now (v_at + c) v_stride }
-{
-    let u1 = u_at + u_stride;
-    let u2 = u1 + u_stride;
-    let u3 = u2 + u_stride;
-    let u4 = u3 + u_stride;
-    let u5 = u4 + u_stride;
-    let u6 = u5 + u_stride;
-    let u7 = u6 + u_stride;
-    let v1 = v_at + v_stride;
-    let v2 = v1 + v_stride;
-    let v3 = v2 + v_stride;
-    let v4 = v3 + v_stride;
-    let v5 = v4 + v_stride;
-    let v6 = v5 + v_stride;
-    let v7 = v6 + v_stride;
-    Lines {
-        p3: eight_of_both(u, u_at, v, v_at),
-        p2: eight_of_both(u, u1, v, v1),
-        p1: eight_of_both(u, u2, v, v2),
-        p0: eight_of_both(u, u3, v, v3),
-        q0: eight_of_both(u, u4, v, v4),
-        q1: eight_of_both(u, u5, v, v5),
-        q2: eight_of_both(u, u6, v, v6),
-        q3: eight_of_both(u, u7, v, v7),
-    }
-}
-
-/// Loads the sixteen lines of a vertical edge, the first from index `at` on.
-#[inline(always)]
-fn rows_vertical(pixels: &[u8], at: usize, stride: usize) -> Lines
-    requires room { at + 15 * stride + 8 ≤ length pixels.now }
-    ensures { (j : ℕ) → j < 16 → line_of result j ≡ line_in (chunk (at + j * stride) 8 pixels.now) }
-{
-    let a1 = at + stride;
-    let a2 = a1 + stride;
-    let a3 = a2 + stride;
-    let a4 = a3 + stride;
-    let a5 = a4 + stride;
-    let a6 = a5 + stride;
-    let a7 = a6 + stride;
-    let a8 = a7 + stride;
-    let a9 = a8 + stride;
-    let a10 = a9 + stride;
-    let a11 = a10 + stride;
-    let a12 = a11 + stride;
-    let a13 = a12 + stride;
-    let a14 = a13 + stride;
-    let a15 = a14 + stride;
-    transpose([
-        load8(pixels, at),
-        load8(pixels, a1),
-        load8(pixels, a2),
-        load8(pixels, a3),
-        load8(pixels, a4),
-        load8(pixels, a5),
-        load8(pixels, a6),
-        load8(pixels, a7),
-        load8(pixels, a8),
-        load8(pixels, a9),
-        load8(pixels, a10),
-        load8(pixels, a11),
-        load8(pixels, a12),
-        load8(pixels, a13),
-        load8(pixels, a14),
-        load8(pixels, a15),
-    ])
-}
-
-/// Loads the lines of a vertical edge: eight of one plane, followed by eight of the other.
-#[inline(always)]
-fn load_rows_vertical_chroma(
-    u: &[u8],
-    u_at: usize,
-    u_stride: usize,
-    v: &[u8],
-    v_at: usize,
-    v_stride: usize,
-) -> Lines
-    requires u_room { u_at + 7 * u_stride + 8 ≤ length u.now }
-    requires v_room { v_at + 7 * v_stride + 8 ≤ length v.now }
-    ensures first { (j : ℕ) → j < 8 → line_of result j ≡ line_in (chunk (u_at + j * u_stride) 8 u.now) }
-    ensures second { (j : ℕ) → j < 8 → line_of result (8 + j) ≡ line_in (chunk (v_at + j * v_stride) 8 v.now) }
-{
-    let u1 = u_at + u_stride;
-    let u2 = u1 + u_stride;
-    let u3 = u2 + u_stride;
-    let u4 = u3 + u_stride;
-    let u5 = u4 + u_stride;
-    let u6 = u5 + u_stride;
-    let u7 = u6 + u_stride;
-    let v1 = v_at + v_stride;
-    let v2 = v1 + v_stride;
-    let v3 = v2 + v_stride;
-    let v4 = v3 + v_stride;
-    let v5 = v4 + v_stride;
-    let v6 = v5 + v_stride;
-    let v7 = v6 + v_stride;
-    transpose([
-        load8(u, u_at),
-        load8(u, u1),
-        load8(u, u2),
-        load8(u, u3),
-        load8(u, u4),
-        load8(u, u5),
-        load8(u, u6),
-        load8(u, u7),
-        load8(v, v_at),
-        load8(v, v1),
-        load8(v, v2),
-        load8(v, v3),
-        load8(v, v4),
-        load8(v, v5),
-        load8(v, v6),
-        load8(v, v7),
-    ])
-}
-
-/// Loads the sixteen lines of a horizontal edge, in columns `x` to `x + 15`, from row `y` on.
-#[inline(always)]
-pub(crate) fn load_horizontal_edge(plane: &Plane, x: usize, y: usize) -> Lines
-    requires columns { x + 16 ≤ plane.now.width }
-    requires rows { y + 8 ≤ plane.now.height }
-    ensures { (c : ℕ) → c < 16 → line_of result c ≡ line_at horizontal plane.now (x + c) y }
-{
-    let _known = plane.height();
-    let stride = plane.width();
-    rows_horizontal(plane.pixels(), y * stride + x, stride)
-}
-
-/// Loads the lines of a horizontal edge: eight of one plane, followed by eight of the other.
-#[inline(always)]
-pub(crate) fn load_horizontal_chroma_edge(u: &Plane, v: &Plane, x: usize, y: usize) -> Lines
-    requires u_columns { x + 8 ≤ u.now.width }
-    requires u_rows { y + 8 ≤ u.now.height }
-    requires v_columns { x + 8 ≤ v.now.width }
-    requires v_rows { y + 8 ≤ v.now.height }
-    ensures first { (c : ℕ) → c < 8 → line_of result c ≡ line_at horizontal u.now (x + c) y }
-    ensures second { (c : ℕ) → c < 8 → line_of result (8 + c) ≡ line_at horizontal v.now (x + c) y }
-{
-    let _known = u.height();
-    let _known = v.height();
-    let us = u.width();
-    let vs = v.width();
-    load_rows_horizontal_chroma(u.pixels(), y * us + x, us, v.pixels(), y * vs + x, vs)
-}
-
-/// Loads the sixteen lines of a vertical edge, in rows `y` to `y + 15`, from column `x` on.
-#[inline(always)]
-pub(crate) fn load_vertical_edge(plane: &Plane, x: usize, y: usize) -> Lines
-    requires columns { x + 8 ≤ plane.now.width }
-    requires rows { y + 16 ≤ plane.now.height }
-    ensures { (j : ℕ) → j < 16 → line_of result j ≡ line_at vertical plane.now x (y + j) }
-{
-    let _known = plane.height();
-    let stride = plane.width();
-    rows_vertical(plane.pixels(), y * stride + x, stride)
-}
-
-/// Loads the lines of a vertical edge: eight of one plane, followed by eight of the other.
-#[inline(always)]
-pub(crate) fn load_vertical_chroma_edge(u: &Plane, v: &Plane, x: usize, y: usize) -> Lines
-    requires u_columns { x + 8 ≤ u.now.width }
-    requires u_rows { y + 8 ≤ u.now.height }
-    requires v_columns { x + 8 ≤ v.now.width }
-    requires v_rows { y + 8 ≤ v.now.height }
-    ensures first { (j : ℕ) → j < 8 → line_of result j ≡ line_at vertical u.now x (y + j) }
-    ensures second { (j : ℕ) → j < 8 → line_of result (8 + j) ≡ line_at vertical v.now x (y + j) }
-{
-    let _known = u.height();
-    let _known = v.height();
-    let us = u.width();
-    let vs = v.width();
-    load_rows_vertical_chroma(u.pixels(), y * us + x, us, v.pixels(), y * vs + x, vs)
 }

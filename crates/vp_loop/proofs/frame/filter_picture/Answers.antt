@@ -1,25 +1,25 @@
-use Rattle.std.proofs.Common.{◌≡◌, ◌∙◌, ℕ, ◌+◌, ◌*◌, ◌<◌, ◌≤◌, ap, sym, subst, arith, length}
+use Rattle.std.proofs.Common.{◌≡◌, ◌∙◌, ℕ, ◌+◌, ◌*◌, ◌<◌, ◌≤◌, ap, refl, sym, subst, arith, length}
 use Rattle.std.proofs.lemmas.Nat.{row_fits}
 use Rattle.vp_base.specs.Image.{Image, macroblocks}
-use Rattle.vp_loop.specs.Filtered.{row_filtered, level_in}
-use Rattle.vp_loop.proofs.FrameLemmas.{Sizes, first_rows, first_rows-none, first_rows-more, sizes-first_rows, filtered-all}
+use Rattle.vp_base.specs.Over.{over}
+use Rattle.vp_base.proofs.OverLemmas.{over-none, over-next}
+use Rattle.vp_loop.specs.Filtered.{row_filtered, filtered, level_in}
+use Rattle.vp_loop.proofs.FrameLemmas.{keeps_rows}
 use Rattle.vp_loop.proofs.frame.filter_picture.Goals as goal
 
 pub loop-row-init : goal.loop-row-init
-loop-row-init c = sym (first_rows-none (level_in c.args.levels.now (macroblocks c.args.picture.now.width)) c.args.picture.now)
+loop-row-init c = sym (over-none (row_filtered (level_in c.args.levels.now (macroblocks c.args.picture.now.width))) c.args.picture.now)
 
 pub filter_row-requires-clause-row : goal.filter_row-requires-clause-row
 filter_row-requires-clause-row c =
-    let s = sizes-first_rows (level_in c.args.levels.now (macroblocks c.args.picture.now.width)) c.loop-row.row c.args.picture.now in
-    let h : c.loop-row.picture.height ≡ c.args.picture.now.height = ap (λ (p : Image). p.height) c.loop-row.invariant ∙ ap (λ (s : Sizes). s.height) s in
+    let h : c.loop-row.picture.height ≡ c.args.picture.now.height = ap (λ (p : Image). p.height) c.loop-row.invariant ∙ keeps_rows (λ (q : Image). q.height) (λ level column row q. refl) (level_in c.args.levels.now (macroblocks c.args.picture.now.width)) c.loop-row.row c.args.picture.now in
     let e = c.mb_rows.ensures.value in
     let d = c.dim.ensures.height in
     omega arith
 
 pub filter_row-requires-clause-levels : goal.filter_row-requires-clause-levels
 filter_row-requires-clause-levels c =
-    let s = sizes-first_rows (level_in c.args.levels.now (macroblocks c.args.picture.now.width)) c.loop-row.row c.args.picture.now in
-    let w : c.loop-row.picture.width ≡ c.args.picture.now.width = ap (λ (p : Image). p.width) c.loop-row.invariant ∙ ap (λ (s : Sizes). s.width) s in
+    let w : c.loop-row.picture.width ≡ c.args.picture.now.width = ap (λ (p : Image). p.width) c.loop-row.invariant ∙ keeps_rows (λ (q : Image). q.width) (λ level column row q. refl) (level_in c.args.levels.now (macroblocks c.args.picture.now.width)) c.loop-row.row c.args.picture.now in
     let e = c.mb_rows.ensures.value in
     let d = c.dim.ensures.height in
     let cols = macroblocks c.args.picture.now.width in
@@ -30,20 +30,17 @@ filter_row-requires-clause-levels c =
 
 pub loop-row-preserved : goal.loop-row-preserved
 loop-row-preserved c =
-    let s = sizes-first_rows (level_in c.args.levels.now (macroblocks c.args.picture.now.width)) c.loop-row.row c.args.picture.now in
-    let w : c.loop-row.picture.width ≡ c.args.picture.now.width = ap (λ (p : Image). p.width) c.loop-row.invariant ∙ ap (λ (s : Sizes). s.width) s in
+    let w : c.loop-row.picture.width ≡ c.args.picture.now.width = ap (λ (p : Image). p.width) c.loop-row.invariant ∙ keeps_rows (λ (q : Image). q.width) (λ level column row q. refl) (level_in c.args.levels.now (macroblocks c.args.picture.now.width)) c.loop-row.row c.args.picture.now in
     let cols = macroblocks c.args.picture.now.width in
     c.filter_row.ensures
     ∙ (ap (λ (n : ℕ). row_filtered (level_in c.args.levels.now (macroblocks n)) c.loop-row.row c.loop-row.picture) w
-    ∙ (ap (λ (p : Image). row_filtered (level_in c.args.levels.now cols) c.loop-row.row p) c.loop-row.invariant
-    ∙ first_rows-more (level_in c.args.levels.now cols) c.loop-row.row c.args.picture.now))
+    ∙ over-next c.loop-row.row (row_filtered (level_in c.args.levels.now cols)) c.args.picture.now c.loop-row.picture c.loop-row.invariant)
 
 pub returns : goal.returns
+unfolding filtered
 returns c =
     let p = c.args.picture.now in
     let e = c.mb_rows.ensures.value in
     let d = c.dim.ensures.height in
     let all : c.loop-row.row ≡ macroblocks p.height = omega arith in
-    c.loop-row.invariant
-    ∙ (ap (λ (n : ℕ). first_rows (level_in c.args.levels.now (macroblocks p.width)) n p) all
-    ∙ filtered-all (level_in c.args.levels.now (macroblocks p.width)) p)
+    c.loop-row.invariant ∙ ap (λ (n : ℕ). over n (row_filtered (level_in c.args.levels.now (macroblocks p.width))) p) all

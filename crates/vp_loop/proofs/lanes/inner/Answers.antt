@@ -3,10 +3,10 @@ use lib.Signed.{shr_z as floor_div}
 use Rattle.vp_lanes.specs.Lane.{clamp_to_byte, biased}
 use Rattle.vp_loop.specs.LineSteps.{clamp8, is_small_step, is_smooth, is_high, subblock_edge_filtered}
 use Rattle.vp_loop.specs.Lanes.{line_of}
-use Rattle.vp_loop.proofs.LaneLines.{smooth_is, lt_max, lane_pull, lane_eighth, lane_half, lane_inner, inner_is}
+use Rattle.vp_loop.proofs.LaneLines.{HasNoEighth, smooth_is, lt_max, lane_pull, lane_eighth, lane_half, lane_inner, inner_is}
 use Rattle.vp_lanes.proofs.Bytes.{byte_lane}
 use Rattle.vp_lanes.proofs.Shape.{unsigned_lanes}
-use Rattle.vp_loop.proofs.NearLemmas.{HasNoEighth, no_eighth, inner_none}
+use Rattle.vp_loop.proofs.NearLemmas.{no_eighth, inner_none}
 use Rattle.vp_loop.proofs.lanes.inner.Goals as goal
 
 pub half-h-requires : goal.half-h-requires

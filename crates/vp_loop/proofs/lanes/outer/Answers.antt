@@ -3,10 +3,10 @@ use lib.Signed.{shr_z as floor_div}
 use Rattle.vp_lanes.specs.Lane.{clamp_to_byte, biased}
 use Rattle.vp_loop.specs.LineSteps.{clamp8, is_small_step, is_smooth, is_high, macroblock_edge_filtered}
 use Rattle.vp_loop.specs.Lanes.{line_of}
-use Rattle.vp_loop.proofs.LaneLines.{smooth_is, lt_max, lane_pull, lane_eighth, lane_share, lane_outer, outer_is}
+use Rattle.vp_loop.proofs.LaneLines.{HasNoEighth, HasNoShare, smooth_is, lt_max, lane_pull, lane_eighth, lane_share, lane_outer, outer_is}
 use Rattle.vp_lanes.proofs.Bytes.{byte_lane}
 use Rattle.vp_lanes.proofs.Shape.{unsigned_lanes}
-use Rattle.vp_loop.proofs.NearLemmas.{HasNoEighth, HasNoShare, no_eighth, no_share, nearer, outer_none}
+use Rattle.vp_loop.proofs.NearLemmas.{no_eighth, no_share, nearer, outer_none}
 use Rattle.vp_loop.proofs.lanes.outer.Goals as goal
 
 pub either-u0-requires : goal.either-u0-requires

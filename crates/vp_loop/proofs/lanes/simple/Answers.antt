@@ -3,10 +3,10 @@ use lib.Signed.{shr_z as floor_div}
 use Rattle.vp_lanes.specs.Lane.{clamp_to_byte, biased}
 use Rattle.vp_loop.specs.LineSteps.{clamp8, is_small_step, common_adjusted}
 use Rattle.vp_loop.specs.Lanes.{line_of}
-use Rattle.vp_loop.proofs.LaneLines.{all_smooth, lane_pull, lane_eighth, lane_drawn, drawn_is}
+use Rattle.vp_loop.proofs.LaneLines.{HasNoEighth, all_smooth, lane_pull, lane_eighth, lane_drawn, drawn_is}
 use Rattle.vp_lanes.proofs.Bytes.{byte_lane}
 use Rattle.vp_lanes.proofs.Shape.{unsigned_lanes}
-use Rattle.vp_loop.proofs.NearLemmas.{HasNoEighth, no_eighth, drawn_none}
+use Rattle.vp_loop.proofs.NearLemmas.{no_eighth, drawn_none}
 use Rattle.vp_loop.proofs.lanes.simple.Goals as goal
 
 pub returns : goal.returns

@@ -14,19 +14,7 @@ returns-clause-value c =
     let l1 : length c.args.l.p1 ≡ 16 = c.well_formed.0.1.1.1.1.0.1.0.1 in
     let l0 : length c.args.l.p0 ≡ 16 = c.well_formed.0.1.1.1.1.1.0.1.0.1 in
     below_sixteen _
-    (e 0 l3 l2 l1 l0 (omega arith))
-    (e 1 l3 l2 l1 l0 (omega arith))
-    (e 2 l3 l2 l1 l0 (omega arith))
-    (e 3 l3 l2 l1 l0 (omega arith))
-    (e 4 l3 l2 l1 l0 (omega arith))
-    (e 5 l3 l2 l1 l0 (omega arith))
-    (e 6 l3 l2 l1 l0 (omega arith))
-    (e 7 l3 l2 l1 l0 (omega arith))
-    (e 8 l3 l2 l1 l0 (omega arith))
-    (e 9 l3 l2 l1 l0 (omega arith))
-    (e 10 l3 l2 l1 l0 (omega arith))
-    (e 11 l3 l2 l1 l0 (omega arith))
-    (e 12 l3 l2 l1 l0 (omega arith))
-    (e 13 l3 l2 l1 l0 (omega arith))
-    (e 14 l3 l2 l1 l0 (omega arith))
-    (e 15 l3 l2 l1 l0 (omega arith))
+    (e 0 l3 l2 l1 l0 (omega arith)) (e 1 l3 l2 l1 l0 (omega arith)) (e 2 l3 l2 l1 l0 (omega arith)) (e 3 l3 l2 l1 l0 (omega arith))
+    (e 4 l3 l2 l1 l0 (omega arith)) (e 5 l3 l2 l1 l0 (omega arith)) (e 6 l3 l2 l1 l0 (omega arith)) (e 7 l3 l2 l1 l0 (omega arith))
+    (e 8 l3 l2 l1 l0 (omega arith)) (e 9 l3 l2 l1 l0 (omega arith)) (e 10 l3 l2 l1 l0 (omega arith)) (e 11 l3 l2 l1 l0 (omega arith))
+    (e 12 l3 l2 l1 l0 (omega arith)) (e 13 l3 l2 l1 l0 (omega arith)) (e 14 l3 l2 l1 l0 (omega arith)) (e 15 l3 l2 l1 l0 (omega arith))

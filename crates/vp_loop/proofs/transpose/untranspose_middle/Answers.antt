@@ -1,5 +1,5 @@
+use Rattle.std.proofs.Common.{◌≡◌, length, refl, arith}
 use Rattle.vp_loop.proofs.TransposeLemmas.{below_sixteen, joined_four_is}
-use Rattle.std.proofs.Common.{refl, arith}
 use Rattle.vp_loop.proofs.transpose.untranspose_middle.Goals as goal
 
 pub returns-clause-len : goal.returns-clause-len
@@ -7,23 +7,11 @@ returns-clause-len c = refl
 
 pub returns-clause-value : goal.returns-clause-value
 returns-clause-value c =
-    let e = joined_four_is c.args.p1 c.args.p0 c.args.q0 c.args.q1 in
-    let l1 = c.fits-p1.0 in
-    let l0 = c.fits-p0.0 in
-    below_sixteen _
-    (e 0 l1 l0 (omega arith))
-    (e 1 l1 l0 (omega arith))
-    (e 2 l1 l0 (omega arith))
-    (e 3 l1 l0 (omega arith))
-    (e 4 l1 l0 (omega arith))
-    (e 5 l1 l0 (omega arith))
-    (e 6 l1 l0 (omega arith))
-    (e 7 l1 l0 (omega arith))
-    (e 8 l1 l0 (omega arith))
-    (e 9 l1 l0 (omega arith))
-    (e 10 l1 l0 (omega arith))
-    (e 11 l1 l0 (omega arith))
-    (e 12 l1 l0 (omega arith))
-    (e 13 l1 l0 (omega arith))
-    (e 14 l1 l0 (omega arith))
-    (e 15 l1 l0 (omega arith))
+    let l = c.args.l in
+    let e = joined_four_is l.p1 l.p0 l.q0 l.q1 in
+    let l1 : length c.args.l.p1 ≡ 16 = c.well_formed.0.1.1.1.1.0.1.0.1 in
+    let l0 : length c.args.l.p0 ≡ 16 = c.well_formed.0.1.1.1.1.1.0.1.0.1 in
+    below_sixteen _ (e 0 l1 l0 (omega arith)) (e 1 l1 l0 (omega arith)) (e 2 l1 l0 (omega arith)) (e 3 l1 l0 (omega arith))
+    (e 4 l1 l0 (omega arith)) (e 5 l1 l0 (omega arith)) (e 6 l1 l0 (omega arith)) (e 7 l1 l0 (omega arith))
+    (e 8 l1 l0 (omega arith)) (e 9 l1 l0 (omega arith)) (e 10 l1 l0 (omega arith)) (e 11 l1 l0 (omega arith))
+    (e 12 l1 l0 (omega arith)) (e 13 l1 l0 (omega arith)) (e 14 l1 l0 (omega arith)) (e 15 l1 l0 (omega arith))
