@@ -15,4 +15,3 @@ pub mod RowReads
 pub mod RowWrites
 pub mod EdgeWrites
 pub mod LevelLemmas
-pub mod Formerly
