@@ -1,11 +1,9 @@
-pub mod Sums
 pub mod ReferenceLemmas
 pub mod FilterLemmas
 pub mod PassLemmas
 pub mod NarrowLemmas
-pub mod PlainLemmas
 pub mod LongLanes
 pub mod WideLemmas
 pub mod FilteredLemmas
-pub mod ShortLemmas
 pub mod StripLemmas
+pub mod ChromaLemmas

@@ -1,5 +1,6 @@
 -- Vectors of i32 that are products of bytes, and sums of two such.
-use Rattle.std.proofs.Common.{◌≡◌, ◌∙◌, refl, [], ◌∷◌, ℕ, zero, suc, ◌*◌, ◌+◌, ◌<◌, ◌≤◌, ◌++◌, Bool, true, false, cond, List, map, length, get_or, replicate, sym, ap, subst, arith, rules, ℤ, pos, negsuc, ◌+ℤ◌, ◌*ℤ◌, ◌≤ℤ◌, to_z, of_z, w8, w16, w32}
+use Rattle.std.proofs.Common.{◌≡◌, ◌∙◌, refl, [], ◌∷◌, ℕ, zero, suc, ◌*◌, ◌+◌, ◌-◌, ◌<◌, ◌≤◌, ◌++◌, inl, inr, Bool, true, false, cond, List, map, length, get_or, replicate, sym, ap, subst, arith, rules, ℤ, pos, negsuc, ◌+ℤ◌, ◌*ℤ◌, ◌≤ℤ◌, to_z, of_z, w8, w16, w32}
+use Rattle.std.proofs.lemmas.Bool.{cases_lt}
 use Rattle.std.proofs.lemmas.List.{places}
 use Rattle.std.proofs.lemmas.Int.{ints, clamps, to_z-of_z}
 use Rattle.std.specs.Int.{int_min, int_max}
@@ -103,6 +104,16 @@ by_eight P a b c d e f g h (suc (suc (suc (suc (suc (suc zero)))))) p = g
 by_eight P a b c d e f g h (suc (suc (suc (suc (suc (suc (suc zero))))))) p = h
 by_eight P a b c d e f g h (suc (suc (suc (suc (suc (suc (suc (suc n)))))))) p = absurd (omega arith)
 
+-- sixteen lanes one by one
+pub by_sixteen : (P : ℕ → Type 0) → P 0 → P 1 → P 2 → P 3 → P 4 → P 5 → P 6 → P 7 → P 8 → P 9 → P 10 → P 11 → P 12 → P 13 → P 14 → P 15 → (i : ℕ) → i < 16 → P i
+by_sixteen P a b c d e f g h a2 b2 c2 d2 e2 f2 g2 h2 i below =
+    elim (cases_lt i 8) [
+      | inl less ↦ by_eight P a b c d e f g h i less
+      | inr more ↦
+          let place : 8 + (i - 8) ≡ i = omega arith in
+          subst P place (by_eight (λ j. P (8 + j)) a2 b2 c2 d2 e2 f2 g2 h2 (i - 8) (omega arith))
+    ]
+
 front : (xs ys : List ℕ) (k : ℕ) → k < length xs → get_or (xs ++ ys) k 0 ≡ get_or xs k 0
 front xs ys k h = search (rules, places)
 
@@ -137,8 +148,8 @@ byte_is z p =
     ap (λ (y : ℤ). to_z w8 (of_z w8 y)) (to_z-of_z w16 z g) ∙ to_z-of_z w8 z (byte_fits z p.0 p.1)
 
 -- the lanes of two vectors
-pub fore : (xs ys : List ℕ) → length xs ≡ 8 → (k : ℕ) → k < 8 → get_or (xs ++ ys) k 0 ≡ get_or xs k 0
-fore xs ys long k h = front xs ys k (omega arith)
+pub fore : (n : ℕ) (xs ys : List ℕ) → length xs ≡ n → (k : ℕ) → k < n → get_or (xs ++ ys) k 0 ≡ get_or xs k 0
+fore n xs ys long k h = front xs ys k (omega arith)
 
 pub back : (xs ys : List ℕ) → length xs ≡ 8 → (k : ℕ) → get_or (xs ++ ys) (8 + k) 0 ≡ get_or ys k 0
 back xs ys long k = search (rules, places)
@@ -148,9 +159,18 @@ lane_kept [] k = refl
 lane_kept (x ∷ xs) zero = refl
 lane_kept (x ∷ xs) (suc k) = lane_kept xs k
 
-pub short_kept : (z : ℤ) → (negsuc 127 ≤ℤ z) × (z ≤ℤ pos 127) → to_z w16 (of_z w16 z) ≡ z
-short_kept z p = to_z-of_z w16 z (fits_range z (omega (arith, ints)) (omega (arith, ints)))
-
 -- lanes of signed bytes, passed on
 pub byte_kept : (xs : List ℤ) (k : ℕ) (z y : ℤ) → lane xs k ≡ z → (negsuc 127 ≤ℤ z) × (z ≤ℤ pos 127) → y ≡ z → lane (map (to_z w8) (map (of_z w8) xs)) k ≡ y
 byte_kept xs k z y e p f = lane_kept xs k ∙ ap (λ (x : ℤ). to_z w8 (of_z w8 x)) e ∙ to_z-of_z w8 z (byte_fits z p.0 p.1) ∙ sym f
+
+-- six numbers that a list has
+pub six_of : (w : List ℤ) (a b c d e f : ℤ) → length w ≡ 6 → a ≡ lane w 0 → b ≡ lane w 1 → c ≡ lane w 2 → d ≡ lane w 3 → e ≡ lane w 4 → f ≡ lane w 5
+    → a ∷ b ∷ c ∷ d ∷ e ∷ f ∷ [] ≡ w
+six_of (u ∷ v ∷ x ∷ y ∷ z ∷ t ∷ []) a b c d e f long pa pb pc pd pe pf = cc
+six_of [] a b c d e f long pa pb pc pd pe pf = absurd (omega (arith, long))
+six_of (u ∷ []) a b c d e f long pa pb pc pd pe pf = absurd (omega (arith, long))
+six_of (u ∷ v ∷ []) a b c d e f long pa pb pc pd pe pf = absurd (omega (arith, long))
+six_of (u ∷ v ∷ x ∷ []) a b c d e f long pa pb pc pd pe pf = absurd (omega (arith, long))
+six_of (u ∷ v ∷ x ∷ y ∷ []) a b c d e f long pa pb pc pd pe pf = absurd (omega (arith, long))
+six_of (u ∷ v ∷ x ∷ y ∷ z ∷ []) a b c d e f long pa pb pc pd pe pf = absurd (omega (arith, long))
+six_of (u ∷ v ∷ x ∷ y ∷ z ∷ t ∷ s ∷ r) a b c d e f long pa pb pc pd pe pf = absurd (omega (arith, long))

@@ -1,13 +1,13 @@
 -- Weighed sums that an i16 holds.
-use Rattle.std.proofs.Common.{◌≡◌, ◌∙◌, ℕ, zero, suc, ◌*◌, ◌<◌, ◌≤◌, ap, arith, ℤ, pos, negsuc, ◌+ℤ◌, ◌-ℤ◌, ◌*ℤ◌, ◌≤ℤ◌, List, refl}
+use Rattle.std.proofs.Common.{◌≡◌, ◌∙◌, ℕ, zero, suc, ◌*◌, ◌<◌, ◌≤◌, ap, arith, ℤ, pos, negsuc, ◌+ℤ◌, ◌-ℤ◌, ◌*ℤ◌, ◌≤ℤ◌, List, length, refl}
 use Rattle.std.proofs.lemmas.Int.{ints, clamps}
 use lib.Signed.{shr_z as floor_div}
 use Rattle.std.specs.Prelude.{unsigned_abs}
 use Rattle.std.specs.Int.{int_min, int_max}
 use Rattle.vp_lanes.specs.Lane.{clamp_to_byte}
 use Rattle.vp_tables.specs.Tables.{six_taps}
-use Rattle.vp_inter.specs.Filter.{clamp_to_pixel, weighed, filtered_pixel}
-use Rattle.vp_inter.specs.Narrow.{IsFrom, IsShort, weight, pair, sum_of_six, SumsFitI16, ArePairable}
+use Rattle.vp_inter.specs.Filter.{clamp_to_pixel, weighed, filtered_pixel, filter_six}
+use Rattle.vp_inter.specs.Narrow.{IsFrom, IsShort, weight, pair, sum_of_two, sum_of_four, sum_of_six, SumsFitI16, ArePairable}
 
 -- ---- one product
 times : (x n : ℕ) → x < 256 → x * n ≤ 255 * n
@@ -52,24 +52,29 @@ pairable_fits a b (negsuc m) (negsuc n) g pa pb =
     let rb = lowered_in b (negsuc n) pb (omega (arith, ints)) in
     (omega (arith, ints), omega (arith, ints))
 
-pub inner_fits : (weights : List ℤ) (b c d e : ℕ) → SumsFitI16 weights → b < 256 → c < 256 → d < 256 → e < 256
-    → IsShort (pair c d (weight weights 2) (weight weights 3) -ℤ pos 16320 +ℤ pair b e (weight weights 1) (weight weights 4))
-inner_fits weights b c d e g pb pc pd pe =
-    let rb = lowered_in b (weight weights 1) pb g.1.1 in
-    let rc = raised_in c (weight weights 2) pc g.2.0 in
-    let rd = raised_in d (weight weights 3) pd g.3.0 in
-    let re = lowered_in e (weight weights 4) pe g.5.1 in
+pub pairables : (w : List ℤ) → SumsFitI16 w → ArePairable (weight w 0) (weight w 3) × ArePairable (weight w 1) (weight w 4) × ArePairable (weight w 2) (weight w 5)
+pairables w g = (
+  ((omega (arith, ints), omega (arith, ints)), (omega (arith, ints), omega (arith, ints)), omega (arith, ints)),
+  ((omega (arith, ints), omega (arith, ints)), (omega (arith, ints), omega (arith, ints)), omega (arith, ints)),
+  ((omega (arith, ints), omega (arith, ints)), (omega (arith, ints), omega (arith, ints)), omega (arith, ints)),
+)
+
+pub inner_fits : (w : List ℤ) (pixel : ℕ → ℕ) → SumsFitI16 w → ((k : ℕ) → pixel k < 256) → IsShort (sum_of_four w pixel)
+inner_fits w pixel g byte =
+    let rb = lowered_in (pixel 1) (weight w 1) (byte 1) g.1.1 in
+    let rc = raised_in (pixel 2) (weight w 2) (byte 2) g.2.0 in
+    let rd = raised_in (pixel 3) (weight w 3) (byte 3) g.3.0 in
+    let re = lowered_in (pixel 4) (weight w 4) (byte 4) g.5.1 in
     (omega (arith, ints), omega (arith, ints))
 
-pub whole_fits : (weights : List ℤ) (a b c d e f : ℕ) → SumsFitI16 weights → a < 256 → b < 256 → c < 256 → d < 256 → e < 256 → f < 256
-    → IsShort (pair c d (weight weights 2) (weight weights 3) -ℤ pos 16320 +ℤ pair b e (weight weights 1) (weight weights 4) +ℤ pair a f (weight weights 0) (weight weights 5))
-whole_fits weights a b c d e f g pa pb pc pd pe pf =
-    let ra = raised_in a (weight weights 0) pa g.0.0 in
-    let rb = lowered_in b (weight weights 1) pb g.1.1 in
-    let rc = raised_in c (weight weights 2) pc g.2.0 in
-    let rd = raised_in d (weight weights 3) pd g.3.0 in
-    let re = lowered_in e (weight weights 4) pe g.5.1 in
-    let rf = raised_in f (weight weights 5) pf g.6.0 in
+pub whole_fits : (w : List ℤ) (pixel : ℕ → ℕ) → SumsFitI16 w → ((k : ℕ) → pixel k < 256) → IsShort (sum_of_six w pixel)
+whole_fits w pixel g byte =
+    let ra = raised_in (pixel 0) (weight w 0) (byte 0) g.0.0 in
+    let rb = lowered_in (pixel 1) (weight w 1) (byte 1) g.1.1 in
+    let rc = raised_in (pixel 2) (weight w 2) (byte 2) g.2.0 in
+    let rd = raised_in (pixel 3) (weight w 3) (byte 3) g.3.0 in
+    let re = lowered_in (pixel 4) (weight w 4) (byte 4) g.5.1 in
+    let rf = raised_in (pixel 5) (weight w 5) (byte 5) g.6.0 in
     (omega (arith, ints), omega (arith, ints))
 
 -- rows three apart, by twos
@@ -107,42 +112,36 @@ put_back z y e = let p = floor z in let q = floor y in omega (arith, ints)
 pub held_is : (z : ℤ) → clamp_to_byte z ≡ clamp_to_pixel z
 held_is z = omega (arith, ints, clamps)
 
-pub whole_is : (weights : List ℤ) (a b c d e f : ℕ)
-    → clamp_to_byte (floor_div (pair c d (weight weights 2) (weight weights 3) -ℤ pos 16320 +ℤ pair b e (weight weights 1) (weight weights 4) +ℤ pair a f (weight weights 0) (weight weights 5)) 128 +ℤ pos 128)
-    ≡ filtered_pixel weights a b c d e f
+pub whole_is : (w : List ℤ) (pixel : ℕ → ℕ) (sum : ℤ) → sum ≡ sum_of_six w pixel → clamp_to_byte (floor_div sum 128 +ℤ pos 128) ≡ filter_six w pixel
 unfolding filtered_pixel
-whole_is weights a b c d e f =
-    let s : ℤ = pair c d (weight weights 2) (weight weights 3) -ℤ pos 16320 +ℤ pair b e (weight weights 1) (weight weights 4) +ℤ pair a f (weight weights 0) (weight weights 5) in
-    ap clamp_to_byte (put_back s (weighed weights a b c d e f +ℤ pos 64) (omega (arith, ints)))
-    ∙ held_is (floor_div (weighed weights a b c d e f +ℤ pos 64) 128)
+whole_is w pixel sum e =
+    let y : ℤ = weighed w (pixel 0) (pixel 1) (pixel 2) (pixel 3) (pixel 4) (pixel 5) +ℤ pos 64 in
+    ap clamp_to_byte (put_back sum y (omega (arith, ints))) ∙ held_is (floor_div y 128)
 
-pub inner_is : (weights : List ℤ) (a b c d e f : ℕ) → weight weights 0 ≡ pos 0 → weight weights 5 ≡ pos 0
-    → clamp_to_byte (floor_div (pair c d (weight weights 2) (weight weights 3) -ℤ pos 16320 +ℤ pair b e (weight weights 1) (weight weights 4)) 128 +ℤ pos 128)
-    ≡ filtered_pixel weights a b c d e f
-inner_is weights a b c d e f first last =
-    let s : ℤ = pair c d (weight weights 2) (weight weights 3) -ℤ pos 16320 +ℤ pair b e (weight weights 1) (weight weights 4) in
-    let none : pair a f (weight weights 0) (weight weights 5) ≡ pos 0 = pair_same a f a f _ _ (pos 0) (pos 0) refl refl first last ∙ (let z : pair a f (pos 0) (pos 0) ≡ pos 0 = omega (arith, ints) in z) in
-    let same : s ≡ s +ℤ pair a f (weight weights 0) (weight weights 5) = omega (arith, ints) in
-    ap (λ (z : ℤ). clamp_to_byte (floor_div z 128 +ℤ pos 128)) same ∙ whole_is weights a b c d e f
+none : (a b : ℕ) (u v : ℤ) → (u ≡ pos 0) × (v ≡ pos 0) → pair a b u v ≡ pos 0
+none a b u v are = pair_same a b a b u v (pos 0) (pos 0) refl refl are.0 are.1 ∙ (let z : pair a b (pos 0) (pos 0) ≡ pos 0 = omega (arith, ints) in z)
 
-pub middle_is : (weights : List ℤ) (a b c d e f : ℕ) → weight weights 0 ≡ pos 0 → weight weights 1 ≡ pos 0 → weight weights 4 ≡ pos 0 → weight weights 5 ≡ pos 0
-    → clamp_to_byte (floor_div (pair c d (weight weights 2) (weight weights 3) -ℤ pos 16320) 128 +ℤ pos 128)
-    ≡ filtered_pixel weights a b c d e f
-middle_is weights a b c d e f first second fifth last =
-    let s : ℤ = pair c d (weight weights 2) (weight weights 3) -ℤ pos 16320 in
-    let none : pair b e (weight weights 1) (weight weights 4) ≡ pos 0 = pair_same b e b e _ _ (pos 0) (pos 0) refl refl second fifth ∙ (let z : pair b e (pos 0) (pos 0) ≡ pos 0 = omega (arith, ints) in z) in
-    let same : s ≡ s +ℤ pair b e (weight weights 1) (weight weights 4) = omega (arith, ints) in
-    ap (λ (z : ℤ). clamp_to_byte (floor_div z 128 +ℤ pos 128)) same ∙ inner_is weights a b c d e f first last
+pub inner_is : (w : List ℤ) (pixel : ℕ → ℕ) (sum : ℤ) → (weight w 0 ≡ pos 0) × (weight w 5 ≡ pos 0) → sum ≡ sum_of_four w pixel
+    → clamp_to_byte (floor_div sum 128 +ℤ pos 128) ≡ filter_six w pixel
+inner_is w pixel sum ends e =
+    let n : pair (pixel 0) (pixel 5) (weight w 0) (weight w 5) ≡ pos 0 = none _ _ _ _ ends in
+    whole_is w pixel sum (omega (arith, ints))
+
+pub middle_is : (w : List ℤ) (pixel : ℕ → ℕ) (sum : ℤ) → (weight w 0 ≡ pos 0) × (weight w 5 ≡ pos 0) → (weight w 1 ≡ pos 0) × (weight w 4 ≡ pos 0) → sum ≡ sum_of_two w pixel
+    → clamp_to_byte (floor_div sum 128 +ℤ pos 128) ≡ filter_six w pixel
+middle_is w pixel sum ends seconds e =
+    let n : pair (pixel 1) (pixel 4) (weight w 1) (weight w 4) ≡ pos 0 = none _ _ _ _ seconds in
+    inner_is w pixel sum ends (omega (arith, ints))
 
 -- ---- the weights of the table
-pub six_taps-gentle : (eighths : ℕ) → 0 < eighths → eighths < 8 → SumsFitI16 (six_taps eighths)
+pub six_taps-gentle : (eighths : ℕ) → 0 < eighths → eighths < 8 → (length (six_taps eighths) ≡ 6) × SumsFitI16 (six_taps eighths)
 unfolding six_taps
 six_taps-gentle zero some p = absurd (omega arith)
-six_taps-gentle (suc zero) some p = ((omega (arith, ints), omega (arith, ints)), (omega (arith, ints), omega (arith, ints)), (omega (arith, ints), omega (arith, ints)), (omega (arith, ints), omega (arith, ints)), omega (arith, ints), (omega (arith, ints), omega (arith, ints)), (omega (arith, ints), omega (arith, ints)), omega (arith, ints), omega (arith, ints))
-six_taps-gentle (suc (suc zero)) some p = ((omega (arith, ints), omega (arith, ints)), (omega (arith, ints), omega (arith, ints)), (omega (arith, ints), omega (arith, ints)), (omega (arith, ints), omega (arith, ints)), omega (arith, ints), (omega (arith, ints), omega (arith, ints)), (omega (arith, ints), omega (arith, ints)), omega (arith, ints), omega (arith, ints))
-six_taps-gentle (suc (suc (suc zero))) some p = ((omega (arith, ints), omega (arith, ints)), (omega (arith, ints), omega (arith, ints)), (omega (arith, ints), omega (arith, ints)), (omega (arith, ints), omega (arith, ints)), omega (arith, ints), (omega (arith, ints), omega (arith, ints)), (omega (arith, ints), omega (arith, ints)), omega (arith, ints), omega (arith, ints))
-six_taps-gentle (suc (suc (suc (suc zero)))) some p = ((omega (arith, ints), omega (arith, ints)), (omega (arith, ints), omega (arith, ints)), (omega (arith, ints), omega (arith, ints)), (omega (arith, ints), omega (arith, ints)), omega (arith, ints), (omega (arith, ints), omega (arith, ints)), (omega (arith, ints), omega (arith, ints)), omega (arith, ints), omega (arith, ints))
-six_taps-gentle (suc (suc (suc (suc (suc zero))))) some p = ((omega (arith, ints), omega (arith, ints)), (omega (arith, ints), omega (arith, ints)), (omega (arith, ints), omega (arith, ints)), (omega (arith, ints), omega (arith, ints)), omega (arith, ints), (omega (arith, ints), omega (arith, ints)), (omega (arith, ints), omega (arith, ints)), omega (arith, ints), omega (arith, ints))
-six_taps-gentle (suc (suc (suc (suc (suc (suc zero)))))) some p = ((omega (arith, ints), omega (arith, ints)), (omega (arith, ints), omega (arith, ints)), (omega (arith, ints), omega (arith, ints)), (omega (arith, ints), omega (arith, ints)), omega (arith, ints), (omega (arith, ints), omega (arith, ints)), (omega (arith, ints), omega (arith, ints)), omega (arith, ints), omega (arith, ints))
-six_taps-gentle (suc (suc (suc (suc (suc (suc (suc zero))))))) some p = ((omega (arith, ints), omega (arith, ints)), (omega (arith, ints), omega (arith, ints)), (omega (arith, ints), omega (arith, ints)), (omega (arith, ints), omega (arith, ints)), omega (arith, ints), (omega (arith, ints), omega (arith, ints)), (omega (arith, ints), omega (arith, ints)), omega (arith, ints), omega (arith, ints))
+six_taps-gentle (suc zero) some p = (refl, ((omega (arith, ints), omega (arith, ints)), (omega (arith, ints), omega (arith, ints)), (omega (arith, ints), omega (arith, ints)), (omega (arith, ints), omega (arith, ints)), omega (arith, ints), (omega (arith, ints), omega (arith, ints)), (omega (arith, ints), omega (arith, ints)), omega (arith, ints), omega (arith, ints)))
+six_taps-gentle (suc (suc zero)) some p = (refl, ((omega (arith, ints), omega (arith, ints)), (omega (arith, ints), omega (arith, ints)), (omega (arith, ints), omega (arith, ints)), (omega (arith, ints), omega (arith, ints)), omega (arith, ints), (omega (arith, ints), omega (arith, ints)), (omega (arith, ints), omega (arith, ints)), omega (arith, ints), omega (arith, ints)))
+six_taps-gentle (suc (suc (suc zero))) some p = (refl, ((omega (arith, ints), omega (arith, ints)), (omega (arith, ints), omega (arith, ints)), (omega (arith, ints), omega (arith, ints)), (omega (arith, ints), omega (arith, ints)), omega (arith, ints), (omega (arith, ints), omega (arith, ints)), (omega (arith, ints), omega (arith, ints)), omega (arith, ints), omega (arith, ints)))
+six_taps-gentle (suc (suc (suc (suc zero)))) some p = (refl, ((omega (arith, ints), omega (arith, ints)), (omega (arith, ints), omega (arith, ints)), (omega (arith, ints), omega (arith, ints)), (omega (arith, ints), omega (arith, ints)), omega (arith, ints), (omega (arith, ints), omega (arith, ints)), (omega (arith, ints), omega (arith, ints)), omega (arith, ints), omega (arith, ints)))
+six_taps-gentle (suc (suc (suc (suc (suc zero))))) some p = (refl, ((omega (arith, ints), omega (arith, ints)), (omega (arith, ints), omega (arith, ints)), (omega (arith, ints), omega (arith, ints)), (omega (arith, ints), omega (arith, ints)), omega (arith, ints), (omega (arith, ints), omega (arith, ints)), (omega (arith, ints), omega (arith, ints)), omega (arith, ints), omega (arith, ints)))
+six_taps-gentle (suc (suc (suc (suc (suc (suc zero)))))) some p = (refl, ((omega (arith, ints), omega (arith, ints)), (omega (arith, ints), omega (arith, ints)), (omega (arith, ints), omega (arith, ints)), (omega (arith, ints), omega (arith, ints)), omega (arith, ints), (omega (arith, ints), omega (arith, ints)), (omega (arith, ints), omega (arith, ints)), omega (arith, ints), omega (arith, ints)))
+six_taps-gentle (suc (suc (suc (suc (suc (suc (suc zero))))))) some p = (refl, ((omega (arith, ints), omega (arith, ints)), (omega (arith, ints), omega (arith, ints)), (omega (arith, ints), omega (arith, ints)), (omega (arith, ints), omega (arith, ints)), omega (arith, ints), (omega (arith, ints), omega (arith, ints)), (omega (arith, ints), omega (arith, ints)), omega (arith, ints), omega (arith, ints)))
 six_taps-gentle (suc (suc (suc (suc (suc (suc (suc (suc n)))))))) some p = absurd (omega arith)

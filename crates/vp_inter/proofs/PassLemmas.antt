@@ -8,7 +8,13 @@ use Rattle.vp_inter.specs.declared.vector.PlaneVector.{PlaneVector}
 use Rattle.vp_inter.specs.Vectors.{fraction, first_tap}
 use Rattle.vp_inter.specs.Filter.{taps, filter_six}
 use Rattle.vp_inter.specs.Inter.{reference_pixel, horizontal_pass, inter_pixel}
-use Rattle.vp_inter.proofs.FilterLemmas.{filter_six-whole_pixels, filtered_bound}
+use Rattle.vp_inter.specs.declared.patch.Patch.{Patch}
+use Rattle.vp_inter.specs.Patches.{raster, IsAt, patch_pixel, patch_pass}
+use Rattle.vp_inter.proofs.FilterLemmas.{filter_six-same, filter_six-whole_pixels, filtered_bound}
+
+-- from column 0 on
+pub from_zero : (c : ℕ) → 0 + c ≡ c
+from_zero c = omega arith
 
 -- one row more, of which the pixels are known
 pub row_more : (n i : ℕ) (old new : List ℕ) (value : ℕ → ℕ → ℕ)
@@ -34,6 +40,19 @@ pub rows_more : (n i : ℕ) (old new row : List ℕ) (value : ℕ → ℕ → �
     → ((c : ℕ) → c < n → get_or row c 0 ≡ value i c)
     → (k c : ℕ) → k < i + 1 → c < n → get_or new (k * n + c) 0 ≡ value k c
 rows_more n i old new row value done here before last = row_more n i old new value done (λ c cin. here c cin ∙ last c cin) before
+
+-- two rows more
+pub rows_two : (n i : ℕ) (old new pair : List ℕ) (value : ℕ → ℕ → ℕ)
+    → ((k c : ℕ) → k < 2 * i → c < n → get_or old (k * n + c) 0 ≡ value k c)
+    → ((c : ℕ) → c < n → get_or new (2 * i * n + c) 0 ≡ get_or pair c 0)
+    → ((c : ℕ) → c < n → get_or new ((2 * i + 1) * n + c) 0 ≡ get_or pair (8 + c) 0)
+    → ((k : ℕ) → k < 2 * i * n → get_or new k 0 ≡ get_or old k 0)
+    → ((c : ℕ) → c < n → get_or pair c 0 ≡ value (2 * i) c)
+    → ((c : ℕ) → c < n → get_or pair (8 + c) 0 ≡ value (2 * i + 1) c)
+    → (k c : ℕ) → k < 2 * (i + 1) → c < n → get_or new (k * n + c) 0 ≡ value k c
+rows_two n i old new pair value done first second before one two k c kin cin =
+    row_more n (2 * i + 1) new new value (row_more n (2 * i) old new value done (λ j jin. first j jin ∙ one j jin) before) (λ j jin. second j jin ∙ two j jin) (λ j jin. refl)
+    k c (omega arith) cin
 
 -- both passes, of weights and places that are as they should be
 pub inter_passes : (version : ℕ) (p : Raster) (x y : ℕ) (v : PlaneVector) (r c : ℕ)
@@ -95,13 +114,74 @@ inside_pixel p column row xin yin =
     ap (λ (n : ℕ). pixel p n (min row (p.height - 1))) (let e : min column (p.width - 1) ≡ column = omega arith in e)
     ∙ ap (λ (n : ℕ). pixel p column n) (let e : min row (p.height - 1) ≡ row = omega arith in e)
 
+-- ---- a block of a patch
+
+further : (at : ℕ) (z : ℤ) → first_tap (at + 2) z ≡ first_tap at z +ℤ pos 2
+unfolding first_tap
+further at z = omega (arith, ints)
+
+-- what is read at a patch
+at_place : (f : Raster → ℤ → ℤ → ℕ) (q : Patch) (p : Raster) (x y : ℕ) (v : PlaneVector) → IsAt q p x y v
+    → f (raster q) q.left q.top ≡ f p (first_tap x v.column) (first_tap y v.row)
+at_place f q p x y v at =
+    ap (λ (s : Raster). f s q.left q.top) at.0 ∙ ap (λ (z : ℤ). f p z q.top) at.1 ∙ ap (λ (z : ℤ). f p (first_tap x v.column) z) at.2
+
+module _ (version : ℕ) (p : Raster) (x y : ℕ) (v : PlaneVector) (r c : ℕ) (q : Patch) where
+  pub patch_whole : IsAt q p (x + 2) (y + 2) v → fraction v.row ≡ 0 → fraction v.column ≡ 0 → ((column row : ℤ) → reference_pixel p column row ≤ 255)
+      → patch_pixel q r c ≡ inter_pixel version p x y v r c
+  patch_whole at rows columns bytes =
+      at_place (λ s left top. reference_pixel s (left +ℤ pos c) (top +ℤ pos r)) q p (x + 2) (y + 2) v at
+      ∙ ap (λ (z : ℤ). reference_pixel p (z +ℤ pos c) (first_tap (y + 2) v.row +ℤ pos r)) (further x v.column)
+      ∙ ap (λ (z : ℤ). reference_pixel p (first_tap x v.column +ℤ pos 2 +ℤ pos c) (z +ℤ pos r)) (further y v.row)
+      ∙ inter_whole version p x y v r c rows columns (bytes (first_tap x v.column +ℤ pos 2 +ℤ pos c) (first_tap y v.row +ℤ pos 2 +ℤ pos r))
+
+  pub patch_level : (weights : List ℤ) → IsAt q p x (y + 2) v → weights ≡ taps version (fraction v.column) → fraction v.row ≡ 0
+      → patch_pass weights q r c ≡ inter_pixel version p x y v r c
+  patch_level weights at e level =
+      at_place (λ s left top. horizontal_pass weights s left top r c) q p x (y + 2) v at
+      ∙ ap (λ (w : List ℤ). horizontal_pass w p (first_tap x v.column) (first_tap (y + 2) v.row) r c) e
+      ∙ ap (λ (z : ℤ). horizontal_pass (taps version (fraction v.column)) p (first_tap x v.column) z r c) (further y v.row)
+      ∙ inter_level version p x y v r c level
+
+  pub patch_both : (rows columns : List ℤ) → IsAt q p x y v → rows ≡ taps version (fraction v.column) → columns ≡ taps version (fraction v.row)
+      → filter_six columns (λ k. patch_pass rows q (r + k) c) ≡ inter_pixel version p x y v r c
+  patch_both rows columns at e f =
+      at_place (λ s left top. filter_six columns (λ k. horizontal_pass rows s left top (r + k) c)) q p x y v at
+      ∙ ap (λ (w : List ℤ). filter_six columns (λ k. horizontal_pass w p (first_tap x v.column) (first_tap y v.row) (r + k) c)) e
+      ∙ ap (λ (w : List ℤ). filter_six w (λ k. horizontal_pass (taps version (fraction v.column)) p (first_tap x v.column) (first_tap y v.row) (r + k) c)) f
+      ∙ inter_passes version p x y v r c
+
+-- the horizontal pass by weights that are known
+pub patch_rows : (p : Raster) (x y : ℕ) (v : PlaneVector) (i c : ℕ) (q : Patch) (weights rows : List ℤ) → IsAt q p x y v → weights ≡ rows
+    → patch_pass weights q i c ≡ horizontal_pass rows p (first_tap x v.column) (first_tap y v.row) i c
+patch_rows p x y v i c q weights rows at e =
+    at_place (λ s left top. horizontal_pass weights s left top i c) q p x y v at ∙ ap (λ (w : List ℤ). horizontal_pass w p (first_tap x v.column) (first_tap y v.row) i c) e
+
+-- at whole columns the horizontal pass does nothing
+pub patch_across : (version : ℕ) (p : Raster) (x y : ℕ) (v : PlaneVector) (i c : ℕ) (q : Patch) → IsAt q p (x + 2) y v → fraction v.column ≡ 0
+    → ((column row : ℤ) → reference_pixel p column row ≤ 255)
+    → patch_pixel q i c ≡ horizontal_pass (taps version (fraction v.column)) p (first_tap x v.column) (first_tap y v.row) i c
+patch_across version p x y v i c q at none bytes =
+    at_place (λ s left top. reference_pixel s (left +ℤ pos c) (top +ℤ pos i)) q p (x + 2) y v at
+    ∙ ap (λ (z : ℤ). reference_pixel p (z +ℤ pos c) (first_tap y v.row +ℤ pos i)) (further x v.column)
+    ∙ across_whole version (fraction v.column) p (first_tap x v.column) (first_tap y v.row) i c none (bytes (first_tap x v.column +ℤ pos 2 +ℤ pos c) (first_tap y v.row +ℤ pos i))
+
+pub patch_down : (version : ℕ) (p : Raster) (x y : ℕ) (v : PlaneVector) (r c : ℕ) (q : Patch) (columns : List ℤ) → IsAt q p (x + 2) y v → fraction v.column ≡ 0
+    → ((column row : ℤ) → reference_pixel p column row ≤ 255) → columns ≡ taps version (fraction v.row)
+    → filter_six columns (λ k. patch_pixel q (r + k) c) ≡ inter_pixel version p x y v r c
+patch_down version p x y v r c q columns at none bytes e =
+    ap (λ (w : List ℤ). filter_six w (λ k. patch_pixel q (r + k) c)) e
+    ∙ filter_six-same (taps version (fraction v.row)) (λ k. patch_pixel q (r + k) c) (λ k. horizontal_pass (taps version (fraction v.column)) p (first_tap x v.column) (first_tap y v.row) (r + k) c)
+    (λ k kin. patch_across version p x y v (r + k) c q at none bytes)
+    ∙ inter_passes version p x y v r c
+
 -- a block that lies inside the reference and is moved by whole pixels
 pub inter_copied : (version : ℕ) (p : Raster) (x y : ℕ) (v : PlaneVector) (column row r c : ℕ) → column + c < p.width → row + r < p.height
-    → pos column ≡ first_tap x v.column +ℤ pos 2 → pos row ≡ first_tap y v.row +ℤ pos 2 → fraction v.row ≡ 0 → fraction v.column ≡ 0
+    → pos column ≡ first_tap (x + 2) v.column → pos row ≡ first_tap (y + 2) v.row → fraction v.row ≡ 0 → fraction v.column ≡ 0
     → pixel p (column + c) (row + r) ≤ 255 → pixel p (column + c) (row + r) ≡ inter_pixel version p x y v r c
 inter_copied version p x y v column row r c xin yin left top rows columns byte =
     let at : pixel p (column + c) (row + r) ≡ reference_pixel p (first_tap x v.column +ℤ pos 2 +ℤ pos c) (first_tap y v.row +ℤ pos 2 +ℤ pos r) =
     sym (inside_pixel p (column + c) (row + r) xin yin)
-    ∙ ap (λ (z : ℤ). reference_pixel p (z +ℤ pos c) (pos row +ℤ pos r)) left
-    ∙ ap (λ (z : ℤ). reference_pixel p (first_tap x v.column +ℤ pos 2 +ℤ pos c) (z +ℤ pos r)) top in
+    ∙ ap (λ (z : ℤ). reference_pixel p (z +ℤ pos c) (pos row +ℤ pos r)) (left ∙ further x v.column)
+    ∙ ap (λ (z : ℤ). reference_pixel p (first_tap x v.column +ℤ pos 2 +ℤ pos c) (z +ℤ pos r)) (top ∙ further y v.row) in
     at ∙ inter_whole version p x y v r c rows columns (subst (λ (n : ℕ). n ≤ 255) at byte)

@@ -6,7 +6,7 @@ use Rattle.std.proofs.lemmas.Int.{ints, clamps}
 use Rattle.std.specs.Int.{int_min, int_max}
 use lib.IntN.{nat_abs}
 use Rattle.vp_base.specs.Raster.{Raster, pixel, row_of}
-use Rattle.vp_inter.specs.Inter.{nearest, reference_pixel, IsInside}
+use Rattle.vp_inter.specs.Inter.{nearest, reference_pixel}
 
 pub nearest_below : (size : ℕ) (z : ℤ) → 0 < size → nearest size z < size
 nearest_below size (pos n) some = let e : min n (size - 1) < size = omega arith in e
@@ -38,17 +38,6 @@ line_beyond p line column row e long some =
 pub natural : (z : ℤ) → pos 0 ≤ℤ z → z ≡ pos (nat_abs z)
 natural (pos n) h = refl
 natural (negsuc n) h = absurd (omega (arith, ints))
-
--- a number of a line that is a row inside the plane
-pub line_straight : (p : Raster) (line : List ℕ) (left row : ℤ) (start y n k : ℕ) → IsInside p left row n 1 → line ≡ row_of p y → length line ≡ p.width
-    → start ≡ nat_abs left → y ≡ nat_abs row → k < n → get_or line (start + k) 0 ≡ reference_pixel p (left +ℤ pos k) row
-line_straight p line left row start y n k inside e long column at below =
-    let first : left ≡ pos start = natural left inside.0 ∙ ap pos (sym column) in
-    let here : row ≡ pos y = natural row inside.2 ∙ ap pos (sym at) in
-    let high : y < p.height = omega (arith, ints) in
-    let wide : start + k < p.width = omega (arith, ints) in
-    let same : nearest p.height row ≡ y = ap (nearest p.height) here ∙ (let m : min y (p.height - 1) ≡ y = omega arith in m) in
-    line_inside p line left row start k (e ∙ ap (row_of p) (sym same)) long first wide
 
 -- ---- sixteen numbers of a line at once
 

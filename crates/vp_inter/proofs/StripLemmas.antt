@@ -1,13 +1,11 @@
 -- Lemmas on chains of rows of eight pixels.
-use Rattle.std.proofs.Common.{◌≡◌, ◌∙◌, ℕ, ℤ, pos, ◌+ℤ◌, ◌+◌, ◌*◌, ◌/◌, ◌%◌, ◌<◌, ◌≤◌, List, ap, get_or, arith}
-use Rattle.vp_base.specs.Raster.{Raster}
+use Rattle.std.proofs.Common.{◌≡◌, ◌∙◌, ℕ, ℤ, ◌+◌, ◌*◌, ◌/◌, ◌%◌, ◌<◌, ◌≤◌, List, ap, get_or, arith}
 use Rattle.vp_inter.specs.Filter.{filter_six}
-use Rattle.vp_inter.specs.Inter.{horizontal_pass}
 use Rattle.vp_inter.specs.declared.strip.Strip.{Strip}
 use Rattle.vp_inter.specs.Strips.{HoldsRows, IsPaired, IsStrip}
 use Rattle.vp_inter.specs.Turns.{one_of_three}
-use Rattle.vp_inter.proofs.PassLemmas.{row_more}
-use Rattle.vp_inter.proofs.WideLemmas.{across_beside, from_three}
+use Rattle.vp_inter.proofs.PassLemmas.{from_zero, row_more}
+use Rattle.vp_inter.proofs.WideLemmas.{from_three}
 
 -- a strip without rows
 pub none : (strip : Strip) (pixel : ℕ → ℕ → ℕ) → IsStrip strip pixel 0
@@ -20,21 +18,19 @@ pub chain_more : (from e : ℕ) (old new : List ℕ) (pixel : ℕ → ℕ → �
     → HoldsRows new pixel from (e + 1)
 chain_more from e old new pixel done here before = row_more 8 e old new (λ k c. pixel (3 * k + from) c) done here before
 
+-- a chain from column 0 on
+pub first_column : (chain : List ℕ) (pixel : ℕ → ℕ → ℕ) (from count : ℕ) → HoldsRows chain (λ r c. pixel r (0 + c)) from count → HoldsRows chain pixel from count
+first_column chain pixel from count rows e c ein cin = rows e c ein cin ∙ ap (pixel (3 * e + from)) (from_zero c)
+
+pub first_columns : (strip : Strip) (pixel : ℕ → ℕ → ℕ) (count : ℕ) → IsStrip strip (λ r c. pixel r (0 + c)) count → IsStrip strip pixel count
+first_columns strip pixel count rows = (first_column _ pixel 0 count rows.0, first_column _ pixel 1 count rows.1, first_column _ pixel 2 count rows.2)
+
 -- a strip has fewer rows too
 pub fewer : (strip : Strip) (pixel : ℕ → ℕ → ℕ) (count n : ℕ) → n ≤ count → IsStrip strip pixel count → IsStrip strip pixel n
 fewer strip pixel count n few rows = (
   (λ e c ein cin. rows.0 e c (omega arith) cin),
   (λ e c ein cin. rows.1 e c (omega arith) cin),
   (λ e c ein cin. rows.2 e c (omega arith) cin),
-)
-
--- the rows of the right half of a block
-pub right_half : (weights : List ℤ) (p : Raster) (left top : ℤ) (strip : Strip) (n : ℕ) → IsStrip strip (horizontal_pass weights p (left +ℤ pos 8) top) n
-    → IsStrip strip (λ r c. horizontal_pass weights p left top r (8 + c)) n
-right_half weights p left top strip n rows = (
-  (λ e c ein cin. rows.0 e c ein cin ∙ across_beside weights p left top (3 * e + 0) c),
-  (λ e c ein cin. rows.1 e c ein cin ∙ across_beside weights p left top (3 * e + 1) c),
-  (λ e c ein cin. rows.2 e c ein cin ∙ across_beside weights p left top (3 * e + 2) c),
 )
 
 -- eight pixels filtered from three consecutive pairs of rows

@@ -1,21 +1,8 @@
 -- Lemmas on the passes by six weights.
-use Rattle.std.proofs.Common.{ℕ, ◌≡◌, ◌∙◌, ◌+◌, ◌-◌, ◌*◌, ◌++◌, length, rules, ◌/◌, ◌%◌, ◌<◌, ℤ, pos, ◌+ℤ◌, List, ap, get_or, subst, arith, lit<, inl, inr}
+use Rattle.std.proofs.Common.{ℕ, ◌≡◌, ◌∙◌, ◌+◌, ◌-◌, ◌*◌, ◌/◌, ◌%◌, ◌<◌, ℤ, List, ap, get_or, subst, arith, lit<, inl, inr}
 use Rattle.std.proofs.lemmas.Bool.{cases_lt}
-use Rattle.std.proofs.lemmas.List.{places}
-use Rattle.std.proofs.lemmas.Int.{ints}
-use Rattle.vp_base.specs.Raster.{Raster}
 use Rattle.vp_inter.specs.Filter.{filtered_pixel, filter_six}
-use Rattle.vp_inter.specs.Inter.{reference_pixel, horizontal_pass}
-use Rattle.vp_inter.proofs.FilterLemmas.{filter_six-same}
 use Rattle.vp_inter.specs.Turns.{one_of_three}
-
--- sixteen places, first the even and then the odd ones
-pub by_parity : (P : ℕ → Type 0) → ((j : ℕ) → j < 8 → P (2 * j)) → ((j : ℕ) → j < 8 → P (2 * j + 1)) → (c : ℕ) → c < 16 → P c
-by_parity P even odd c h =
-    elim (cases_lt (c % 2) 1) [
-      | inl less ↦ let z : 2 * (c / 2) ≡ c = omega arith in subst P z (even (c / 2) (omega arith))
-      | inr more ↦ let z : 2 * (c / 2) + 1 ≡ c = omega arith in subst P z (odd (c / 2) (omega arith))
-    ]
 
 -- six pixels that stand in three lists, those three apart side by side
 pub from_three : (weights : List ℤ) (a b c : List ℕ) (i : ℕ) (pixel : ℕ → ℕ)
@@ -29,10 +16,6 @@ from_three weights a b c i pixel x y z =
     ∙ ap (λ (v : ℕ). filtered_pixel weights (pixel 0) (pixel 1) (pixel 2) (pixel 3) v (get_or c (i + 1) 0)) (y 1 (lit< tt))
     ∙ ap (λ (v : ℕ). filtered_pixel weights (pixel 0) (pixel 1) (pixel 2) (pixel 3) (pixel 4) v) (z 1 (lit< tt))
 
--- the lanes of the first of two long vectors
-pub long_fore : (xs ys : List ℕ) → length xs ≡ 16 → (k : ℕ) → k < 16 → get_or (xs ++ ys) k 0 ≡ get_or xs k 0
-long_fore xs ys long k h = let below : k < length xs = omega arith in search (rules, places)
-
 -- sixteen numbers, by their halves
 pub by_halves : (row : List ℕ) (value : ℕ → ℕ) → ((x : ℕ) → x < 8 → get_or row x 0 ≡ value x) → ((x : ℕ) → x < 8 → get_or row (8 + x) 0 ≡ value (8 + x))
     → (x : ℕ) → x < 16 → get_or row x 0 ≡ value x
@@ -43,10 +26,3 @@ by_halves row value front back x h =
           let place : 8 + (x - 8) ≡ x = omega arith in
           subst (λ (i : ℕ). get_or row i 0 ≡ value i) place (back (x - 8) (omega arith))
     ]
-
--- the pixels of a row from column 8 on
-pub across_beside : (weights : List ℤ) (p : Raster) (left top : ℤ) (i c : ℕ) → horizontal_pass weights p (left +ℤ pos 8) top i c ≡ horizontal_pass weights p left top i (8 + c)
-unfolding horizontal_pass
-across_beside weights p left top i c =
-    filter_six-same weights (λ k. reference_pixel p (left +ℤ pos 8 +ℤ pos (c + k)) (top +ℤ pos i)) (λ k. reference_pixel p (left +ℤ pos (8 + c + k)) (top +ℤ pos i))
-    (λ k kin. ap (λ (z : ℤ). reference_pixel p z (top +ℤ pos i)) (let e : left +ℤ pos 8 +ℤ pos (c + k) ≡ left +ℤ pos (8 + c + k) = omega (arith, ints) in e))

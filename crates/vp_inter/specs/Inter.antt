@@ -1,6 +1,6 @@
 -- Inter prediction of a pixel: horizontal pass, vertical pass, and the reference extended by its border pixels (RFC
 -- 6386, chapters 5, 18.1 and 18.3). Pinned by streams of other encoders in the gate, of versions 0 to 3.
-use Rattle.std.specs.Prelude.{ℕ, ℤ, pos, negsuc, ◌+◌, ◌-◌, ◌+ℤ◌, ◌≤ℤ◌, min, List}
+use Rattle.std.specs.Prelude.{ℕ, ℤ, pos, negsuc, ◌+◌, ◌-◌, ◌+ℤ◌, min, List}
 use Rattle.vp_base.specs.Raster.{Raster, pixel}
 use Rattle.vp_inter.specs.declared.vector.PlaneVector.{PlaneVector}
 use Rattle.vp_inter.specs.Vectors.{fraction, first_tap}
@@ -14,11 +14,6 @@ nearest size (negsuc _) = 0
 -- the pixel of a reference at any column and row: outside the plane it is the nearest pixel of the plane
 unfoldable pub reference_pixel : Raster → ℤ → ℤ → ℕ
 reference_pixel p column row = pixel p (nearest p.width column) (nearest p.height row)
-
--- the block of this many columns and rows at (left, top) is inside the plane
-abbrev pub IsInside : Raster → ℤ → ℤ → ℕ → ℕ → Type 0
-IsInside p left top columns rows =
-    (pos 0 ≤ℤ left) × ((left +ℤ pos columns) ≤ℤ pos p.width) × (pos 0 ≤ℤ top) × ((top +ℤ pos rows) ≤ℤ pos p.height)
 
 -- the horizontal pass: the pixel filtered from the six that begin at column left + c, in row top + i
 unfoldable pub horizontal_pass : List ℤ → Raster → ℤ → ℤ → ℕ → ℕ → ℕ

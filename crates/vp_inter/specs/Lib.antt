@@ -6,3 +6,4 @@ pub mod Turns
 pub mod Filtered
 pub mod Strips
 pub mod Patches
+pub mod Chroma

@@ -1,12 +1,53 @@
 -- Private to the crate: what is read from a place in a reference plane.
-use Rattle.std.specs.Prelude.{ℕ, ℤ, pos, ◌+ℤ◌, List}
+use Rattle.std.specs.Prelude.{◌≡◌, ◌+◌, ◌*◌, ◌/◌, ◌%◌, ◌<◌, ◌≤◌, ℕ, ℤ, pos, ◌+ℤ◌, ◌≤ℤ◌, List, slice_index}
+use Rattle.vp_base.specs.Raster.{Raster}
 use Rattle.vp_inter.specs.declared.patch.Patch.{Patch}
-use Rattle.vp_inter.specs.Inter.{reference_pixel, horizontal_pass}
+use Rattle.vp_inter.specs.declared.vector.PlaneVector.{PlaneVector}
+use Rattle.vp_inter.specs.declared.weights.PairWeights.{PairWeights}
+use Rattle.vp_inter.specs.declared.weights.RowFilter.{RowFilter}
+use Rattle.vp_inter.specs.Inter.{nearest, reference_pixel, horizontal_pass}
+use Rattle.vp_inter.specs.Turns.{first_weights}
+use Rattle.vp_inter.specs.Vectors.{first_tap}
+
+-- the plane
+abbrev pub raster : Patch → Raster
+raster p = record { width = p.width; height = p.height; pixels = p.pixels.now }
+
+-- a place at the first pixel that the block at column x of row y is predicted from, displaced by vector v
+abbrev pub IsAt : Patch → Raster → ℕ → ℕ → PlaneVector → Type 0
+IsAt p plane x y v = (raster p ≡ plane) × (p.left ≡ first_tap x v.column) × (p.top ≡ first_tap y v.row)
+
+-- the first n columns are inside the plane
+abbrev pub HasColumns : Patch → ℕ → Type 0
+HasColumns p n = (pos 0 ≤ℤ p.left) × ((p.left +ℤ pos n) ≤ℤ pos p.width)
+
+-- the first n rows are inside the plane
+abbrev pub HasRows : Patch → ℕ → Type 0
+HasRows p n = (pos 0 ≤ℤ p.top) × ((p.top +ℤ pos n) ≤ℤ pos p.height)
 
 -- the pixel at column c of row r, counted from the place on
 abbrev pub patch_pixel : Patch → ℕ → ℕ → ℕ
-patch_pixel p r c = reference_pixel p.plane.now (p.left +ℤ pos c) (p.top +ℤ pos r)
+patch_pixel p r c = reference_pixel (raster p) (p.left +ℤ pos c) (p.top +ℤ pos r)
 
 -- the horizontal pass to the pixel at column c of row r
 abbrev pub patch_pass : List ℤ → Patch → ℕ → ℕ → ℕ
-patch_pass weights p r c = horizontal_pass weights p.plane.now p.left p.top r c
+patch_pass weights p r c = horizontal_pass weights (raster p) p.left p.top r c
+
+-- the six weights in three vectors
+abbrev pub weights_of : PairWeights → List ℤ
+weights_of far = first_weights far.first far.second far.third
+
+-- A row filter selects pixels beside those three to the right, from each of the first three of six on. The first of
+-- them is column `from` of the place.
+abbrev pub Selects : RowFilter → Patch → ℕ → Type 0
+Selects filter p from =
+    (i : ℕ) → i < 16
+    → (filter.start + slice_index filter.first i ≡ nearest p.width (p.left +ℤ pos (from + (i / 2 + 3 * (i % 2)))))
+    × (filter.start + slice_index filter.second i ≡ nearest p.width (p.left +ℤ pos (from + (i / 2 + 3 * (i % 2) + 1))))
+    × (filter.start + slice_index filter.third i ≡ nearest p.width (p.left +ℤ pos (from + (i / 2 + 3 * (i % 2) + 2))))
+
+-- the sizes of a prediction of n by n pixels: n + 5 rows of n pixels, and the block
+abbrev pub AreSizes : ℕ → ℕ → ℕ → Type 0
+AreSizes n between square =
+    (0 < n) × (n ≤ 16) × (between ≡ (n + 5) * n) × (between ≤ 336) × (square ≡ n * n) × (square ≤ 256)
+    × (square % 16 ≡ 0)

@@ -1,8 +1,6 @@
 -- Private to the crate: strips of rows of eight pixels, in three chains.
-use Rattle.std.specs.Prelude.{◌≡◌, ◌+◌, ◌*◌, ◌<◌, ℕ, ℤ, pos, ◌+ℤ◌, List, slice_index}
-use Rattle.vp_inter.specs.Inter.{nearest}
-use Rattle.vp_inter.specs.Turns.{SelectsPairs}
-use Rattle.vp_inter.specs.declared.six_tap_2d.WideFilter.{WideFilter}
+use Rattle.std.specs.Prelude.{◌≡◌, ◌+◌, ◌*◌, ◌<◌, ℕ, ℤ, List, slice_index}
+use Rattle.vp_inter.specs.Filter.{filter_six}
 use Rattle.vp_inter.specs.declared.strip.Strip.{Strip}
 use Rattle.vp_inter.specs.declared.six_tap_2d.Pair.{Pair}
 
@@ -41,8 +39,7 @@ AreStrips left right pixel = IsStrip left pixel 7 × IsStrip right (λ r c. pixe
 abbrev pub IsPair : Pair → (ℕ → ℕ → ℕ) → ℕ → Type 0
 IsPair pair pixel r = IsPaired pair.left pixel r × IsPaired pair.right (λ r c. pixel r (8 + c)) r
 
--- the places of a filter for rows of this size, from column left on
-abbrev pub SelectsWide : WideFilter → ℕ → ℤ → Type 0
-SelectsWide filter size left =
-    SelectsPairs filter.left (λ c. nearest size (left +ℤ pos c))
-    × SelectsPairs filter.right (λ c. nearest size (left +ℤ pos 8 +ℤ pos c))
+-- sixteen pixels of row r by the vertical pass
+abbrev pub IsFilteredRow : List ℤ → (ℕ → ℕ → ℕ) → ℕ → List ℕ → Type 0
+IsFilteredRow weights pixel r row =
+    (x : ℕ) → x < 16 → slice_index row x ≡ filter_six weights (λ k. pixel (r + k) x)

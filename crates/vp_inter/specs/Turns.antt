@@ -1,20 +1,14 @@
 -- Private to the crate: six filter weights in vectors of two alternating weights.
-use Rattle.std.specs.Prelude.{◌≡◌, ◌+◌, ◌*◌, ◌<◌, ℕ, zero, suc, ℤ, List, slice_index}
+use Rattle.std.specs.Prelude.{◌≡◌, ◌+◌, ◌*◌, ◌<◌, ℕ, zero, suc, ℤ, List, [], ◌∷◌, slice_index}
 use Rattle.vp_lanes.specs.Lane.{lane}
-use Rattle.vp_inter.specs.Narrow.{weight}
-use Rattle.vp_inter.specs.declared.six_tap_1d.PairWeights.{PairWeights}
-use Rattle.vp_inter.specs.declared.short_rows.RowFilter.{RowFilter}
 
 -- sixteen lanes with two alternating weights
-abbrev pub AreByTurns : List ℤ → ℤ → ℤ → Type 0
-AreByTurns lanes even odd = (j : ℕ) → j < 8 → (lane lanes (2 * j) ≡ even) × (lane lanes (2 * j + 1) ≡ odd)
+abbrev pub AreByTurns : List ℤ → Type 0
+AreByTurns lanes = (j : ℕ) → j < 8 → (lane lanes (2 * j) ≡ lane lanes 0) × (lane lanes (2 * j + 1) ≡ lane lanes 1)
 
--- the weight vectors, in pairs three apart
-abbrev pub AreFar : List ℤ → PairWeights → Type 0
-AreFar weights far =
-    AreByTurns far.first (weight weights 0) (weight weights 3)
-    × AreByTurns far.second (weight weights 1) (weight weights 4)
-    × AreByTurns far.third (weight weights 2) (weight weights 5)
+-- the six weights of three such vectors, in pairs three apart
+abbrev pub first_weights : List ℤ → List ℤ → List ℤ → List ℤ
+first_weights a b c = lane a 0 ∷ lane b 0 ∷ lane c 0 ∷ lane a 1 ∷ lane b 1 ∷ lane c 1 ∷ []
 
 -- vector k of three
 abbrev pub one_of_three : List ℕ → List ℕ → List ℕ → ℕ → List ℕ
@@ -22,17 +16,7 @@ one_of_three a b c zero = a
 one_of_three a b c (suc zero) = b
 one_of_three a b c (suc (suc _)) = c
 
--- the places of a row filter are lanes of a vector of sixteen
-abbrev pub AreLanes : RowFilter → Type 0
-AreLanes filter =
-    (k : ℕ) → k < 16
-    → (slice_index filter.first k < 16) × (slice_index filter.second k < 16) × (slice_index filter.third k < 16)
-
--- A row filter selects pixels beside those three to the right, from each of the first three of six on. `place` is the
--- index in the row of each pixel.
-abbrev pub SelectsPairs : RowFilter → (ℕ → ℕ) → Type 0
-SelectsPairs filter place =
-    (j t : ℕ) → j < 8 → t < 2
-    → (filter.start + slice_index filter.first (2 * j + t) ≡ place (j + 3 * t))
-    × (filter.start + slice_index filter.second (2 * j + t) ≡ place (j + (3 * t + 1)))
-    × (filter.start + slice_index filter.third (2 * j + t) ≡ place (j + (3 * t + 2)))
+-- three vectors of places are lanes of a vector of sixteen
+abbrev pub AreLanes : List ℕ → List ℕ → List ℕ → Type 0
+AreLanes first second third =
+    (k : ℕ) → k < 16 → (slice_index first k < 16) × (slice_index second k < 16) × (slice_index third k < 16)

@@ -1,23 +1,21 @@
 //! Inter prediction of square blocks, returned or written to a picture (RFC 6386, chapter 18).
 
-ghost use Rattle.std.specs.Prelude.{◌≡◌, ℕ, ℤ, pos, ◌+◌, ◌*◌, ◌%◌, ◌<◌, ◌≤◌, ◌+ℤ◌, length};
-ghost use Rattle.std.specs.Prelude.{slice_index, IfSome, IsTrue};
+ghost use Rattle.std.specs.Prelude.{◌≡◌, ◌≢◌, ℕ, pos, ◌+◌, ◌*◌, ◌<◌, ◌≤◌, length, slice_index, IfSome, IsTrue};
 ghost use Rattle.vp_base.specs.Block.{with_block};
 ghost use Rattle.vp_base.specs.Image.{plane_of, with_plane};
 ghost use Rattle.vp_inter.specs.Filter.{filter_six};
-ghost use Rattle.vp_inter.specs.Narrow.{IsNear, OuterWeightsAreZero, SumsFitI16};
-ghost use Rattle.vp_inter.specs.Patches.{patch_pass, patch_pixel};
-ghost use Rattle.vp_inter.specs.Inter.{reference_pixel, horizontal_pass, inter_pixel, IsInside};
+ghost use Rattle.vp_inter.specs.Narrow.{OuterWeightsAreZero, SumsFitI16};
+ghost use Rattle.vp_inter.specs.Patches.{patch_pass, patch_pixel, AreSizes, HasColumns, HasRows};
+ghost use Rattle.vp_inter.specs.Inter.{inter_pixel};
 ghost use Rattle.vp_inter.specs.Vectors.{fraction, first_tap};
 
-use crate::filter::{ends_are_zero, pass, seconds_are_zero, taps};
+use crate::filter::{Weights, ends_are_zero, has_two_taps, pass, taps};
 use crate::patch::Patch;
-use crate::reference::{Flat, lies_inside, pixels_are_bytes, plain_row, reference_line};
+use crate::reference::{plain_row, reference_line};
 use crate::short_rows::{row_filter, rows_by_filter};
-use crate::six_tap_1d::has_six_taps;
 use crate::six_tap_2d::{filter_columns_of_16, filter_wide_rows, six_tap_2d_block};
 use crate::strip::filter_columns_of_8;
-use crate::vector::{PlaneVector, first_tap, fraction};
+use crate::vector::PlaneVector;
 use std::simd::prelude::*;
 use vp_base::{Picture, Plane};
 
@@ -98,11 +96,7 @@ pub fn predict_into16(
     ensures { picture.new ≡ with_plane picture.old k (with_block (plane_of picture.old k) x y 16 16
         (inter_pixel version reference.now x y vector)) }
 {
-    let _known = [picture.plane(k).width(), picture.plane(k).height()];
-    if !copied_whole::<16>(picture, k, x, y, reference, vector) {
-        let block = predict::<16, 336, 256>(reference, x, y, vector, version);
-        picture.write_block::<16>(k, x, y, &block);
-    }
+    predict_into::<16, 336, 256>(picture, k, x, y, reference, vector, version);
 }
 
 /// Predicts an 8x8 block as `predict_into16` does.
@@ -123,11 +117,7 @@ pub fn predict_into8(
     ensures { picture.new ≡ with_plane picture.old k (with_block (plane_of picture.old k) x y 8 8
         (inter_pixel version reference.now x y vector)) }
 {
-    let _known = [picture.plane(k).width(), picture.plane(k).height()];
-    if !copied_whole::<8>(picture, k, x, y, reference, vector) {
-        let block = predict::<8, 104, 64>(reference, x, y, vector, version);
-        picture.write_block::<8>(k, x, y, &block);
-    }
+    predict_into::<8, 104, 64>(picture, k, x, y, reference, vector, version);
 }
 
 /// Predicts a 4x4 block as `predict_into16` does.
@@ -148,39 +138,36 @@ pub fn predict_into4(
     ensures { picture.new ≡ with_plane picture.old k (with_block (plane_of picture.old k) x y 4 4
         (inter_pixel version reference.now x y vector)) }
 {
-    let _known = [picture.plane(k).width(), picture.plane(k).height()];
-    if !copied_whole::<4>(picture, k, x, y, reference, vector) {
-        let block = predict::<4, 36, 16>(reference, x, y, vector, version);
-        picture.write_block::<4>(k, x, y, &block);
-    }
+    predict_into::<4, 36, 16>(picture, k, x, y, reference, vector, version);
 }
 
-/// Copies an `N` by `N` block for a vector of whole pixels, if the reference contains all of it. Returns whether it
-/// did.
-fn copied_whole<const N: usize>(
+/// Predicts an `N` by `N` block into a picture. A block of whole pixels that the reference contains is copied from it.
+#[inline(always)]
+fn predict_into<const N: usize, const L: usize, const M: usize>(
     picture: &mut Picture,
     k: usize,
     x: usize,
     y: usize,
     reference: &Plane,
     vector: PlaneVector,
-) -> bool
-    requires size { N ≤ 16 }
+    version: u8,
+)
+    requires sizes { AreSizes N L M }
     requires plane { k < 3 }
-    requires column { x ≤ 16384 }
-    requires row { y ≤ 16384 }
     requires columns { x + N ≤ (plane_of picture.old k).width }
     requires rows { y + N ≤ (plane_of picture.old k).height }
-    ensures written { (version : ℕ) → IsTrue result → picture.new
-        ≡ with_plane picture.old k (with_block (plane_of picture.old k) x y N N
+    requires wide { 0 < reference.now.width }
+    requires high { 0 < reference.now.height }
+    ensures { picture.new ≡ with_plane picture.old k (with_block (plane_of picture.old k) x y N N
         (inter_pixel version reference.now x y vector)) }
-    ensures kept { (IsTrue result → ⊥) → picture.new ≡ picture.old }
 {
+    let _known = [picture.plane(k).width(), picture.plane(k).height()];
     if let Some((column, row)) = whole_place(reference, x, y, vector, N) {
         picture.copy_block::<N>(k, x, y, reference, column, row);
-        return true;
+        return;
     }
-    false
+    let block = predict::<N, L, M>(reference, x, y, vector, version);
+    picture.write_block::<N>(k, x, y, &block);
 }
 
 /// The column and row of the reference from which a block of `size` by `size` pixels at (`x`, `y`) is copied. None
@@ -195,20 +182,32 @@ pub(crate) fn whole_place(
     requires size { size ≤ 16 }
     requires column { x ≤ 16384 }
     requires row { y ≤ 16384 }
+    requires wide { 0 < reference.now.width }
+    requires high { 0 < reference.now.height }
     ensures inside { IfSome result (λ at. (at.0 + size ≤ reference.now.width) × (at.1 + size ≤ reference.now.height)) }
     ensures whole { IfSome result (λ at. (fraction vector.column ≡ 0) × (fraction vector.row ≡ 0)) }
-    ensures place { IfSome result (λ at. (pos at.0 ≡ first_tap x vector.column +ℤ pos 2)
-        × (pos at.1 ≡ first_tap y vector.row +ℤ pos 2)) }
+    ensures place { IfSome result (λ at. (pos at.0 ≡ first_tap (x + 2) vector.column)
+        × (pos at.1 ≡ first_tap (y + 2) vector.row)) }
 {
-    if fraction(vector.column) != 0 || fraction(vector.row) != 0 {
+    if vector.across() != 0 || vector.down() != 0 {
         return None;
     }
-    let left = first_tap(x, vector.column) + 2;
-    let top = first_tap(y, vector.row) + 2;
-    if !lies_inside(reference, left, top, size, size) {
+    let patch = Patch::at(reference, x + 2, y + 2, vector);
+    if !patch.is_inside(size, size) {
         return None;
     }
-    Some((left as usize, top as usize))
+    Some((patch.left as usize, patch.top as usize))
+}
+
+/// The column or row to make a patch at: without a fraction the first of the six pixels that are read is the block's.
+#[inline(always)]
+fn start(at: usize, fraction: usize) -> usize
+    requires { at ≤ 16384 }
+    ensures whole { fraction ≡ 0 → result ≡ at + 2 }
+    ensures between { fraction ≢ 0 → result ≡ at }
+    ensures bound { result ≤ 16400 }
+{
+    if fraction == 0 { at + 2 } else { at }
 }
 
 /// Predicts a block of `N` by `N` pixels. The horizontal pass gives `N + 5` rows, `L` pixels in all, to the vertical
@@ -222,10 +221,7 @@ fn predict<const N: usize, const L: usize, const M: usize>(
     vector: PlaneVector,
     version: u8,
 ) -> [u8; M]
-    requires size { (0 < N) × (N ≤ 16) }
-    requires between { (L ≡ (N + 5) * N) × (L ≤ 336) }
-    requires square { (M ≡ N * N) × (M ≤ 256) }
-    requires pieces { M % 16 ≡ 0 }
+    requires sizes { AreSizes N L M }
     requires columns { x ≤ 16384 }
     requires rows { y ≤ 16384 }
     requires wide { 0 < plane.now.width }
@@ -233,128 +229,96 @@ fn predict<const N: usize, const L: usize, const M: usize>(
     ensures { (r c : ℕ) → r < N → c < N → slice_index result (r * N + c)
         ≡ inter_pixel version plane.now x y vector r c }
 {
-    pixels_are_bytes(plane);
-    let left = first_tap(x, vector.column);
-    let top = first_tap(y, vector.row);
-    let across = fraction(vector.column);
-    let down = fraction(vector.row);
-    if down == 0 && across == 0 {
-        let patch = Patch {
-            plane,
-            left: left + 2,
-            top: top + 2,
-        };
-        return copied_rows::<N, M>(&patch, N);
-    }
+    let across = vector.across();
+    let down = vector.down();
+    let patch = Patch::at(plane, start(x, across), start(y, down), vector);
     let mut block = [0; M];
-    if down == 0 {
-        let weights = taps(version, across);
-        let top = top + 2;
-        pass_rows::<N>(&mut block, &Patch { plane, left, top }, weights, N);
-    } else if across == 0 {
-        let column_weights = taps(version, down);
-        let left = left + 2;
-        pass_down::<N, L, M>(&mut block, &Patch { plane, left, top }, column_weights);
-    } else {
-        let first = taps(version, across);
-        let second = taps(version, down);
-        pass_both::<N, L, M>(&mut block, &Patch { plane, left, top }, first, second);
+    match (across, down) {
+        (0, 0) => copy_rows::<N>(&mut block, &patch, N),
+        (_, 0) => pass_rows::<N>(&mut block, &patch, taps(version, across), N),
+        (0, _) => pass_down::<N, L, M>(&mut block, &patch, taps(version, down)),
+        (_, _) => {
+            let (across, down) = (taps(version, across), taps(version, down));
+            pass_both::<N, L, M>(&mut block, &patch, across, down);
+        }
     }
     block
 }
 
 /// The vertical pass alone. The rows of a block inside the plane are copied to strips of eight columns, if it has eight
-/// columns, or sixteen and six nonzero weights.
+/// columns, or sixteen and more than two taps.
 fn pass_down<const N: usize, const L: usize, const M: usize>(
     pixels: &mut [u8],
     patch: &Patch,
-    weights: &[i16; 6],
+    weights: Weights,
 )
-    requires size { (0 < N) × (N ≤ 16) }
-    requires between { (L ≡ (N + 5) * N) × (L ≤ 336) }
-    requires square { (M ≡ N * N) × (M ≤ 256) }
-    requires pieces { M % 16 ≡ 0 }
+    requires sizes { AreSizes N L M }
     requires whole { length pixels.old ≡ M }
-    requires gentle { SumsFitI16 weights.now }
-    ensures { (r c : ℕ) → r < N → c < N → slice_index pixels.new (r * N + c) ≡ filter_six weights.now
+    ensures { (r c : ℕ) → r < N → c < N → slice_index pixels.new (r * N + c) ≡ filter_six weights.six.now
         (λ k. patch_pixel patch.now (r + k) c) }
 {
-    let Patch { plane, left, top } = *patch;
-    if N == 8 && lies_inside(plane, left, top, N, N + 5) {
-        filter_columns_of_8(pixels, plane, left as usize, top as usize, weights);
+    if N == 8 && patch.is_inside(N, N + 5) {
+        filter_columns_of_8(pixels, patch, weights);
         return;
     }
-    if N == 16 && has_six_taps(weights) && lies_inside(plane, left, top, N, N + 5) {
-        filter_columns_of_16(pixels, plane, left as usize, top as usize, weights);
-        return;
-    }
-    let rows = copied_rows::<N, L>(patch, N + 5);
-    pass_columns::<N, M>(pixels, &rows, weights);
-}
-
-/// Both passes, with `N + 5` rows of `N` pixels, `L` in all, between them. A 16x16 block with six nonzero row weights
-/// uses `six_tap_2d_block`, if the plane has at least sixteen columns.
-fn pass_both<const N: usize, const L: usize, const M: usize>(
-    pixels: &mut [u8],
-    patch: &Patch,
-    row_weights: &[i16; 6],
-    column_weights: &[i16; 6],
-)
-    requires size { (0 < N) × (N ≤ 16) }
-    requires between { (L ≡ (N + 5) * N) × (L ≤ 336) }
-    requires square { (M ≡ N * N) × (M ≤ 256) }
-    requires pieces { M % 16 ≡ 0 }
-    requires whole { length pixels.old ≡ M }
-    requires horizontal_pass { SumsFitI16 row_weights.now }
-    requires down { SumsFitI16 column_weights.now }
-    ensures { (r c : ℕ) → r < N → c < N → slice_index pixels.new (r * N + c)
-        ≡ filter_six column_weights.now (λ k. patch_pass row_weights.now patch.now (r + k) c) }
-{
-    if N == 16 && patch.plane.width() >= 16 && has_six_taps(row_weights) {
-        six_tap_2d_block(pixels, patch, row_weights, column_weights);
+    if N == 16 && !has_two_taps(weights.six) && patch.is_inside(N, N + 5) {
+        filter_columns_of_16(pixels, patch, weights);
         return;
     }
     let mut rows = [0; L];
-    pass_rows::<N>(&mut rows, patch, row_weights, N + 5);
-    pass_columns::<N, M>(pixels, &rows, column_weights);
+    copy_rows::<N>(&mut rows, patch, N + 5);
+    pass_columns::<N, M>(pixels, &rows, weights.six);
+}
+
+/// Both passes, with `N + 5` rows of `N` pixels, `L` in all, between them. A 16x16 block with more than two taps in a
+/// row uses `six_tap_2d_block`, if the plane has at least sixteen columns.
+fn pass_both<const N: usize, const L: usize, const M: usize>(
+    pixels: &mut [u8],
+    patch: &Patch,
+    across: Weights,
+    down: Weights,
+)
+    requires sizes { AreSizes N L M }
+    requires whole { length pixels.old ≡ M }
+    ensures { (r c : ℕ) → r < N → c < N → slice_index pixels.new (r * N + c)
+        ≡ filter_six down.six.now (λ k. patch_pass across.six.now patch.now (r + k) c) }
+{
+    if N == 16 && patch.width >= 16 && !has_two_taps(across.six) {
+        six_tap_2d_block(pixels, patch, across, down);
+        return;
+    }
+    let mut rows = [0; L];
+    pass_rows::<N>(&mut rows, patch, across, N + 5);
+    pass_columns::<N, M>(pixels, &rows, down.six);
 }
 
 /// Copies `rows` rows of the reference.
-fn copied_rows<const N: usize, const L: usize>(patch: &Patch, rows: usize) -> [u8; L]
+#[inline(never)]
+pub(crate) fn copy_rows<const N: usize>(pixels: &mut [u8], patch: &Patch, rows: usize)
     requires size { N ≤ 16 }
-    requires rows { rows ≤ 21 }
-    requires all { L ≡ rows * N }
-    requires room { L ≤ 336 }
-    ensures len { length result ≡ L }
-    ensures value { (r c : ℕ) → r < rows → c < N → slice_index result (r * N + c)
-        ≡ patch_pixel patch.now r c }
+    requires rows { rows ≤ 22 }
+    requires all { length pixels.old ≡ rows * N }
+    ensures { (r c : ℕ) → r < rows → c < N → slice_index pixels.new (r * N + c) ≡ patch_pixel patch.now r c }
 {
-    let Patch { plane, left, top } = *patch;
-    let inside = lies_inside(plane, left, top, N, rows);
-    let flat = Flat::of(plane);
-    let mut pixels = [0; L];
+    let inside = patch.is_inside(N, rows);
+    let here = *patch;
     for r in 0..rows {
-        let row = plain_row::<N>(&flat, inside, left, top + r as i32);
-        put_lanes(&mut pixels, r, row);
+        let row = plain_row::<N>(&here, inside, r);
+        put_lanes(pixels, r, row);
     }
-    pixels
 }
 
 /// The horizontal pass over `rows` rows of the reference. Short rows of a plane of at least sixteen columns take the
 /// columns beyond the plane like any others.
-fn pass_rows<const N: usize>(pixels: &mut [u8], patch: &Patch, weights: &[i16; 6], rows: usize)
+fn pass_rows<const N: usize>(pixels: &mut [u8], patch: &Patch, weights: Weights, rows: usize)
     requires size { N ≤ 16 }
     requires rows { rows ≤ 21 }
     requires all { length pixels.old ≡ rows * N }
-    requires gentle { SumsFitI16 weights.now }
     ensures { (i c : ℕ) → i < rows → c < N → slice_index pixels.new (i * N + c)
-        ≡ patch_pass weights.now patch.now i c }
+        ≡ patch_pass weights.six.now patch.now i c }
 {
-    let Patch { plane, left, top } = *patch;
-    let width = plane.width();
-    if (N == 4 || N == 8) && width >= 16 {
-        let filter = row_filter(width, left, weights);
-        rows_by_filter::<N>(pixels, plane, top, &filter, weights, rows);
+    if (N == 4 || N == 8) && patch.width >= 16 {
+        rows_by_filter::<N>(pixels, patch, &row_filter(patch, 0, weights), rows);
     } else {
         other_rows::<N>(pixels, patch, weights, rows);
     }
@@ -366,53 +330,30 @@ fn pass_rows<const N: usize>(pixels: &mut [u8], patch: &Patch, weights: &[i16; 6
 pub(crate) fn other_rows<const N: usize>(
     pixels: &mut [u8],
     patch: &Patch,
-    weights: &[i16; 6],
+    weights: Weights,
     rows: usize,
 )
     requires size { N ≤ 16 }
     requires rows { rows ≤ 22 }
     requires all { length pixels.old ≡ rows * N }
-    requires gentle { SumsFitI16 weights.now }
     ensures { (i c : ℕ) → i < rows → c < N → slice_index pixels.new (i * N + c)
-        ≡ patch_pass weights.now patch.now i c }
+        ≡ patch_pass weights.six.now patch.now i c }
 {
-    let Patch { plane, left, top } = *patch;
-    if N == 16 && plane.width() >= 16 && has_six_taps(weights) {
+    if has_two_taps(weights.six) {
+        if patch.is_inside(N + 5, rows) {
+            horizontal_rows::<N, true, 2>(pixels, patch, weights.six, rows);
+        } else {
+            horizontal_rows::<N, false, 2>(pixels, patch, weights.six, rows);
+        }
+    } else if N == 16 && patch.width >= 16 {
         filter_wide_rows(pixels, patch, weights, rows);
-    } else if lies_inside(plane, left, top, N + 5, rows) {
-        horizontal_by_taps::<N, true>(pixels, patch, weights, rows);
     } else {
-        horizontal_by_taps::<N, false>(pixels, patch, weights, rows);
+        horizontal_rows::<N, false, 6>(pixels, patch, weights.six, rows);
     }
 }
 
-/// The horizontal pass. If `INSIDE`, all rows are inside the plane.
-#[inline(always)]
-fn horizontal_by_taps<const N: usize, const INSIDE: bool>(
-    pixels: &mut [u8],
-    patch: &Patch,
-    weights: &[i16; 6],
-    rows: usize,
-)
-    requires size { N ≤ 16 }
-    requires rows { rows ≤ 22 }
-    requires all { length pixels.old ≡ rows * N }
-    requires gentle { SumsFitI16 weights.now }
-    requires inside { IsTrue INSIDE → IsInside patch.now.plane.now patch.now.left patch.now.top (N + 5) rows }
-    ensures { (i c : ℕ) → i < rows → c < N → slice_index pixels.new (i * N + c)
-        ≡ patch_pass weights.now patch.now i c }
-{
-    if !ends_are_zero(weights) {
-        horizontal_rows::<N, INSIDE, 6>(pixels, patch, weights, rows);
-    } else if !seconds_are_zero(weights) {
-        horizontal_rows::<N, INSIDE, 4>(pixels, patch, weights, rows);
-    } else {
-        horizontal_rows::<N, INSIDE, 2>(pixels, patch, weights, rows);
-    }
-}
-
-/// The horizontal pass with `COUNT` nonzero weights. The loop reads a local copy of them, which no write to `pixels`
-/// can alias, so each weight stays in a register.
+/// The horizontal pass with `COUNT` nonzero weights. If `INSIDE`, it reads directly from the plane. The loop reads a
+/// local copy of the weights, which no write to `pixels` can alias, so each weight stays in a register.
 #[inline(always)]
 fn horizontal_rows<const N: usize, const INSIDE: bool, const COUNT: usize>(
     pixels: &mut [u8],
@@ -424,65 +365,51 @@ fn horizontal_rows<const N: usize, const INSIDE: bool, const COUNT: usize>(
     requires rows { rows ≤ 22 }
     requires all { length pixels.old ≡ rows * N }
     requires gentle { SumsFitI16 weights.now }
-    requires inside { IsTrue INSIDE → IsInside patch.now.plane.now patch.now.left patch.now.top (N + 5) rows }
+    requires inside { IsTrue INSIDE → HasColumns patch.now (N + 5) × HasRows patch.now rows }
     requires few { OuterWeightsAreZero weights.now COUNT }
     ensures { (i c : ℕ) → i < rows → c < N → slice_index pixels.new (i * N + c)
         ≡ patch_pass weights.now patch.now i c }
 {
     let own = *weights;
-    let Patch { plane, left, top } = *patch;
-    let flat = Flat::of(plane);
+    let here = *patch;
     for i in 0..rows {
-        let row = horizontal_row::<N, INSIDE, COUNT>(&flat, left, top + i as i32, &own);
+        let row = horizontal_row::<N, INSIDE, COUNT>(&here, i, &own);
         put_lanes(pixels, i, row);
     }
 }
 
-/// The horizontal pass over one row of the reference. If `INSIDE`, it reads directly from the plane.
+/// The horizontal pass over row `i`.
 #[inline(always)]
 fn horizontal_row<const N: usize, const INSIDE: bool, const COUNT: usize>(
-    plane: &Flat,
-    left: i32,
-    row: i32,
+    patch: &Patch,
+    i: usize,
     weights: &[i16; 6],
 ) -> Simd<u8, N>
     requires size { N ≤ 16 }
-    requires inside { IsTrue INSIDE → IsInside plane.now left row (N + 5) 1 }
+    requires near { i ≤ 21 }
     requires gentle { SumsFitI16 weights.now }
+    requires inside { IsTrue INSIDE → HasColumns patch.now (N + 5) × HasRows patch.now (i + 1) }
     requires few { OuterWeightsAreZero weights.now COUNT }
-    requires columns { 0 < plane.now.width }
-    requires height { 0 < plane.now.height }
-    requires near { IsNear left }
-    ensures { (c : ℕ) → c < N → slice_index result c ≡ filter_six weights.now
-        (λ k. reference_pixel plane.now (left +ℤ pos (c + k)) row) }
+    ensures { (c : ℕ) → c < N → slice_index result c ≡ patch_pass weights.now patch.now i c }
 {
     if INSIDE {
-        return pass::<N, COUNT>(plane.row(row as usize), left as usize, 1, weights);
+        return pass::<N, COUNT>(patch.row::<true>(i), patch.left as usize, 1, weights);
     }
-    let line = reference_line(plane, left, row);
-    pass::<N, COUNT>(&line, 0, 1, weights)
+    pass::<N, COUNT>(&reference_line(patch, i), 0, 1, weights)
 }
 
 /// The vertical pass over rows of `N` pixels, five more than it produces.
 #[inline(never)]
-pub(crate) fn pass_columns<const N: usize, const M: usize>(
-    pixels: &mut [u8],
-    rows: &[u8],
-    weights: &[i16; 6],
-)
-    requires size { N ≤ 16 }
-    requires all { length rows.now ≡ (N + 5) * N }
-    requires square { M ≡ N * N }
+fn pass_columns<const N: usize, const M: usize>(pixels: &mut [u8], rows: &[u8], weights: &[i16; 6])
+    requires sizes { AreSizes N (length rows.now) M }
     requires whole { length pixels.old ≡ M }
-    requires room { M ≤ 256 }
-    requires pieces { M % 16 ≡ 0 }
     requires gentle { SumsFitI16 weights.now }
     ensures { (r c : ℕ) → r < N → c < N → slice_index pixels.new (r * N + c)
         ≡ filter_six weights.now (λ k. slice_index rows.now ((r + k) * N + c)) }
 {
     if !ends_are_zero(weights) {
         vertical_by_taps::<N, M, 6>(pixels, rows, weights);
-    } else if !seconds_are_zero(weights) {
+    } else if !has_two_taps(weights) {
         vertical_by_taps::<N, M, 4>(pixels, rows, weights);
     } else {
         vertical_by_taps::<N, M, 2>(pixels, rows, weights);
@@ -497,12 +424,8 @@ fn vertical_by_taps<const N: usize, const M: usize, const COUNT: usize>(
     rows: &[u8],
     weights: &[i16; 6],
 )
-    requires size { N ≤ 16 }
-    requires all { length rows.now ≡ (N + 5) * N }
-    requires square { M ≡ N * N }
+    requires sizes { AreSizes N (length rows.now) M }
     requires whole { length pixels.old ≡ M }
-    requires room { M ≤ 256 }
-    requires pieces { M % 16 ≡ 0 }
     requires gentle { SumsFitI16 weights.now }
     requires few { OuterWeightsAreZero weights.now COUNT }
     ensures { (r c : ℕ) → r < N → c < N → slice_index pixels.new (r * N + c)

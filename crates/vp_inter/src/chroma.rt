@@ -4,13 +4,15 @@
 ghost use Rattle.std.specs.Prelude.{◌≡◌, ℕ, ◌+◌, ◌<◌, ◌≤◌, IsTrue};
 ghost use Rattle.vp_base.specs.Block.{with_block};
 ghost use Rattle.vp_inter.specs.Inter.{inter_pixel};
+ghost use Rattle.vp_inter.specs.Chroma.{with_chroma, HasChroma};
 ghost use Rattle.vp_inter.specs.Vectors.{fraction};
 
 use crate::block::{predict_into8, whole_place};
 use crate::filter::taps;
+use crate::patch::Patch;
 use crate::short_rows::{row_filter, rows_by_filter};
 use crate::strip::{empty_strip, filter_strip, filter_to_strip, strip_filter};
-use crate::vector::{PlaneVector, first_tap, fraction};
+use crate::vector::PlaneVector;
 use vp_base::Picture;
 
 /// Predicts the 8x8 blocks of both chroma planes at column `x` of row `y`, as `predict_into8` does each.
@@ -38,10 +40,10 @@ pub fn predict_into_chroma(
     }
     let u = reference.plane(1);
     let v = reference.plane(2);
-    if fraction(vector.column) == 0 || u.width() < 16 {
+    if vector.across() == 0 || u.width() < 16 {
         predict_into8(picture, 1, x, y, u, vector, version);
         predict_into8(picture, 2, x, y, v, vector, version);
-    } else if fraction(vector.row) == 0 {
+    } else if vector.down() == 0 {
         across_into_chroma(picture, x, y, reference, vector, version);
     } else {
         filter_into_chroma(picture, x, y, reference, vector, version);
@@ -58,14 +60,9 @@ fn copy_chroma(
     reference: &Picture,
     vector: PlaneVector,
 ) -> bool
-    requires u_columns { x + 8 ≤ picture.old.u.width }
-    requires u_rows { y + 8 ≤ picture.old.u.height }
-    requires v_columns { x + 8 ≤ picture.old.v.width }
-    requires v_rows { y + 8 ≤ picture.old.v.height }
-    ensures written { (version : ℕ) → IsTrue result → picture.new ≡ record picture.old {
-      u = with_block picture.old.u x y 8 8 (inter_pixel version reference.now.u x y vector);
-      v = with_block picture.old.v x y 8 8 (inter_pixel version reference.now.v x y vector);
-    } }
+    requires room { HasChroma picture.old x y }
+    ensures written { (version : ℕ) → IsTrue result
+        → picture.new ≡ with_chroma picture.old reference.now x y vector version }
     ensures kept { (IsTrue result → ⊥) → picture.new ≡ picture.old }
 {
     let _known = [picture.plane(1).width(), picture.plane(1).height()];
@@ -89,30 +86,23 @@ fn across_into_chroma(
     vector: PlaneVector,
     version: u8,
 )
-    requires u_columns { x + 8 ≤ picture.old.u.width }
-    requires u_rows { y + 8 ≤ picture.old.u.height }
-    requires v_columns { x + 8 ≤ picture.old.v.width }
-    requires v_rows { y + 8 ≤ picture.old.v.height }
+    requires room { HasChroma picture.old x y }
     requires across { 0 < fraction vector.column }
     requires level { fraction vector.row ≡ 0 }
     requires wide { 16 ≤ reference.now.u.width }
-    ensures { picture.new ≡ record picture.old {
-      u = with_block picture.old.u x y 8 8 (inter_pixel version reference.now.u x y vector);
-      v = with_block picture.old.v x y 8 8 (inter_pixel version reference.now.v x y vector);
-    } }
+    ensures { picture.new ≡ with_chroma picture.old reference.now x y vector version }
 {
     let _known = [picture.plane(1).width(), picture.plane(1).height()];
     let _known = reference.dim();
     let u = reference.plane(1);
     let v = reference.plane(2);
-    let left = first_tap(x, vector.column);
-    let top = first_tap(y, vector.row);
-    let weights = taps(version, fraction(vector.column));
-    let filter = row_filter(u.width(), left, weights);
+    let from_u = Patch::at(u, x, y + 2, vector);
+    let from_v = Patch::at(v, x, y + 2, vector);
+    let filter = row_filter(&from_u, 0, taps(version, vector.across()));
     let mut block = [0; 64];
-    rows_by_filter::<8>(&mut block, u, top + 2, &filter, weights, 8);
+    rows_by_filter::<8>(&mut block, &from_u, &filter, 8);
     picture.write_block::<8>(1, x, y, &block);
-    rows_by_filter::<8>(&mut block, v, top + 2, &filter, weights, 8);
+    rows_by_filter::<8>(&mut block, &from_v, &filter, 8);
     picture.write_block::<8>(2, x, y, &block);
 }
 
@@ -125,33 +115,26 @@ fn filter_into_chroma(
     vector: PlaneVector,
     version: u8,
 )
-    requires u_columns { x + 8 ≤ picture.old.u.width }
-    requires u_rows { y + 8 ≤ picture.old.u.height }
-    requires v_columns { x + 8 ≤ picture.old.v.width }
-    requires v_rows { y + 8 ≤ picture.old.v.height }
+    requires room { HasChroma picture.old x y }
     requires across { 0 < fraction vector.column }
     requires down { 0 < fraction vector.row }
     requires wide { 16 ≤ reference.now.u.width }
-    ensures { picture.new ≡ record picture.old {
-      u = with_block picture.old.u x y 8 8 (inter_pixel version reference.now.u x y vector);
-      v = with_block picture.old.v x y 8 8 (inter_pixel version reference.now.v x y vector);
-    } }
+    ensures { picture.new ≡ with_chroma picture.old reference.now x y vector version }
 {
     let _known = [picture.plane(1).width(), picture.plane(1).height()];
     let _known = reference.dim();
     let u = reference.plane(1);
     let v = reference.plane(2);
-    let top = first_tap(y, vector.row);
-    let rows = taps(version, fraction(vector.column));
-    let columns = taps(version, fraction(vector.row));
-    let filter = row_filter(u.width(), first_tap(x, vector.column), rows);
-    let down = strip_filter(columns);
+    let from_u = Patch::at(u, x, y, vector);
+    let from_v = Patch::at(v, x, y, vector);
+    let filter = row_filter(&from_u, 0, taps(version, vector.across()));
+    let down = strip_filter(taps(version, vector.down()));
     let mut strip = empty_strip();
     let mut block = [0; 64];
-    filter_to_strip::<13>(&mut strip, u, top, &filter, rows);
-    filter_strip(&mut block, &strip, columns, &down);
+    filter_to_strip::<13>(&mut strip, &from_u, &filter);
+    filter_strip(&mut block, &strip, &down);
     picture.write_block::<8>(1, x, y, &block);
-    filter_to_strip::<13>(&mut strip, v, top, &filter, rows);
-    filter_strip(&mut block, &strip, columns, &down);
+    filter_to_strip::<13>(&mut strip, &from_v, &filter);
+    filter_strip(&mut block, &strip, &down);
     picture.write_block::<8>(2, x, y, &block);
 }

@@ -5,9 +5,8 @@ ghost use Rattle.std.specs.Prelude.{slice_index, IsTrue};
 ghost use lib.Signed.{shr_z as floor_div};
 ghost use Rattle.vp_lanes.specs.Lane.{lane, clamp_to_byte};
 ghost use Rattle.vp_inter.specs.Filter.{taps, filter_six};
-ghost use Rattle.vp_inter.specs.Narrow.{IsFrom, IsShort, pair, sum_of_two, sum_of_four, sum_of_six, weight};
-ghost use Rattle.vp_inter.specs.Narrow.{OuterWeightsAreZero};
-ghost use Rattle.vp_inter.specs.Narrow.{SumsFitI16};
+ghost use Rattle.vp_inter.specs.Narrow.{IsFrom, IsShort, pair, sum_of_two, sum_of_four, sum_of_six};
+ghost use Rattle.vp_inter.specs.Narrow.{OuterWeightsAreZero, SumsFitI16};
 
 use std::simd::prelude::*;
 use vp_tables::six_taps;
@@ -24,18 +23,28 @@ static TWO_TAPS: [[i16; 6]; 8] = [
     [0, 0, 16, 112, 0, 0],
 ];
 
-/// The filter weights of the pixels at offsets -2 to 3, for a fraction.
+/// The filter weights of six pixels, at offsets -2 to 3.
+#[derive(Clone, Copy)]
+pub(crate) struct Weights {
+    pub(crate) six: &'static [i16; 6],
+    ghost count: { length six.now ≡ 6 },
+    ghost gentle: { SumsFitI16 six.now },
+}
+
+/// The filter weights for a fraction.
 #[tactic(auto, unfolding(crate::specs::Filter::taps))]
-pub(crate) fn taps(version: u8, eighths: usize) -> &'static [i16; 6]
+pub(crate) fn taps(version: u8, eighths: usize) -> Weights
     requires some { 0 < eighths }
     requires bound { eighths < 8 }
-    ensures value { result.now ≡ taps version eighths }
-    ensures gentle { SumsFitI16 result.now }
+    ensures { result.six.now ≡ taps version eighths }
 {
     if version == 0 {
-        six_taps(eighths)
-    } else {
-        &TWO_TAPS[eighths]
+        return Weights {
+            six: six_taps(eighths),
+        };
+    }
+    Weights {
+        six: &TWO_TAPS[eighths],
     }
 }
 
@@ -143,16 +152,16 @@ fn whole_sum<const N: usize>(s: &[u8], at: usize, step: usize, weights: &[i16; 6
 
 /// Whether the first and the last weight are 0.
 pub(crate) fn ends_are_zero(weights: &[i16; 6]) -> bool
-    ensures { IsTrue result → (weight weights.now 0 ≡ pos 0) × (weight weights.now 5 ≡ pos 0) }
+    ensures { IsTrue result → OuterWeightsAreZero weights.now 4 }
 {
     weights[0] == 0 && weights[5] == 0
 }
 
-/// Whether the second and the fifth weight are 0.
-pub(crate) fn seconds_are_zero(weights: &[i16; 6]) -> bool
-    ensures { IsTrue result → (weight weights.now 1 ≡ pos 0) × (weight weights.now 4 ≡ pos 0) }
+/// Whether only the middle two weights aren't 0.
+pub(crate) fn has_two_taps(weights: &[i16; 6]) -> bool
+    ensures { IsTrue result → OuterWeightsAreZero weights.now 2 }
 {
-    weights[1] == 0 && weights[4] == 0
+    weights[1] == 0 && weights[4] == 0 && ends_are_zero(weights)
 }
 
 /// Filters `N` pixels. Each is computed from six pixels that are `step` apart; pixel `j` begins at index `at + j`.

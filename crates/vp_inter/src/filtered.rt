@@ -1,17 +1,15 @@
 //! Blocks of several vectors, predicted from one horizontal pass (RFC 6386, chapter 18.3).
 
-ghost use Rattle.std.specs.Prelude.{◌≡◌, ℕ, ℤ, pos, negsuc, ◌+◌, ◌*◌, ◌<◌, ◌≤◌, length, slice_index};
+ghost use Rattle.std.specs.Prelude.{◌≡◌, ℕ, ◌+◌, ◌*◌, ◌<◌, ◌≤◌, slice_index};
 ghost use Rattle.vp_inter.specs.Filter.{taps, filter_six};
-ghost use Rattle.vp_inter.specs.Narrow.{IsFrom, SumsFitI16};
-ghost use Rattle.vp_inter.specs.Patches.{patch_pass, patch_pixel};
-ghost use Rattle.vp_inter.specs.Filtered.{AreRows, AreFiltered};
+ghost use Rattle.vp_inter.specs.Filtered.{AreFiltered};
 
-use crate::block::{other_rows, put_lanes};
+use crate::block::{copy_rows, other_rows};
 use crate::filter::taps;
 use crate::patch::Patch;
-use crate::reference::{Flat, lies_inside, pixels_are_bytes, plain_row};
-use crate::six_tap_1d::{PairWeights, pair_rows, paired_weights, vertical_sixteen, wide_columns};
-use crate::vector::{PlaneVector, first_tap, fraction};
+use crate::six_tap_1d::{pair_rows, paired_weights, vertical_sixteen, wide_columns};
+use crate::vector::PlaneVector;
+use crate::weights::PairWeights;
 use std::marker::Model;
 use std::simd::prelude::*;
 use vp_base::Plane;
@@ -19,20 +17,16 @@ use vp_base::Plane;
 /// The weights of the vertical pass of version 0, for a fraction of a row.
 #[derive(Drop)]
 pub struct ColumnFilter {
-    weights: &'static [i16; 6],
     far: PairWeights,
 }
 
 impl Model for ColumnFilter {
     ghost use Rattle.std.specs.Prelude.{ℤ, List};
-    ghost use Rattle.vp_inter.specs.Narrow.{SumsFitI16};
-    ghost use Rattle.vp_inter.specs.Turns.{AreFar};
+    ghost use Rattle.vp_inter.specs.Patches.{weights_of};
 
     ghost Value = { List ℤ };
 
-    ghost view = { λ f. f.weights.now };
-
-    ghost invariant = { λ f. SumsFitI16 f.weights.now × AreFar f.weights.now f.far };
+    ghost view = { λ f. weights_of f.far };
 }
 
 impl ColumnFilter {
@@ -42,10 +36,8 @@ impl ColumnFilter {
         requires bound { eighths < 8 }
         ensures { result ≡ taps 0 eighths }
     {
-        let weights = taps(0, eighths);
         ColumnFilter {
-            weights,
-            far: paired_weights(weights),
+            far: paired_weights(taps(0, eighths)),
         }
     }
 }
@@ -91,10 +83,13 @@ impl FilteredRows {
         requires high { 0 < plane.now.height }
         ensures { AreFiltered plane.now x y vector self.new }
     {
-        let left = first_tap(x, vector.column);
-        let top = first_tap(y, vector.row);
-        let patch = Patch { plane, left, top };
-        filter_rows(&mut self.rows, &patch, fraction(vector.column));
+        let across = vector.across();
+        if across == 0 {
+            copy_rows::<16>(&mut self.rows, &Patch::at(plane, x + 2, y, vector), 22);
+        } else {
+            let patch = Patch::at(plane, x, y, vector);
+            other_rows::<16>(&mut self.rows, &patch, taps(0, across), 22);
+        }
         pair_rows::<19>(&mut self.pairs, &self.rows);
     }
 
@@ -112,7 +107,7 @@ impl FilteredRows {
         ensures { (c : ℕ) → c < 16
             → slice_index result c ≡ filter_six filter.now (λ k. slice_index self.now ((r + k) * 16 + c)) }
     {
-        vertical_sixteen(&self.pairs, 32 * r, filter.weights, &filter.far)
+        vertical_sixteen(&self.pairs, 32 * r, &filter.far)
     }
 
     /// The vertical pass to 17 rows: the blocks of two vectors, of which one lies a pixel below the other.
@@ -121,39 +116,7 @@ impl FilteredRows {
             ≡ filter_six filter.now (λ k. slice_index self.now ((r + k) * 16 + c)) }
     {
         let mut pixels = [0; 272];
-        wide_columns::<17>(&mut pixels, &self.pairs, filter.weights, &filter.far);
+        wide_columns::<17>(&mut pixels, &self.pairs, &filter.far);
         pixels
-    }
-}
-
-/// The horizontal pass over 22 rows of the reference. Without a fraction it begins two columns to the right.
-fn filter_rows(rows: &mut [u8], patch: &Patch, eighths: usize)
-    requires all { length rows.old ≡ 352 }
-    requires bound { eighths < 8 }
-    requires near { IsFrom (negsuc 300000000) (pos 300000000) patch.now.left }
-    ensures { AreRows rows.new 22 (patch_pass (taps 0 eighths) patch.now) }
-{
-    if eighths == 0 {
-        pixels_are_bytes(patch.plane);
-        let Patch { plane, left, top } = *patch;
-        let left = left + 2;
-        copy_rows(rows, &Patch { plane, left, top });
-    } else {
-        other_rows::<16>(rows, patch, taps(0, eighths), 22);
-    }
-}
-
-/// Copies 22 rows of the reference.
-#[inline(never)]
-fn copy_rows(rows: &mut [u8], patch: &Patch)
-    requires all { length rows.old ≡ 352 }
-    ensures { AreRows rows.new 22 (patch_pixel patch.now) }
-{
-    let Patch { plane, left, top } = *patch;
-    let inside = lies_inside(plane, left, top, 16, 22);
-    let flat = Flat::of(plane);
-    for i in 0..22 {
-        let row = plain_row::<16>(&flat, inside, left, top + i as i32);
-        put_lanes::<16>(rows, i, row);
     }
 }

@@ -14,6 +14,7 @@ mod six_tap_1d;
 mod six_tap_2d;
 mod strip;
 mod vector;
+mod weights;
 
 pub use block::{
     predict_block4, predict_block8, predict_block16, predict_into4, predict_into8, predict_into16,

@@ -4,8 +4,7 @@
 ghost use Rattle.std.specs.Prelude.{◌≡◌, ℕ, pos, negsuc, ◌+◌, ◌*◌, ◌<◌, ◌+ℤ◌, ◌*ℤ◌, slice_index};
 ghost use Rattle.std.specs.Int.{int_max, int_min};
 ghost use Rattle.vp_lanes.specs.Lane.{lane};
-ghost use Rattle.vp_inter.specs.Narrow.{IsFrom, IsShort, pair, ArePairable};
-ghost use Rattle.vp_inter.specs.Turns.{AreByTurns};
+ghost use Rattle.vp_inter.specs.Narrow.{IsFrom, IsShort, pair};
 
 use std::simd::prelude::*;
 
@@ -58,22 +57,13 @@ fn short(sum: i32x8) -> i16x8
 
 /// Multiplies sixteen bytes by their weights, and adds the products in pairs.
 pub(crate) fn pair_sums(a: u8x16, w: i8x16) -> i16x8
-    requires { (j : ℕ) → j < 8 → IsShort (pos (slice_index a (2 * j)) *ℤ lane w (2 * j) +ℤ pos
-        (slice_index a (2 * j + 1)) *ℤ lane w (2 * j + 1)) }
-    ensures { (j : ℕ) → j < 8 → lane result j ≡ pos (slice_index a (2 * j)) *ℤ lane w (2 * j) +ℤ pos
-        (slice_index a (2 * j + 1)) *ℤ lane w (2 * j + 1) }
+    requires { (j : ℕ) → j < 8 → IsShort (pair (slice_index a (2 * j)) (slice_index a (2 * j + 1))
+        (lane w (2 * j)) (lane w (2 * j + 1))) }
+    ensures { (j : ℕ) → j < 8 → lane result j ≡ pair (slice_index a (2 * j)) (slice_index a (2 * j + 1))
+        (lane w (2 * j)) (lane w (2 * j + 1)) }
 {
     short(added(
         products(evens(a), even_weights(w)),
         products(odds(a), odd_weights(w)),
     ))
-}
-
-/// Multiplies sixteen bytes by two alternating weights, and adds the products in pairs.
-pub(crate) fn alternating_madd(a: u8x16, w: i8x16, even: i16, odd: i16) -> i16x8
-    requires turns { AreByTurns w even odd }
-    requires fits { ArePairable even odd }
-    ensures { (j : ℕ) → j < 8 → lane result j ≡ pair (slice_index a (2 * j)) (slice_index a (2 * j + 1)) even odd }
-{
-    pair_sums(a, w)
 }

@@ -3,12 +3,14 @@
 ghost use Rattle.std.specs.Prelude.{◌≡◌, ℕ, ℤ, pos, ◌+◌, ◌-◌, ◌<◌, ◌≤◌, ◌+ℤ◌, length, min, slice_index};
 ghost use Rattle.std.specs.Prelude.{IsTrue};
 ghost use Rattle.vp_base.specs.Raster.{row_of};
-ghost use Rattle.vp_inter.specs.Inter.{nearest, reference_pixel, IsInside};
+ghost use Rattle.vp_inter.specs.Inter.{nearest, reference_pixel};
 ghost use Rattle.vp_inter.specs.Narrow.{IsNear, IsNearWithin};
+ghost use Rattle.vp_inter.specs.Patches.{raster, patch_pixel, IsAt, HasColumns, HasRows};
 
 use crate::block::put_lanes;
 use crate::filter::load;
-use std::marker::Model;
+use crate::patch::Patch;
+use crate::vector::{PlaneVector, first_tap};
 use std::simd::prelude::*;
 use vp_base::Plane;
 
@@ -25,143 +27,105 @@ pub fn nearest(at: i32, size: usize) -> usize
     }
 }
 
-/// Whether the block of this many columns and rows at (`left`, `top`) is inside the plane.
-pub(crate) fn lies_inside(plane: &Plane, left: i32, top: i32, columns: usize, rows: usize) -> bool
-    requires columns { columns ≤ 21 }
-    requires rows { rows ≤ 22 }
-    ensures { IsTrue result → IsInside plane.now left top columns rows }
-{
-    left >= 0
-        && top >= 0
-        && left as usize + columns <= plane.width()
-        && top as usize + rows <= plane.height()
-}
-
-/// States that the pixels of a plane are bytes, for callers that compute with them.
-pub(crate) fn pixels_are_bytes(plane: &Plane)
-    ensures { (column row : ℤ) → reference_pixel plane.now column row ≤ 255 }
-{
-    are_bytes(plane.pixels());
-}
-
 /// States that pixels are bytes.
 fn are_bytes(pixels: &[u8])
     ensures { (k : ℕ) → slice_index pixels.now k ≤ 255 }
 {}
 
-/// A borrowed plane for a loop that writes pixels: a local value, which no write can alias, so its size stays in
-/// registers, and the compiler hoists what depends on it.
-#[derive(Drop)]
-pub(crate) struct Flat<'a> {
-    pixels: &'a [u8],
-    width: usize,
-    height: usize,
-}
-
-impl<'a> Model for Flat<'a> {
-    ghost use Rattle.std.specs.Prelude.{◌≡◌, ◌*◌, ◌≤◌, length};
-    ghost use Rattle.vp_base.specs.Raster.{Raster};
-
-    ghost Value = { Raster };
-
-    ghost view = { λ a. record { width = a.width; height = a.height; pixels = a.pixels.now } };
-
-    ghost invariant = { λ a. (length a.pixels.now ≡ a.height * a.width) × (a.width ≤ 16384) × (a.height ≤ 16384) };
-}
-
-impl<'a> Flat<'a> {
-    /// Borrows the pixels of a plane.
-    pub(crate) fn of(plane: &'a Plane) -> Self
-        ensures value { result ≡ plane.now }
-        ensures width { result.width ≡ plane.now.width }
-        ensures height { result.height ≡ plane.now.height }
+impl<'a> Patch<'a> {
+    /// The first of the six rows and columns that the block at column `x` of row `y` is predicted from, displaced by
+    /// `vector`. Without a fraction only the third counts, which is that of `x + 2` or `y + 2`. The second clause states
+    /// that pixels are bytes, for callers that compute with them.
+    #[inline(always)]
+    pub(crate) fn at(plane: &'a Plane, x: usize, y: usize, vector: PlaneVector) -> Patch<'a>
+        requires column { x ≤ 16400 }
+        requires row { y ≤ 16400 }
+        requires wide { 0 < plane.now.width }
+        requires high { 0 < plane.now.height }
+        ensures place { IsAt result plane.now x y vector }
+        ensures bytes { (column row : ℤ) → reference_pixel plane.now column row ≤ 255 }
     {
-        let width = plane.width();
-        let height = plane.height();
-        Flat {
-            pixels: plane.pixels(),
-            width,
-            height,
+        let pixels = plane.pixels();
+        are_bytes(pixels);
+        Patch {
+            pixels,
+            width: plane.width(),
+            height: plane.height(),
+            left: first_tap(x, vector.column),
+            top: first_tap(y, vector.row),
         }
     }
 
-    /// The number of rows.
-    pub(crate) fn height(&self) -> usize
-        ensures value { result ≡ self.now.height }
-        ensures bound { result ≤ 16384 }
+    /// Whether the first `rows` rows are inside the plane.
+    pub(crate) fn has_rows(&self, rows: usize) -> bool
+        requires { rows ≤ 22 }
+        ensures { IsTrue result → HasRows self.now rows }
     {
-        self.height
+        self.top >= 0 && self.top as usize + rows <= self.height
     }
 
-    /// Borrows row `y`.
-    pub(crate) fn row(&self, y: usize) -> &[u8]
+    /// Whether the first `columns` columns of the first `rows` rows are inside the plane.
+    pub(crate) fn is_inside(&self, columns: usize, rows: usize) -> bool
+        requires columns { columns ≤ 21 }
+        requires rows { rows ≤ 22 }
+        ensures { IsTrue result → HasColumns self.now columns × HasRows self.now rows }
+    {
+        self.left >= 0 && self.left as usize + columns <= self.width && self.has_rows(rows)
+    }
+
+    /// Borrows row `y` of the plane.
+    fn line(&self, y: usize) -> &'a [u8]
         requires { y < self.now.height }
-        ensures value { result.now ≡ row_of self.now y }
+        ensures value { result.now ≡ row_of (raster self.now) y }
         ensures len { length result.now ≡ self.now.width }
     {
         let start = y * self.width;
         &self.pixels[start..start + self.width]
     }
+
+    /// Borrows row `i`, or the nearest row of the plane. If `INSIDE`, it is inside.
+    #[inline(always)]
+    pub(crate) fn row<const INSIDE: bool>(&self, i: usize) -> &'a [u8]
+        requires near { i ≤ 21 }
+        requires inside { IsTrue INSIDE → HasRows self.now (i + 1) }
+        ensures value { result.now ≡ row_of (raster self.now) (nearest self.now.height (self.now.top +ℤ pos i)) }
+        ensures len { length result.now ≡ self.now.width }
+    {
+        if INSIDE {
+            return self.line(self.top as usize + i);
+        }
+        self.line(nearest(self.top + i as i32, self.height))
+    }
 }
 
-/// Loads `N` pixels of row `row` from column `left` on. If `inside`, they are read directly from the plane.
+/// Loads `N` pixels of row `i`. If `inside`, they are read directly from the plane.
 #[inline(always)]
-pub(crate) fn plain_row<const N: usize>(
-    plane: &Flat,
-    inside: bool,
-    left: i32,
-    row: i32,
-) -> Simd<u8, N>
+pub(crate) fn plain_row<const N: usize>(patch: &Patch, inside: bool, i: usize) -> Simd<u8, N>
     requires size { N ≤ 16 }
-    requires inside { IsTrue inside → IsInside plane.now left row N 1 }
-    requires columns { 0 < plane.now.width }
-    requires rows { 0 < plane.now.height }
-    requires near { IsNear left }
-    ensures { (c : ℕ) → c < N → slice_index result c ≡ reference_pixel plane.now (left +ℤ pos c) row }
+    requires near { i ≤ 21 }
+    requires inside { IsTrue inside → HasColumns patch.now N × HasRows patch.now (i + 1) }
+    ensures { (c : ℕ) → c < N → slice_index result c ≡ patch_pixel patch.now i c }
 {
     if inside {
-        return load(plane.row(row as usize), left as usize);
+        return load(patch.row::<true>(i), patch.left as usize);
     }
-    load(&reference_line(plane, left, row), 0)
+    load(&reference_line(patch, i), 0)
 }
 
-/// Borrows row `row`, or the nearest row of the plane.
+/// Loads 32 pixels of row `i`, inside the plane or not. The compiler hoists what depends on the column alone out of a
+/// loop over rows, and drops pixels that aren't used.
 #[inline(always)]
-fn extended_row<'a>(plane: &'a Flat, row: i32) -> &'a [u8]
-    requires { 0 < plane.now.height }
-    ensures value { result.now ≡ row_of plane.now (nearest plane.now.height row) }
-    ensures len { length result.now ≡ plane.now.width }
+pub(crate) fn reference_line(patch: &Patch, i: usize) -> [u8; 32]
+    requires { i ≤ 21 }
+    ensures { (c : ℕ) → c < 32 → slice_index result c ≡ patch_pixel patch.now i c }
 {
-    plane.row(nearest(row, plane.height()))
-}
-
-/// Loads 32 pixels of row `row` from column `left` on, inside the plane or not. The compiler hoists what depends on
-/// the column alone out of a loop over rows, and drops pixels that aren't used.
-#[inline(always)]
-pub(crate) fn reference_line(plane: &Flat, left: i32, row: i32) -> [u8; 32]
-    requires columns { 0 < plane.now.width }
-    requires rows { 0 < plane.now.height }
-    requires near { IsNear left }
-    ensures { (c : ℕ) → c < 32 → slice_index result c ≡ reference_pixel plane.now (left +ℤ pos c) row }
-{
-    nearest_numbers(extended_row(plane, row), left)
-}
-
-/// The 32 pixels of a row from column `left` on, extended by its border pixels.
-#[inline(always)]
-fn nearest_numbers(line: &[u8], left: i32) -> [u8; 32]
-    requires some { 0 < length line.now }
-    requires near { IsNear left }
-    ensures len { length result ≡ 32 }
-    ensures value { (c : ℕ) → c < 32 → slice_index result c ≡ slice_index line.now
-        (nearest (length line.now) (left +ℤ pos c)) }
-{
+    let line = patch.row::<false>(i);
     if line.len() < 16 {
-        return beyond(line, left);
+        return beyond(line, patch.left);
     }
     let mut pixels = [0; 32];
-    put_lanes::<16>(&mut pixels, 0, sixteen(line, left));
-    put_lanes::<16>(&mut pixels, 1, sixteen(line, left + 16));
+    put_lanes::<16>(&mut pixels, 0, sixteen(line, patch.left));
+    put_lanes::<16>(&mut pixels, 1, sixteen(line, patch.left + 16));
     pixels
 }
 

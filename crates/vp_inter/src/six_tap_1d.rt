@@ -4,26 +4,14 @@ ghost use Rattle.std.specs.Prelude.{◌≡◌, ℕ, pos, ◌+◌, ◌*◌, ◌/�
 ghost use Rattle.vp_lanes.specs.Lane.{lane};
 ghost use Rattle.vp_inter.specs.Filter.{filter_six};
 ghost use Rattle.vp_inter.specs.Narrow.{IsShort, SumsFitI16, sum_of_six, weight};
-ghost use Rattle.vp_inter.specs.Turns.{AreFar, one_of_three};
+ghost use Rattle.vp_inter.specs.Patches.{weights_of};
+ghost use Rattle.vp_inter.specs.Turns.{one_of_three};
 
 use crate::block::put_lanes;
-use crate::filter::{load, rounded_pixels};
-use crate::madd::alternating_madd;
+use crate::filter::{Weights, load, rounded_pixels};
+use crate::madd::pair_sums;
+use crate::weights::PairWeights;
 use std::simd::prelude::*;
-
-/// Whether the first and the last weight are above 0. This only chooses a path: each gives the same pixels.
-pub(crate) fn has_six_taps(weights: &[i16; 6]) -> bool {
-    weights[0] > 0 && weights[5] > 0
-}
-
-/// The weights of six pixels, in a row or a column. Each vector has two alternating weights: of pixels 0 and 3, of 1
-/// and 4, and of 2 and 5.
-#[derive(Clone, Copy)]
-pub(crate) struct PairWeights {
-    first: i8x16,
-    second: i8x16,
-    third: i8x16,
-}
 
 /// The weights in bytes, in the order 0 1 2 3 2 3 4 5, which takes two loads. The middle two are there twice.
 fn byte_weights(weights: &[i16; 6]) -> i8x8
@@ -37,11 +25,10 @@ fn byte_weights(weights: &[i16; 6]) -> i8x8
 }
 
 /// The weights in alternating lanes, for either pass.
-pub(crate) fn paired_weights(weights: &[i16; 6]) -> PairWeights
-    requires { SumsFitI16 weights.now }
-    ensures { AreFar weights.now result }
+pub(crate) fn paired_weights(weights: Weights) -> PairWeights
+    ensures { weights_of result ≡ weights.six.now }
 {
-    let bytes = byte_weights(weights);
+    let bytes = byte_weights(weights.six);
     PairWeights {
         first: bytes.swizzle::<16>([0, 3, 0, 3, 0, 3, 0, 3, 0, 3, 0, 3, 0, 3, 0, 3]),
         second: bytes.swizzle::<16>([1, 6, 1, 6, 1, 6, 1, 6, 1, 6, 1, 6, 1, 6, 1, 6]),
@@ -77,64 +64,46 @@ pub(crate) fn joined(front: u8x8, back: u8x8) -> u8x16
 
 /// The weighted sums of six pixels each. Each vector interleaves pixels that are three apart in the direction of the
 /// pass: 0 and 3, 1 and 4, and 2 and 5.
-fn weighted_sums(a: u8x16, b: u8x16, c: u8x16, weights: &[i16; 6], far: &PairWeights) -> i16x8
-    requires gentle { SumsFitI16 weights.now }
-    requires turns { AreFar weights.now far.now }
-    ensures { (j : ℕ) → j < 8 → lane result j ≡ sum_of_six weights.now
+fn weighted_sums(a: u8x16, b: u8x16, c: u8x16, far: &PairWeights) -> i16x8
+    ensures { (j : ℕ) → j < 8 → lane result j ≡ sum_of_six (weights_of far.now)
         (λ k. slice_index (one_of_three a b c (k % 3)) (2 * j + k / 3)) }
 {
     sum_of_three(
-        alternating_madd(a, far.first, weights[0], weights[3]),
-        alternating_madd(b, far.second, weights[1], weights[4]),
-        alternating_madd(c, far.third, weights[2], weights[5]),
+        pair_sums(a, far.first),
+        pair_sums(b, far.second),
+        pair_sums(c, far.third),
     )
 }
 
 /// Filters eight pixels, horizontally or vertically. Each vector interleaves pixels that are three apart in that
 /// direction.
-pub(crate) fn filtered_pairs(
-    a: u8x16,
-    b: u8x16,
-    c: u8x16,
-    weights: &[i16; 6],
-    far: &PairWeights,
-) -> u8x8
-    requires gentle { SumsFitI16 weights.now }
-    requires turns { AreFar weights.now far.now }
-    ensures { (j : ℕ) → j < 8 → slice_index result j ≡ filter_six weights.now
+pub(crate) fn filtered_pairs(a: u8x16, b: u8x16, c: u8x16, far: &PairWeights) -> u8x8
+    ensures { (j : ℕ) → j < 8 → slice_index result j ≡ filter_six (weights_of far.now)
         (λ k. slice_index (one_of_three a b c (k % 3)) (2 * j + k / 3)) }
 {
-    rounded_pixels::<8>(weighted_sums(a, b, c, weights, far))
+    rounded_pixels::<8>(weighted_sums(a, b, c, far))
 }
 
 /// Filters sixteen pixels vertically, from interleaved rows that are three apart.
-pub(crate) fn vertical_sixteen(
-    pairs: &[u8],
-    at: usize,
-    weights: &[i16; 6],
-    far: &PairWeights,
-) -> u8x16
-    requires room { at + 96 ≤ length pairs.now }
-    requires gentle { SumsFitI16 weights.now }
-    requires turns { AreFar weights.now far.now }
-    ensures { (j : ℕ) → j < 16 → slice_index result j ≡ filter_six weights.now
+pub(crate) fn vertical_sixteen(pairs: &[u8], at: usize, far: &PairWeights) -> u8x16
+    requires { at + 96 ≤ length pairs.now }
+    ensures { (j : ℕ) → j < 16 → slice_index result j ≡ filter_six (weights_of far.now)
         (λ k. slice_index pairs.now (at + 32 * (k % 3) + (2 * j + k / 3))) }
 {
-    let front = filtered_pairs(
-        load(pairs, at),
-        load(pairs, at + 32),
-        load(pairs, at + 64),
-        weights,
-        far,
-    );
-    let back = filtered_pairs(
-        load(pairs, at + 16),
-        load(pairs, at + 48),
-        load(pairs, at + 80),
-        weights,
-        far,
-    );
-    joined(front, back)
+    joined(
+        filtered_pairs(
+            load(pairs, at),
+            load(pairs, at + 32),
+            load(pairs, at + 64),
+            far,
+        ),
+        filtered_pairs(
+            load(pairs, at + 16),
+            load(pairs, at + 48),
+            load(pairs, at + 80),
+            far,
+        ),
+    )
 }
 
 /// Interleaves `ROWS` rows of sixteen pixels, each with the row three below.
@@ -154,22 +123,15 @@ pub(crate) fn pair_rows<const ROWS: usize>(pairs: &mut [u8], rows: &[u8])
 
 /// The vertical pass to `ROWS` rows, over interleaved rows of sixteen pixels.
 #[inline(never)]
-pub(crate) fn wide_columns<const ROWS: usize>(
-    pixels: &mut [u8],
-    pairs: &[u8],
-    weights: &[i16; 6],
-    far: &PairWeights,
-)
+pub(crate) fn wide_columns<const ROWS: usize>(pixels: &mut [u8], pairs: &[u8], far: &PairWeights)
     requires few { ROWS ≤ 17 }
     requires room { length pairs.now ≡ 32 * ROWS + 64 }
     requires whole { length pixels.old ≡ 16 * ROWS }
-    requires gentle { SumsFitI16 weights.now }
-    requires turns { AreFar weights.now far.now }
-    ensures { (r c : ℕ) → r < ROWS → c < 16 → slice_index pixels.new (r * 16 + c)
-        ≡ filter_six weights.now (λ k. slice_index pairs.now (32 * r + 32 * (k % 3) + (2 * c + k / 3))) }
+    ensures { (r c : ℕ) → r < ROWS → c < 16 → slice_index pixels.new (r * 16 + c) ≡ filter_six
+        (weights_of far.now) (λ k. slice_index pairs.now (32 * r + 32 * (k % 3) + (2 * c + k / 3))) }
 {
     for i in 0..ROWS {
-        let row = vertical_sixteen(pairs, 32 * i, weights, far);
+        let row = vertical_sixteen(pairs, 32 * i, far);
         put_lanes::<16>(pixels, i, row);
     }
 }

@@ -1,6 +1,6 @@
 //! Motion vectors of a plane: whole pixels, fractions, and chroma vectors.
 
-ghost use Rattle.std.specs.Prelude.{◌≡◌, ℤ, pos, negsuc, ◌+◌, ◌<◌, ◌≤◌, ◌+ℤ◌, ◌≤ℤ◌};
+ghost use Rattle.std.specs.Prelude.{◌≡◌, ℤ, pos, negsuc, ◌+◌, ◌<◌, ◌≤◌, ◌≤ℤ◌};
 ghost use Rattle.vp_inter.specs.Vectors.{whole_pixels, fraction, first_tap, IsFarBelowI32, AreFarBelowI32};
 ghost use Rattle.vp_inter.specs.Vectors.{mean_of_four, chroma_eighths, luma_vector, chroma_vector};
 
@@ -11,6 +11,24 @@ pub struct PlaneVector {
     pub row: i32,
     /// Columns; positive is right.
     pub column: i32,
+}
+
+impl PlaneVector {
+    /// The remaining eighths of a row, 0 to 7.
+    pub(crate) fn down(self) -> usize
+        ensures value { result ≡ fraction self.row }
+        ensures bound { result < 8 }
+    {
+        fraction(self.row)
+    }
+
+    /// The remaining eighths of a column.
+    pub(crate) fn across(self) -> usize
+        ensures value { result ≡ fraction self.column }
+        ensures bound { result < 8 }
+    {
+        fraction(self.column)
+    }
 }
 
 /// The whole pixels, rounded down.
@@ -24,7 +42,7 @@ pub(crate) fn whole_pixels(eighths: i32) -> i32
 
 /// The remaining eighths, 0 to 7.
 #[tactic(auto, unfolding(crate::specs::Vectors::fraction))]
-pub(crate) fn fraction(eighths: i32) -> usize
+fn fraction(eighths: i32) -> usize
     ensures value { result ≡ fraction eighths }
     ensures bound { result < 8 }
 {
@@ -34,7 +52,7 @@ pub(crate) fn fraction(eighths: i32) -> usize
 /// The position of the first of the six pixels that the pixel at `at` is computed from.
 #[tactic(auto, unfolding(crate::specs::Vectors::first_tap))]
 pub(crate) fn first_tap(at: usize, eighths: i32) -> i32
-    requires { at ≤ 16384 }
+    requires { at ≤ 16400 }
     ensures value { result ≡ first_tap at eighths }
     ensures range { (negsuc 300000000 ≤ℤ result) × (result ≤ℤ pos 300000000) }
 {
@@ -74,23 +92,12 @@ fn chroma_eighths(version: u8, quarters: &[i32; 4]) -> i32
     requires { AreFarBelowI32 quarters.now }
     ensures { result ≡ chroma_eighths version quarters.now }
 {
-    let first = sum_of_two(quarters[0], quarters[1]);
-    let last = sum_of_two(quarters[2], quarters[3]);
-    let mean = mean_of_four(first + last);
+    let mean = mean_of_four((quarters[0] + quarters[1]) + (quarters[2] + quarters[3]));
     if version == 3 {
         whole_pixels(mean) * 8
     } else {
         mean
     }
-}
-
-fn sum_of_two(a: i32, b: i32) -> i32
-    requires first { IsFarBelowI32 a }
-    requires second { IsFarBelowI32 b }
-    ensures value { result ≡ a +ℤ b }
-    ensures range { (negsuc 33554431 ≤ℤ result) × (result ≤ℤ pos 33554432) }
-{
-    a + b
 }
 
 /// A quarter of the sum, rounded to the nearest, halves away from zero.

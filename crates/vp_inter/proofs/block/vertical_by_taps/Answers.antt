@@ -1,17 +1,7 @@
-use Rattle.std.proofs.Common.{◌≡◌, ◌∙◌, ℕ, ℤ, List, ◌+◌, ◌*◌, ◌/◌, ◌%◌, ◌<◌, ◌≤◌, ap, sym, get_or, arith, rules}
+use Rattle.std.proofs.Common.{◌≡◌, ◌∙◌, ℕ, ℤ, List, ◌+◌, ◌*◌, ◌/◌, ◌%◌, ◌<◌, ◌≤◌, ap, sym, get_or, arith}
 use Rattle.std.proofs.lemmas.Nat.{row_fits}
-use Rattle.vp_inter.specs.Filter.{filter_six}
 use Rattle.vp_inter.proofs.FilterLemmas.{filter_six-same}
-use Rattle.vp_inter.proofs.PassLemmas.{rows_more}
 use Rattle.vp_inter.proofs.block.vertical_by_taps.Goals as goal
-
-pub loop-i-preserved : goal.loop-i-preserved
-loop-i-preserved g c = record {
-  size = search rules;
-  done = rows_more 16 c.loop-i.i c.loop-i.pixels c.put_lanes.new.pixels c.pass-piece.result (λ k j. filter_six c.args.weights.now (λ i. get_or c.args.rows.now (16 * k + i * g.row.N + j) 0))
-      c.loop-i.invariant.done c.put_lanes.ensures.here c.put_lanes.ensures.before
-      c.pass-piece.ensures;
-}
 
 -- a pixel of a piece, by its row of n
 piece_place : (n r j k q t : ℕ) → q * 16 + t ≡ r * n + k → 16 * q + j * n + t ≡ (r + j) * n + k

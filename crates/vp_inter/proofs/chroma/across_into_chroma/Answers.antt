@@ -1,66 +1,37 @@
-use Rattle.std.proofs.Common.{◌≡◌, ◌∙◌, ◌+◌, ◌*◌, ◌<◌, ℕ, ℤ, pos, ◌+ℤ◌, List, get_or, sym, ap, subst, arith, w32, rules}
-use Rattle.std.proofs.lemmas.Int.{ints, to_z-of_z}
-use mir.Val.{SFits}
+use Rattle.std.proofs.Common.{◌∙◌, ◌+◌, ◌*◌, ℕ, get_or, ap, subst, arith}
 use Rattle.vp_base.specs.Raster.{Raster}
 use Rattle.vp_base.specs.Block.{with_block}
 use Rattle.vp_base.specs.Image.{Image, plane_of, with_plane}
 use Rattle.vp_base.proofs.BlockLemmas.{with_block_same}
 use Rattle.vp_inter.specs.declared.vector.PlaneVector.{PlaneVector}
 use Rattle.vp_inter.specs.Filter.{taps}
-use Rattle.vp_inter.specs.Inter.{nearest, horizontal_pass, inter_pixel}
-use Rattle.vp_inter.specs.Turns.{SelectsPairs}
-use Rattle.vp_inter.specs.Vectors.{fraction, first_tap}
-use Rattle.vp_inter.proofs.PassLemmas.{inter_level}
-use Rattle.vp_inter.proofs.Sums.{same, small_same}
+use Rattle.vp_inter.specs.Inter.{inter_pixel}
+use Rattle.vp_inter.specs.Patches.{IsAt}
+use Rattle.vp_inter.proofs.ChromaLemmas.{other_plane}
+use Rattle.vp_inter.proofs.PassLemmas.{patch_level}
 use Rattle.vp_inter.proofs.chroma.across_into_chroma.Goals as goal
-
-module _ (version x y : ℕ) (v : PlaneVector) (weights : List ℤ) (left top : ℤ) (el : left ≡ first_tap x v.column) (et : top ≡ first_tap y v.row +ℤ pos 2)
-    (ew : weights ≡ taps version (fraction v.column)) (level : fraction v.row ≡ 0) where
-  filtered : (from ref q : Raster) (pixels : List ℕ) → from ≡ ref
-      → ((r c : ℕ) → r < 8 → c < 8 → get_or pixels (r * 8 + c) 0 ≡ horizontal_pass weights from left top r c)
-      → with_block q x y 8 8 (λ r c. get_or pixels (r * 8 + c) 0) ≡ with_block q x y 8 8 (inter_pixel version ref x y v)
-  filtered from ref q pixels is value =
-      let across : List ℤ = taps version (fraction v.column) in
-      with_block_same q x y 8 8 (λ r c. get_or pixels (r * 8 + c) 0) (inter_pixel version ref x y v)
-      (λ r c rin cin.
-      value r c rin cin
-      ∙ ap (λ (w : List ℤ). horizontal_pass w from left top r c) ew
-      ∙ ap (λ (z : ℤ). horizontal_pass across from z top r c) el
-      ∙ ap (λ (z : ℤ). horizontal_pass across from (first_tap x v.column) z r c) et
-      ∙ ap (λ (s : Raster). horizontal_pass across s (first_tap x v.column) (first_tap y v.row +ℤ pos 2) r c) is
-      ∙ inter_level version ref x y v r c level)
 
 pub returns : goal.returns
 returns c =
     let p : Image = c.args.picture.now in
     let now : Image = c.write_block.new.self in
     let ref : Image = c.args.reference.now in
+    let version : ℕ = c.args.version in
     let x : ℕ = c.args.x in
     let y : ℕ = c.args.y in
     let v : PlaneVector = c.args.vector in
-    let column_fits : SFits w32 c.args.vector.column = search rules in
-    let row_fits : SFits w32 c.args.vector.row = search rules in
-    let column : same c.args.vector.column ≡ c.args.vector.column = to_z-of_z w32 c.args.vector.column column_fits in
-    let row : same c.args.vector.row ≡ c.args.vector.row = to_z-of_z w32 c.args.vector.row row_fits in
-    let left : ℤ = same c.first_tap-left.result in
-    let top : ℤ = same (same c.first_tap-top.result +ℤ pos 2) in
-    let el : same c.first_tap-left.result ≡ first_tap c.args.x c.args.vector.column =
-    small_same c.first_tap-left.result (omega (arith, ints), omega (arith, ints)) ∙ (c.first_tap-left.ensures.value ∙ ap (first_tap c.args.x) column) in
-    let et : same (same c.first_tap-top.result +ℤ pos 2) ≡ first_tap c.args.y c.args.vector.row +ℤ pos 2 =
-    (let e : same (same c.first_tap-top.result +ℤ pos 2) ≡ c.first_tap-top.result +ℤ pos 2 = omega (arith, ints) in e)
-    ∙ ap (λ (z : ℤ). z +ℤ pos 2) (c.first_tap-top.ensures.value ∙ ap (first_tap c.args.y) row) in
-    let ew : c.taps-weights.result.now ≡ taps c.args.version (fraction c.args.vector.column) = c.taps-weights.ensures.value ∙ ap (taps c.args.version) (c.fraction.ensures.value ∙ ap fraction column) in
+    let from_u = c.at-from_u.result in
+    let from_v = c.at-from_v.result in
+    let at_u = subst (λ (s : Raster). IsAt from_u s x (y + 2) v) c.plane-u.ensures c.at-from_u.ensures.place in
+    let at_v = subst (λ (s : Raster). IsAt from_v s x (y + 2) v) c.plane-v.ensures c.at-from_v.ensures.place in
     let aligned = c.dim-known.ensures.aligned in
-    let alike : ref.u.width ≡ ref.v.width = omega (arith, aligned) in
-    let wide_v : c.width-2.result ≡ c.plane-v.result.now.width =
-    c.width-2.ensures.value ∙ ap (λ (s : Raster). s.width) c.plane-u.ensures ∙ alike ∙ sym (ap (λ (s : Raster). s.width) c.plane-v.ensures) in
-    let selects : (n : ℕ) → c.width-2.result ≡ n → SelectsPairs c.row_filter-filter.result (λ j. nearest n (left +ℤ pos j)) =
-    λ n e. subst (λ (m : ℕ). SelectsPairs c.row_filter-filter.result (λ j. nearest m (left +ℤ pos j))) e c.row_filter-filter.ensures.places in
-    let block = filtered c.args.version x y v c.taps-weights.result.now left top el et ew c.requires.level in
+    let selects = c.row_filter-filter.ensures.places in
+    let also = other_plane c.row_filter-filter.result from_u from_v ref.u ref.v x (y + 2) v at_u at_v (omega (arith, aligned)) selects in
+    let rows = c.row_filter-filter.ensures.weights ∙ c.taps.ensures ∙ ap (taps version) c.across.ensures.value in
     let first = c.write_block.ensures
-    ∙ ap (with_plane p 1) (block c.plane-u.result.now ref.u p.u c.rows_by_filter.new.pixels c.plane-u.ensures
-    (c.rows_by_filter.ensures left (selects c.plane-u.result.now.width c.width-2.ensures.value))) in
+    ∙ ap (with_plane p 1) (with_block_same p.u x y 8 8 (λ i j. get_or c.rows_by_filter.new.pixels (i * 8 + j) 0) (inter_pixel version ref.u x y v)
+    (λ i j iin jin. c.rows_by_filter.ensures selects i j iin jin ∙ patch_level version ref.u x y v i j from_u _ at_u rows c.requires.level)) in
     c.write_block-2.ensures
-    ∙ ap (with_plane now 2) (block c.plane-v.result.now ref.v (plane_of now 2) c.rows_by_filter-2.new.pixels c.plane-v.ensures
-    (c.rows_by_filter-2.ensures left (selects c.plane-v.result.now.width wide_v)))
-    ∙ ap (λ (i : Image). with_plane i 2 (with_block (plane_of i 2) x y 8 8 (inter_pixel c.args.version ref.v x y v))) first
+    ∙ ap (with_plane now 2) (with_block_same (plane_of now 2) x y 8 8 (λ i j. get_or c.rows_by_filter-2.new.pixels (i * 8 + j) 0) (inter_pixel version ref.v x y v)
+    (λ i j iin jin. c.rows_by_filter-2.ensures also i j iin jin ∙ patch_level version ref.v x y v i j from_v _ at_v rows c.requires.level))
+    ∙ ap (λ (i : Image). with_plane i 2 (with_block (plane_of i 2) x y 8 8 (inter_pixel version ref.v x y v))) first

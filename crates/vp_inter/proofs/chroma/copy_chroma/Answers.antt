@@ -1,4 +1,4 @@
-use Rattle.std.proofs.Common.{◌≡◌, ◌∙◌, ◌+◌, ◌<◌, ◌≤◌, ℕ, pos, ◌+ℤ◌, ap, subst, arith}
+use Rattle.std.proofs.Common.{◌≡◌, ◌∙◌, ◌+◌, ◌<◌, ◌≤◌, ℕ, pos, ap, subst, arith}
 use Rattle.vp_base.specs.Raster.{Raster, pixel}
 use Rattle.vp_base.specs.Block.{with_block}
 use Rattle.vp_base.specs.Image.{Image, plane_of, with_plane}
@@ -10,7 +10,7 @@ use Rattle.vp_inter.proofs.PassLemmas.{inter_copied}
 use Rattle.vp_inter.proofs.chroma.copy_chroma.Goals as goal
 
 copied : (version x y column row : ℕ) (v : PlaneVector) (from ref q : Raster) → from ≡ ref → column + 8 ≤ ref.width → row + 8 ≤ ref.height
-    → pos column ≡ first_tap x v.column +ℤ pos 2 → pos row ≡ first_tap y v.row +ℤ pos 2 → fraction v.column ≡ 0 → fraction v.row ≡ 0
+    → pos column ≡ first_tap (x + 2) v.column → pos row ≡ first_tap (y + 2) v.row → fraction v.column ≡ 0 → fraction v.row ≡ 0
     → ((i j : ℕ) → i < 8 → j < 8 → pixel from (column + j) (row + i) ≤ 255)
     → with_block q x y 8 8 (λ i j. pixel from (column + j) (row + i)) ≡ with_block q x y 8 8 (inter_pixel version ref x y v)
 copied version x y column row v from ref q is columns rows left top across down bytes =

@@ -1,26 +1,16 @@
-use Rattle.std.proofs.Common.{◌∙◌, ℕ, ℤ, ◌<◌, ap, subst, sym, arith, to_z, of_z, w32, rules}
-use Rattle.std.proofs.lemmas.Int.{to_z-of_z}
-use Rattle.vp_base.specs.Raster.{Raster}
-use Rattle.vp_inter.specs.Inter.{horizontal_pass}
-use Rattle.vp_inter.specs.Strips.{SelectsWide}
-use Rattle.vp_inter.proofs.PassLemmas.{rows_more}
+use Rattle.std.proofs.Common.{◌∙◌, ap, rules}
+use Rattle.vp_inter.specs.Patches.{patch_pass, weights_of}
+use Rattle.vp_inter.proofs.PassLemmas.{from_zero, rows_more}
+use Rattle.vp_inter.proofs.WideLemmas.{by_halves}
 use Rattle.vp_inter.proofs.six_tap_2d.rows_to_block.Goals as goal
 
 pub loop-i-preserved : goal.loop-i-preserved
 loop-i-preserved g c =
-    let p : Raster = c.args.plane.now in
-    let top : ℤ = to_z w32 (of_z w32 c.args.top) in
-    let i : ℕ = c.loop-i.i in
+    let pixel = patch_pass (weights_of c.args.left.now.far) c.args.patch.now in
     record {
       size = search rules;
-      done = λ left selects.
-          rows_more 16 i c.loop-i.pixels c.put_lanes.new.pixels c.wide_row-row.result (horizontal_pass c.args.weights.now p left top)
-          (c.loop-i.invariant.done left selects) c.put_lanes.ensures.here c.put_lanes.ensures.before
-          (λ k kin. c.wide_row-row.ensures left (subst (λ (n : ℕ). SelectsWide c.args.filter.now n left) (sym c.of-flat.ensures.width) selects) k kin
-          ∙ ap (λ (s : Raster). horizontal_pass c.args.weights.now s left top i k) c.of-flat.ensures.value);
+      done = rows_more 16 c.loop-i.i c.loop-i.pixels c.put_lanes.new.pixels c.joined-row.result pixel c.loop-i.invariant.done c.put_lanes.ensures.here c.put_lanes.ensures.before
+          (by_halves c.joined-row.result (pixel c.loop-i.i)
+          (λ x h. c.joined-row.ensures.front x h ∙ c.filtered_row.ensures 0 c.requires.places x h ∙ ap (pixel c.loop-i.i) (from_zero x))
+          (λ x h. c.joined-row.ensures.back x h ∙ c.filtered_row-in-loop-i.ensures 8 c.requires.further x h));
     }
-
-pub returns : goal.returns
-returns g c left selects i k iin kin =
-    c.loop-i.invariant.done left selects i k (let passed : i < c.loop-i.i = omega arith in passed) kin
-    ∙ ap (λ (z : ℤ). horizontal_pass c.args.weights.now c.args.plane.now left z i k) (to_z-of_z w32 c.args.top c.ranges.top)

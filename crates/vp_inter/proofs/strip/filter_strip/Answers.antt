@@ -1,11 +1,12 @@
 use Rattle.std.proofs.Common.{ℕ, ◌+◌, arith}
 use Rattle.vp_inter.specs.Filter.{filter_six}
-use Rattle.vp_inter.proofs.ShortLemmas.{rows_two}
+use Rattle.vp_inter.specs.Patches.{weights_of}
+use Rattle.vp_inter.proofs.PassLemmas.{rows_two}
 use Rattle.vp_inter.proofs.strip.filter_strip.Goals as goal
 
 pub returns : goal.returns
 returns c pixel strip =
-    let value : ℕ → ℕ → ℕ = λ (y x : ℕ). filter_six c.args.weights.now (λ k. pixel (y + k) x) in
+    let value : ℕ → ℕ → ℕ = λ (y x : ℕ). filter_six (weights_of c.args.filter.now.far) (λ k. pixel (y + k) x) in
     let first = c.put_two.new.pixels in
     let second = c.put_two-2.new.pixels in
     let third = c.put_two-3.new.pixels in
