@@ -66,7 +66,7 @@ sub_at : (modes : List SubMode) (p : Raster) (residue : ℕ → List ℤ) (a b n
 sub_at modes p residue a b n r c x y n' r' c' ea eb en er ec = cc
 
 -- subblock k stands at a place among all the luma blocks, and has a residue by itself
-pub sub_alone : (m : Modes) (t : Tokens) (f : Factors) (place : Place) (p : Raster) (k : ℕ) → is_by_subblocks m.luma ≡ true
+sub_alone : (m : Modes) (t : Tokens) (f : Factors) (place : Place) (p : Raster) (k : ℕ) → is_by_subblocks m.luma ≡ true
     → with_sub p (block_place 4 place k) (get_or m.subs k sub_is.Dc) (residue (block_of t (1 + k)).levels f.y_dc f.y_ac)
     ≡ sub_step (macroblock_of (Intra m) t f) place k p
 unfolding luma_residue luma_coefficients
@@ -82,9 +82,13 @@ sub_alone m t f place p k e =
     ∙ ap (λ (a : ℕ). with_block p a (4 * (place.row * 4 + k / 4)) 4 4 g) (let a : 4 * (place.column * 4 + k % 4) ≡ 16 * place.column + 4 * (k % 4) = omega arith in a)
     ∙ ap (λ (b : ℕ). with_block p (16 * place.column + 4 * (k % 4)) b 4 4 g) (let b : 4 * (place.row * 4 + k / 4) ≡ 16 * place.row + 4 * (k / 4) = omega arith in b)
 
+-- the first k subblocks
+abbrev pub first_subs : Modes → Tokens → Factors → Place → ℕ → Raster → Raster
+first_subs m t f place k p =
+    over k (λ j q. with_sub q (block_place 4 place j) (get_or m.subs j sub_is.Dc) (residue (block_of t (1 + j)).levels f.y_dc f.y_ac)) p
+
 pub subs_alone : (m : Modes) (t : Tokens) (f : Factors) (place : Place) (p : Raster) → is_by_subblocks m.luma ≡ true
-    → luma_rebuilt (macroblock_of (Intra m) t f) place p
-    ≡ over 16 (λ k q. with_sub q (block_place 4 place k) (get_or m.subs k sub_is.Dc) (residue (block_of t (1 + k)).levels f.y_dc f.y_ac)) p
+    → luma_rebuilt (macroblock_of (Intra m) t f) place p ≡ first_subs m t f place 16 p
 subs_alone m t f place p e =
     sym (luma_by_subs (macroblock_of (Intra m) t f) place p e)
     ∙ over-same 16 (sub_step (macroblock_of (Intra m) t f) place) (λ k q. with_sub q (block_place 4 place k) (get_or m.subs k sub_is.Dc) (residue (block_of t (1 + k)).levels f.y_dc f.y_ac)) p

@@ -12,22 +12,20 @@ use Rattle.vp_inter.specs.Inter.{reference_pixel, horizontal_pass, inter_pixel}
 use Rattle.vp_inter.specs.Vectors.{fraction, first_tap, whole_pixels, mean_of_four, chroma_eighths, luma_vector, chroma_vector}
 use Rattle.vp_inter.specs.Filter.{taps, filter_six}
 use Rattle.vp_recon.specs.Prediction.{moved_pixel, four_from, luma_moved, chroma_moved}
-use Rattle.vp_recon.specs.Sums.{sub_of_quarter}
-use Rattle.vp_recon.proofs.Parts.{sub_at, subblock_has}
+use Rattle.vp_recon.specs.Sums.{AreVectors, vector_at, sub_of_quarter}
+use Rattle.vp_recon.proofs.Parts.{sub_at}
 
 moved_at : (version : ℕ) (reference : Raster) (vector : ℕ → PlaneVector) (x y n r c x' y' n' r' c' : ℕ)
     → x ≡ x' → y ≡ y' → n ≡ n' → r ≡ r' → c ≡ c' → inter_pixel version reference x y (vector n) r c ≡ inter_pixel version reference x' y' (vector n') r' c'
 moved_at version reference vector x y n r c x' y' n' r' c' ex ey en er ec = cc
 
 -- a pixel of subblock k
-pub moved_part : (version : ℕ) (reference : Raster) (x y horizontal_pass : ℕ) (vector : ℕ → PlaneVector) (k r c : ℕ) → 0 < horizontal_pass → r < 4 → c < 4
-    → inter_pixel version reference (x + 4 * (k % horizontal_pass)) (y + 4 * (k / horizontal_pass)) (vector k) r c
-    ≡ moved_pixel version reference x y horizontal_pass vector (4 * (k / horizontal_pass) + r) (4 * (k % horizontal_pass) + c)
-moved_part version reference x y horizontal_pass vector k r c some rin cin =
-    sym (moved_at version reference vector
-    (x + 4 * ((4 * (k % horizontal_pass) + c) / 4)) (y + 4 * ((4 * (k / horizontal_pass) + r) / 4)) (sub_at horizontal_pass (4 * (k / horizontal_pass) + r) (4 * (k % horizontal_pass) + c)) ((4 * (k / horizontal_pass) + r) % 4) ((4 * (k % horizontal_pass) + c) % 4)
-    (x + 4 * (k % horizontal_pass)) (y + 4 * (k / horizontal_pass)) k r c
-    (omega arith) (omega arith) (subblock_has horizontal_pass k r c some rin cin) (omega arith) (omega arith))
+pub moved_part : (version : ℕ) (reference : Raster) (x y : ℕ) (vector : ℕ → PlaneVector) (k r c : ℕ) → r < 4 → c < 4
+    → inter_pixel version reference (x + 4 * (k % 2)) (y + 4 * (k / 2)) (vector k) r c ≡ moved_pixel version reference x y 2 vector (4 * (k / 2) + r) (4 * (k % 2) + c)
+moved_part version reference x y vector k r c rin cin =
+    moved_at version reference vector (x + 4 * (k % 2)) (y + 4 * (k / 2)) k r c
+    (x + 4 * ((4 * (k % 2) + c) / 4)) (y + 4 * ((4 * (k / 2) + r) / 4)) (sub_at 2 (4 * (k / 2) + r) (4 * (k % 2) + c)) ((4 * (k / 2) + r) % 4) ((4 * (k % 2) + c) % 4)
+    (omega arith) (omega arith) (omega arith) (omega arith) (omega arith)
 
 -- a pixel of a quarter of luma
 pub moved_quarter : (version : ℕ) (reference : Raster) (x y : ℕ) (vector : ℕ → PlaneVector) (n r c : ℕ) → r < 8 → c < 8
@@ -38,6 +36,12 @@ moved_quarter version reference x y vector n r c rin cin =
     (x + 8 * (n % 2) + 4 * (c / 4)) (y + 8 * (n / 2) + 4 * (r / 4)) (sub_of_quarter n (2 * (r / 4) + c / 4)) (r % 4) (c % 4)
     (x + 4 * ((8 * (n % 2) + c) / 4)) (y + 4 * ((8 * (n / 2) + r) / 4)) (4 * ((8 * (n / 2) + r) / 4) + (8 * (n % 2) + c) / 4) ((8 * (n / 2) + r) % 4) ((8 * (n % 2) + c) % 4)
     (omega arith) (omega arith) (omega arith) (omega arith) (omega arith)
+
+-- by the vectors of a list
+pub moved_same : (version : ℕ) (reference : Raster) (x y : ℕ) (vectors : List PlaneVector) (vector : ℕ → PlaneVector) (r c : ℕ) → AreVectors 4 vectors vector → r < 8 → c < 8
+    → moved_pixel version reference x y 2 (vector_at vectors) r c ≡ moved_pixel version reference x y 2 vector r c
+moved_same version reference x y vectors vector r c are rin cin =
+    ap (λ (w : PlaneVector). inter_pixel version reference (x + 4 * (c / 4)) (y + 4 * (r / 4)) w (r % 4) (c % 4)) (are (sub_at 2 r c) (omega arith))
 
 -- ---- a block that moves as a whole
 
@@ -91,25 +95,22 @@ moved_alike version reference x y n vector r c same =
 
 -- ---- a macroblock that isn't split
 
-pub luma_one : (e : MacroblockMotion) (k : ℕ) → AreOne e.mode e.vectors → is_split e.mode ≡ false → k < 16 → luma_moved e k ≡ luma_moved e 0
-unfolding luma_moved
-luma_one e k one whole below =
-    let v : Vector = last_of e.vectors in
-    let at : (j : ℕ) → j < 16 → get_or e.vectors j zero_vector ≡ v = λ j jin. ap (λ (vs : List Vector). get_or vs j zero_vector) (one whole) ∙ get_or-replicate 16 j v zero_vector jin in
-    ap (λ (w : Vector). luma_vector w.row w.column) (at k below ∙ sym (at 0 (omega arith)))
+module _ (e : MacroblockMotion) (one : AreOne e.mode e.vectors) (whole : is_split e.mode ≡ false) where
+  all_last : (k : ℕ) (none : Vector) → k < 16 → get_or e.vectors k none ≡ last_of e.vectors
+  all_last k none below = ap (λ (vs : List Vector). get_or vs k none) (one whole) ∙ get_or-replicate 16 k (last_of e.vectors) none below
 
-pub chroma_one : (version : ℕ) (e : MacroblockMotion) (k : ℕ) → AreOne e.mode e.vectors → is_split e.mode ≡ false → k < 4 → chroma_moved version e k ≡ chroma_moved version e 0
-unfolding chroma_moved
-chroma_one version e k one whole below =
-    let v : Vector = last_of e.vectors in
-    let at : (j : ℕ) → j < 16 → get_or e.vectors j zero_vector ≡ v = λ j jin. ap (λ (vs : List Vector). get_or vs j zero_vector) (one whole) ∙ get_or-replicate 16 j v zero_vector jin in
-    let four : (j : ℕ) → j ≤ 10 → four_from e.vectors j ≡ v ∷ v ∷ v ∷ v ∷ [] = λ j jin.
-    let a = at (j + 0) (omega arith) in
-    let b = at (j + 1) (omega arith) in
-    let c = at (j + 4) (omega arith) in
-    let d = at (j + 5) (omega arith) in
-    cc in
-    ap (λ (vs : List Vector). chroma_vector version (map (λ w. w.row) vs) (map (λ w. w.column) vs)) (four (8 * (k / 2) + 2 * (k % 2)) (omega arith) ∙ sym (four 0 (omega arith)))
+  four_last : (k : ℕ) → k ≤ 10 → let v : Vector = last_of e.vectors in four_from e.vectors k ≡ v ∷ v ∷ v ∷ v ∷ []
+  four_last k below =
+      cc (all_last (k + 0) zero_vector (omega arith), all_last (k + 1) zero_vector (omega arith), all_last (k + 4) zero_vector (omega arith), all_last (k + 5) zero_vector (omega arith))
+
+  pub luma_one : (k : ℕ) → k < 16 → luma_moved e k ≡ luma_moved e 0
+  unfolding luma_moved
+  luma_one k below = ap (λ (w : Vector). luma_vector w.row w.column) (all_last k zero_vector below ∙ sym (all_last 0 zero_vector (omega arith)))
+
+  pub chroma_one : (version k : ℕ) → k < 4 → chroma_moved version e k ≡ chroma_moved version e 0
+  unfolding chroma_moved
+  chroma_one version k below =
+      ap (λ (vs : List Vector). chroma_vector version (map (λ w. w.row) vs) (map (λ w. w.column) vs)) (four_last (8 * (k / 2) + 2 * (k % 2)) (omega arith) ∙ sym (four_last 0 (omega arith)))
 
 -- the mean of four equal numbers
 mean_of_equal : (r : ℤ) → mean_of_four ((r +ℤ r) +ℤ (r +ℤ r)) ≡ r
@@ -133,17 +134,9 @@ pub chroma_whole : (version : ℕ) (e : MacroblockMotion) (v none : Vector) → 
     → let p : PlaneVector = record { row = v.row; column = v.column } in p ≡ chroma_moved version e 0
 unfolding chroma_moved chroma_vector
 chroma_whole version e v none one whole other first =
-    let last : Vector = last_of e.vectors in
-    let at : (j : ℕ) (d : Vector) → j < 16 → get_or e.vectors j d ≡ last = λ j d jin. ap (λ (vs : List Vector). get_or vs j d) (one whole) ∙ get_or-replicate 16 j last d jin in
-    let same : last ≡ v = sym (at 0 none (omega arith)) ∙ first in
-    let a = at 0 zero_vector (omega arith) ∙ same in
-    let b = at 1 zero_vector (omega arith) ∙ same in
-    let c = at 4 zero_vector (omega arith) ∙ same in
-    let d = at 5 zero_vector (omega arith) ∙ same in
-    let four : four_from e.vectors 0 ≡ v ∷ v ∷ v ∷ v ∷ [] = cc in
-    let row : v.row ≡ chroma_eighths version (v.row ∷ v.row ∷ v.row ∷ v.row ∷ []) = sym (eighths_of_equal version v.row other) in
-    let column : v.column ≡ chroma_eighths version (v.column ∷ v.column ∷ v.column ∷ v.column ∷ []) = sym (eighths_of_equal version v.column other) in
+    let same : v ≡ last_of e.vectors = sym first ∙ all_last e one whole 0 none (omega arith) in
     let made : ℤ → ℤ → PlaneVector = λ y x. record { row = y; column = x } in
-    ap (λ (y : ℤ). made y v.column) row
-    ∙ ap (λ (x : ℤ). made (chroma_eighths version (v.row ∷ v.row ∷ v.row ∷ v.row ∷ [])) x) column
-    ∙ ap (λ (vs : List Vector). chroma_vector version (map (λ w. w.row) vs) (map (λ w. w.column) vs)) (sym four)
+    ap (λ (y : ℤ). made y v.column) (sym (eighths_of_equal version v.row other))
+    ∙ ap (λ (x : ℤ). made (chroma_eighths version (v.row ∷ v.row ∷ v.row ∷ v.row ∷ [])) x) (sym (eighths_of_equal version v.column other))
+    ∙ ap (λ (w : Vector). chroma_vector version (map (λ u. u.row) (w ∷ w ∷ w ∷ w ∷ [])) (map (λ u. u.column) (w ∷ w ∷ w ∷ w ∷ []))) same
+    ∙ ap (λ (vs : List Vector). chroma_vector version (map (λ w. w.row) vs) (map (λ w. w.column) vs)) (sym (four_last e one whole 0 (omega arith)))

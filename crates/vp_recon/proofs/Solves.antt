@@ -1,212 +1,186 @@
--- The picture whose macroblocks are rebuilt one after another solves the equation.
-use Rattle.std.proofs.Common.{◌≡◌, ◌∙◌, ℕ, zero, suc, Bool, true, cond, ◌+◌, ◌-◌, ◌*◌, ◌/◌, ◌%◌, ◌<◌, ◌≤◌, sym, refl, ap, subst, arith, inl, inr}
-use Rattle.std.proofs.lemmas.Bool.{cases_Bool}
-use Rattle.std.proofs.lemmas.Nat.{row_fits}
+-- The equation of the unfiltered picture: what is rebuilt solves it, and nothing else does.
+use Rattle.std.proofs.Common.{◌≡◌, ◌∙◌, ℕ, suc, Bool, true, false, cond, ◌+◌, ◌-◌, ◌*◌, ◌/◌, ◌%◌, ◌<◌, ◌≤◌, sym, refl, ap, subst, arith, inl, inr}
+use Rattle.std.proofs.lemmas.Bool.{cases_Bool, cases_lt}
+use Rattle.std.proofs.lemmas.Nat.{row_fits, same_from_place, div-add-mod', div_below, mod_below}
+use Rattle.std.proofs.Math.Nat.{mul_comm}
 use Rattle.vp_base.specs.declared.place.Place.{Place}
 use Rattle.vp_base.specs.Raster.{Raster, pixel}
-use Rattle.vp_base.specs.Block.{with_block, is_in_block, IsWhole}
-use Rattle.vp_base.specs.Image.{Image, IsAligned, AreWhole, macroblocks}
+use Rattle.vp_base.specs.Block.{IsWhole}
+use Rattle.vp_base.specs.Image.{Image, IsAligned, IsCovering, AreWhole, macroblocks}
 use Rattle.vp_base.specs.Rows.{AreOneSize}
 use Rattle.vp_base.specs.Over.{over}
-use Rattle.vp_base.proofs.BlockLemmas.{pixel-with_block, IsWhole-with_block}
-use Rattle.vp_base.proofs.OverLemmas.{over-more, over-holds, over-split}
+use Rattle.vp_base.proofs.BlockLemmas.{IsWhole-with_block}
+use Rattle.vp_base.proofs.OverLemmas.{over-holds}
 use Rattle.vp_recon.specs.Predictor.{Macroblock, has_sub_modes}
 use Rattle.vp_recon.specs.Rebuilt.{luma_made, chroma_made, sub_step, luma_rebuilt, chroma_rebuilt, rebuilt, row_rebuilt, all_rebuilt}
 use Rattle.vp_recon.specs.Equation.{IsUnfiltered}
-use Rattle.vp_recon.proofs.Parts.{is_in, in_it}
-use Rattle.vp_recon.proofs.LumaLemmas.{luma_at_once, luma_by_subs, wide_subs, high_subs}
-use Rattle.vp_recon.proofs.Walk.{Lies, over_stays, settledBeside, earlierHigher, earlierBeside, walk, row_walk, before, after, stood, wide_before, high_before, wide_walk, high_walk}
-use Rattle.vp_recon.proofs.SubAlike.{Ready, readyHigher, readyBeside, readyOwn}
-use Rattle.vp_recon.proofs.MadeAlike.{RoundIt, chroma_made_alike, whole_made_alike, sub_made_alike}
-
-over_look : {A B : Type 0} (look : A → B) (n : ℕ) (f : ℕ → A → A) (g : ℕ → B → B) (a : A) → ((k : ℕ) (b : A) → look (f k b) ≡ g k (look b))
-    → look (over n f a) ≡ over n g (look a)
-unfolding over
-over_look look zero f g a same = refl
-over_look look (suc n) f g a same = same n (over n f a) ∙ ap (g n) (over_look look n f g a same)
-
-pixel_inside : (p : Raster) (x y n : ℕ) (f : ℕ → ℕ → ℕ) (r c : ℕ) → x + n ≤ p.width → y + n ≤ p.height → r < n → c < n
-    → pixel (with_block p x y n n f) (x + c) (y + r) ≡ f r c
-pixel_inside p x y n f r c xfits yfits rin cin =
-    pixel-with_block p x y n n f (x + c) (y + r) (omega arith) (omega arith)
-    ∙ ap (λ (t : Bool). cond t (f (y + r - y) (x + c - x)) (pixel p (x + c) (y + r))) (in_it x y n n (x + c) (y + r) (omega arith) (omega arith) (omega arith) (omega arith))
-    ∙ ap (λ (k : ℕ). f k (x + c - x)) (let e : y + r - y ≡ r = omega arith in e)
-    ∙ ap (f r) (let e : x + c - x ≡ c = omega arith in e)
-
-pub pixel_outside : (p : Raster) (x y n : ℕ) (f : ℕ → ℕ → ℕ) (u v : ℕ) → u < p.width → v < p.height → (Lies x y n u v → ⊥)
-    → pixel (with_block p x y n n f) u v ≡ pixel p u v
-pixel_outside p x y n f u v uin vin apart = elim (cases_Bool (is_in_block x y n n u v)) [
-  | inl within ↦
-      let at = is_in x y n n u v within in
-      absurd (apart (record { left = at.0; right = at.1; top = at.2; bottom = at.3 }))
-  | inr past ↦ pixel-with_block p x y n n f u v uin vin ∙ ap (λ (t : Bool). cond t (f (v - y) (u - x)) (pixel p u v)) past
-]
-
--- a block of s by s that is made at once, from what stands above it and to its left
-module _ (s cols rows : ℕ) (step : ℕ → ℕ → Raster → Raster)
-    (wide : (x y : ℕ) (q : Raster) → (step x y q).width ≡ q.width) (high : (x y : ℕ) (q : Raster) → (step x y q).height ≡ q.height)
-    (outside : (x y : ℕ) (q : Raster) (u v : ℕ) → u < q.width → v < q.height → (Lies (x * s) (y * s) s u v → ⊥) → pixel (step x y q) u v ≡ pixel q u v)
-    (p : Raster) (wide_is : p.width ≡ cols * s) (high_is : p.height ≡ rows * s)
-    (x y left top : ℕ) (xin : x < cols) (yin : y < rows) (left_is : left ≡ x * s) (top_is : top ≡ y * s)
-    (made : Raster → ℕ → ℕ → ℕ) (is : (q : Raster) → step x y q ≡ with_block q left top s s (made q))
-    (alike : (q b : Raster) → left + s ≤ q.width → top + s ≤ q.height → RoundIt q b left top s → (r c : ℕ) → r < s → c < s → made q r c ≡ made b r c) where
-  at_once : (r c : ℕ) → r < s → c < s → pixel (walk cols rows step p) (left + c) (top + r) ≡ made (walk cols rows step p) r c
-  at_once r c rin cin =
-      let b : Raster = before cols step x y p in
-      let w : Raster = walk cols rows step p in
-      let bw : b.width ≡ p.width = wide_before s cols rows step wide high outside x y p in
-      let bh : b.height ≡ p.height = high_before s cols rows step wide high outside x y p in
-      let ww : w.width ≡ p.width = wide_walk s cols rows step wide high outside p in
-      let wh : w.height ≡ p.height = high_walk s cols rows step wide high outside p in
-      let across : x * s + s ≤ cols * s = row_fits x s cols s xin (omega arith) in
-      let down : y * s + s ≤ rows * s = row_fits y s rows s yin (omega arith) in
-      after s cols rows step wide high outside x y p (left + c) (top + r) xin yin (omega arith) (omega arith) (settledBeside (omega arith) (omega arith))
-      ∙ ap (λ (q : Raster). pixel q (left + c) (top + r)) (is b)
-      ∙ pixel_inside b left top s (made b) r c (omega arith) (omega arith) rin cin
-      ∙ sym (alike w b (omega arith) (omega arith) (record {
-        above = λ u v uin vin. stood s cols rows step wide high outside x y p u v xin yin (omega arith) (omega arith) (earlierHigher (omega arith));
-        beside = λ u v uin low vin. stood s cols rows step wide high outside x y p u v xin yin (omega arith) (omega arith) (earlierBeside (omega arith) (omega arith));
-      }) r c rin cin)
+use Rattle.vp_recon.proofs.LumaLemmas.{luma_at_once, luma_by_subs}
+use Rattle.vp_recon.proofs.Alike.{stage, luma_made_alike, chroma_made_alike}
+use Rattle.vp_recon.proofs.Turns.{over-grows, grid-grows, MadeTo, ByTurns, block_made, one_plane}
 
 abbrev at : ℕ → ℕ → Place
 at x y = record { column = x; row = y }
 
--- ---- colour
+-- what the macroblock of each place makes of it; the turns of luma are by subblocks
+abbrev luma_at : (Place → Macroblock) → Raster → ℕ → ℕ → ℕ
+luma_at f p u v = luma_made (f (at (u / 16) (v / 16))) (at (u / 16) (v / 16)) p (v % 16) (u % 16)
 
-pub chroma_outside : (m : Macroblock) (k : ℕ) (place : Place) (p : Raster) (u v : ℕ) → u < p.width → v < p.height → (Lies (place.column * 8) (place.row * 8) 8 u v → ⊥)
-    → pixel (chroma_rebuilt m k place p) u v ≡ pixel p u v
-chroma_outside m k place p u v uin vin apart =
-    pixel_outside p (8 * place.column) (8 * place.row) 8 (chroma_made m k place p) u v uin vin
-    (λ l. apart (record { left = omega arith; right = omega arith; top = omega arith; bottom = omega arith }))
+abbrev luma_turn : (Place → Macroblock) → ℕ → ℕ → ℕ → ℕ
+luma_turn f cols u v = 16 * (v / 16 * cols + u / 16) + stage (f (at (u / 16) (v / 16))).source (v % 16) (u % 16)
 
-abbrev chroma_step : (Place → Macroblock) → ℕ → ℕ → ℕ → Raster → Raster
-chroma_step f k x y = chroma_rebuilt (f (at x y)) k (at x y)
+abbrev chroma_at : (Place → Macroblock) → ℕ → Raster → ℕ → ℕ → ℕ
+chroma_at f k p u v = chroma_made (f (at (u / 8) (v / 8))) k (at (u / 8) (v / 8)) p (v % 8) (u % 8)
 
-chroma_law : (f : Place → Macroblock) (k cols rows : ℕ) (p : Raster) → p.width ≡ 8 * cols → p.height ≡ 8 * rows
-    → (x y r c : ℕ) → x < cols → y < rows → r < 8 → c < 8
-    → pixel (walk cols rows (chroma_step f k) p) (8 * x + c) (8 * y + r) ≡ chroma_made (f (at x y)) k (at x y) (walk cols rows (chroma_step f k) p) r c
-chroma_law f k cols rows p wide_is high_is x y r c xin yin rin cin =
-    at_once 8 cols rows (chroma_step f k) (λ _ _ _. refl) (λ _ _ _. refl) (λ i j. chroma_outside (f (at i j)) k (at i j)) p (omega arith) (omega arith)
-    x y (8 * x) (8 * y) xin yin (omega arith) (omega arith) (chroma_made (f (at x y)) k (at x y)) (λ q. refl) (λ q b. chroma_made_alike (at x y) q b (f (at x y)) k) r c rin cin
+abbrev chroma_turn : ℕ → ℕ → ℕ → ℕ
+chroma_turn cols u v = v / 8 * cols + u / 8
 
--- ---- luma
+stage_low : (b : Bool) (n : ℕ) → cond b n 0 ≤ n
+stage_low true n = omega arith
+stage_low false n = omega arith
 
-module _ (m : Macroblock) (place : Place) (p : Raster) where
-  -- a place outside of the subblocks before number k
-  subs_first : (k u v : ℕ) → u < p.width → v < p.height
-      → ((j : ℕ) → j < k → Lies (16 * place.column + 4 * (j % 4)) (16 * place.row + 4 * (j / 4)) 4 u v → ⊥)
-      → pixel (over k (sub_step m place) p) u v ≡ pixel p u v
-  subs_first k u v uin vin apart =
-      over_stays k (sub_step m place) p u v (λ j b. refl) (λ j b. refl)
-      (λ j below b bw bh. pixel_outside b (16 * place.column + 4 * (j % 4)) (16 * place.row + 4 * (j / 4)) 4
-      (λ r c. luma_made m place b (4 * (j / 4) + r) (4 * (j % 4) + c)) u v (omega arith) (omega arith) (apart j below))
+module _ (f : Place → Macroblock) (cols rows : ℕ) where
+  -- ---- colour
 
-  -- the later ones leave a place alone
-  subs_stay : (k d u v : ℕ) → k + d ≡ 16 → u < p.width → v < p.height
-      → ((j : ℕ) → k ≤ j → j < 16 → Lies (16 * place.column + 4 * (j % 4)) (16 * place.row + 4 * (j / 4)) 4 u v → ⊥)
-      → pixel (over 16 (sub_step m place) p) u v ≡ pixel (over k (sub_step m place) p) u v
-  subs_stay k d u v all uin vin apart =
-      let s : Raster = over k (sub_step m place) p in
-      let sw : s.width ≡ p.width = wide_subs m place p k in
-      let sh : s.height ≡ p.height = high_subs m place p k in
-      ap (λ (n : ℕ). pixel (over n (sub_step m place) p) u v) (sym all)
-      ∙ ap (λ (q : Raster). pixel q u v) (over-split k d (sub_step m place) p)
-      ∙ over_stays d (λ j. sub_step m place (k + j)) s u v (λ j b. refl) (λ j b. refl)
-      (λ j below b bw bh. pixel_outside b (16 * place.column + 4 * ((k + j) % 4)) (16 * place.row + 4 * ((k + j) / 4)) 4
-      (λ r c. luma_made m place b (4 * ((k + j) / 4) + r) (4 * ((k + j) % 4) + c)) u v (omega arith) (omega arith) (apart (k + j) (omega arith) (omega arith)))
+  chroma_by_turns : (k : ℕ) → ByTurns (8 * cols) (8 * rows) (chroma_turn cols) (chroma_at f k)
+  chroma_by_turns k p q u v pw ph qw uin vin same =
+      chroma_made_alike (at (u / 8) (v / 8)) p q (f (at (u / 8) (v / 8))) k (v % 8) (u % 8) (omega arith) (omega arith)
+      (λ i j iin jin low high right left. same i j (omega arith) (omega arith) (elim (cases_lt j (8 * (v / 8))) [
+        | inl above ↦ let room : j / 8 * cols + cols ≤ v / 8 * cols = row_fits (j / 8) cols (v / 8) cols (omega arith) (omega arith) in omega arith
+        | inr level ↦
+            let row : j / 8 ≡ v / 8 = omega arith in
+            let across : j / 8 * cols ≡ v / 8 * cols = ap (λ (n : ℕ). n * cols) row in
+            omega arith
+      ])) (omega arith) (omega arith)
 
-  pub luma_outside : (u v : ℕ) → u < p.width → v < p.height → (Lies (place.column * 16) (place.row * 16) 16 u v → ⊥)
-      → pixel (luma_rebuilt m place p) u v ≡ pixel p u v
-  luma_outside u v uin vin apart = elim (cases_Bool (has_sub_modes m.source)) [
-    | inl subs ↦
-        ap (λ (s : Raster). pixel s u v) (sym (luma_by_subs m place p subs))
-        ∙ subs_first 16 u v uin vin (λ j below l. apart (record { left = omega arith; right = omega arith; top = omega arith; bottom = omega arith }))
-    | inr whole ↦
-        ap (λ (s : Raster). pixel s u v) (sym (luma_at_once m place p whole))
-        ∙ pixel_outside p (16 * place.column) (16 * place.row) 16 (luma_made m place p) u v uin vin
-        (λ l. apart (record { left = omega arith; right = omega arith; top = omega arith; bottom = omega arith }))
-  ]
+  chroma_step : (k x y : ℕ) → x < cols → (p : Raster) → MadeTo (8 * cols) (8 * rows) (chroma_turn cols) (chroma_at f k) (y * cols + x) p
+      → MadeTo (8 * cols) (8 * rows) (chroma_turn cols) (chroma_at f k) (y * cols + x + 1) (chroma_rebuilt (f (at x y)) k (at x y) p)
+  chroma_step k x y xin p so_far =
+      block_made (8 * cols) (8 * rows) (chroma_turn cols) (chroma_at f k) (chroma_by_turns k) (y * cols + x) (y * cols + x + 1) (8 * x) (8 * y) 8
+      (chroma_made (f (at x y)) k (at x y) p) p so_far
+      (λ u v l.
+      let row : v / 8 ≡ y = omega arith in
+      let column : u / 8 ≡ x = omega arith in
+      cc)
+      (λ u v uin vin low high.
+      let place = same_from_place (v / 8) (u / 8) y x cols (omega arith) xin (omega arith) in
+      record { left = omega (arith, place); right = omega (arith, place); top = omega (arith, place); bottom = omega (arith, place) })
+      (λ u v l.
+      let row : v / 8 ≡ y = omega arith in
+      let column : u / 8 ≡ x = omega arith in
+      let r : v - 8 * y ≡ v % 8 = omega arith in
+      let c : u - 8 * x ≡ u % 8 = omega arith in
+      cc)
 
-abbrev luma_step : (Place → Macroblock) → ℕ → ℕ → Raster → Raster
-luma_step f x y = luma_rebuilt (f (at x y)) (at x y)
+  -- ---- luma
 
-module _ (f : Place → Macroblock) (cols rows : ℕ) (p : Raster) (wide_is : p.width ≡ 16 * cols) (high_is : p.height ≡ 16 * rows) (x y : ℕ) (xin : x < cols) (yin : y < rows) where
-  outside_step : (i j : ℕ) (q : Raster) (u v : ℕ) → u < q.width → v < q.height → (Lies (i * 16) (j * 16) 16 u v → ⊥) → pixel (luma_step f i j q) u v ≡ pixel q u v
-  outside_step i j = luma_outside (f (at i j)) (at i j)
+  luma_by_turns : ByTurns (16 * cols) (16 * rows) (luma_turn f cols) (luma_at f)
+  luma_by_turns p q u v pw ph qw uin vin same =
+      luma_made_alike (at (u / 16) (v / 16)) p q (f (at (u / 16) (v / 16))) (v % 16) (u % 16) (omega arith) (omega arith) (pw ∙ sym qw)
+      (λ i j iin jin ready.
+      let low : luma_turn f cols i j ≤ 16 * (j / 16 * cols + i / 16) + (4 * (j % 16 / 4) + i % 16 / 4) =
+      let s = stage_low (has_sub_modes (f (at (i / 16) (j / 16))).source) (4 * (j % 16 / 4) + i % 16 / 4) in omega arith in
+      same i j (omega arith) (omega arith) (elim (cases_lt j (16 * (v / 16))) [
+        | inl above ↦ let room : j / 16 * cols + cols ≤ v / 16 * cols = row_fits (j / 16) cols (v / 16) cols (omega arith) (omega arith) in omega arith
+        | inr level ↦
+            let row : j / 16 ≡ v / 16 = omega arith in
+            let across : j / 16 * cols ≡ v / 16 * cols = ap (λ (n : ℕ). n * cols) row in
+            elim (cases_lt i (16 * (u / 16))) [ inl left ↦ omega arith | inr own ↦ let earlier = ready.own (omega arith) own in omega arith ]
+      ])) (omega arith) (omega arith)
 
-  -- what stands once k subblocks do
-  luma_ready : (k u v : ℕ) → has_sub_modes (f (at x y)).source ≡ true → k < 16 → u < p.width → v < p.height → Ready x y k u v
-      → pixel (walk cols rows (luma_step f) p) u v ≡ pixel (over k (sub_step (f (at x y)) (at x y)) (before cols (luma_step f) x y p)) u v
-  luma_ready k u v subs kin uin vin ready =
-      let b : Raster = before cols (luma_step f) x y p in
-      let bw : b.width ≡ p.width = wide_before 16 cols rows (luma_step f) (λ _ _ _. refl) (λ _ _ _. refl) outside_step x y p in
-      let bh : b.height ≡ p.height = high_before 16 cols rows (luma_step f) (λ _ _ _. refl) (λ _ _ _. refl) outside_step x y p in
-      elim ready [
-        | readyHigher h ↦
-            stood 16 cols rows (luma_step f) (λ _ _ _. refl) (λ _ _ _. refl) outside_step x y p u v xin yin uin vin (earlierHigher (omega arith))
-            ∙ sym (subs_first (f (at x y)) (at x y) b k u v (omega arith) (omega arith) (λ j below l. absurd (omega arith)))
-        | readyBeside g h i ↦
-            stood 16 cols rows (luma_step f) (λ _ _ _. refl) (λ _ _ _. refl) outside_step x y p u v xin yin uin vin (earlierBeside (omega arith) (omega arith))
-            ∙ sym (subs_first (f (at x y)) (at x y) b k u v (omega arith) (omega arith) (λ j below l. absurd (omega arith)))
-        | readyOwn a e g h i ↦
-            after 16 cols rows (luma_step f) (λ _ _ _. refl) (λ _ _ _. refl) outside_step x y p u v xin yin uin vin (settledBeside (omega arith) (omega arith))
-            ∙ ap (λ (s : Raster). pixel s u v) (sym (luma_by_subs (f (at x y)) (at x y) b subs))
-            ∙ subs_stay (f (at x y)) (at x y) b k (16 - k) u v (omega arith) (omega arith) (omega arith) (λ j low high l. absurd (omega arith))
-      ]
+  module _ (x y : ℕ) (xin : x < cols) where
+    -- a place of this macroblock
+    turn_in : (u v : ℕ) → u / 16 ≡ x → v / 16 ≡ y → luma_turn f cols u v ≡ 16 * (y * cols + x) + stage (f (at x y)).source (v % 16) (u % 16)
+    turn_in u v column row = cc
 
-  -- a macroblock that is predicted by its subblocks
-  luma_sub : has_sub_modes (f (at x y)).source ≡ true → (r c : ℕ) → r < 16 → c < 16
-      → pixel (walk cols rows (luma_step f) p) (16 * x + c) (16 * y + r) ≡ luma_made (f (at x y)) (at x y) (walk cols rows (luma_step f) p) r c
-  luma_sub subs r c rin cin =
-      let m : Macroblock = f (at x y) in
-      let b : Raster = before cols (luma_step f) x y p in
-      let w : Raster = walk cols rows (luma_step f) p in
-      let k : ℕ = 4 * (r / 4) + c / 4 in
-      let s : Raster = over (4 * (r / 4) + c / 4) (sub_step (f (at x y)) (at x y)) b in
-      let bw : b.width ≡ p.width = wide_before 16 cols rows (luma_step f) (λ _ _ _. refl) (λ _ _ _. refl) outside_step x y p in
-      let bh : b.height ≡ p.height = high_before 16 cols rows (luma_step f) (λ _ _ _. refl) (λ _ _ _. refl) outside_step x y p in
-      let ww : w.width ≡ p.width = wide_walk 16 cols rows (luma_step f) (λ _ _ _. refl) (λ _ _ _. refl) outside_step p in
-      let wh : w.height ≡ p.height = high_walk 16 cols rows (luma_step f) (λ _ _ _. refl) (λ _ _ _. refl) outside_step p in
-      let sw : s.width ≡ b.width = wide_subs m (at x y) b (4 * (r / 4) + c / 4) in
-      let sh : s.height ≡ b.height = high_subs m (at x y) b (4 * (r / 4) + c / 4) in
-      let left : 16 * x + c ≡ 16 * x + 4 * (k % 4) + c % 4 = omega arith in
-      let top : 16 * y + r ≡ 16 * y + 4 * (k / 4) + r % 4 = omega arith in
-      let row : 4 * (k / 4) + r % 4 ≡ r = omega arith in
-      let column : 4 * (k % 4) + c % 4 ≡ c = omega arith in
-      after 16 cols rows (luma_step f) (λ _ _ _. refl) (λ _ _ _. refl) outside_step x y p (16 * x + c) (16 * y + r) xin yin (omega arith) (omega arith) (settledBeside (omega arith) (omega arith))
-      ∙ ap (λ (q : Raster). pixel q (16 * x + c) (16 * y + r)) (sym (luma_by_subs m (at x y) b subs))
-      ∙ subs_stay m (at x y) b (k + 1) (16 - (k + 1)) (16 * x + c) (16 * y + r) (omega arith) (omega arith) (omega arith) (λ j low high l. absurd (omega arith))
-      ∙ ap (λ (q : Raster). pixel q (16 * x + c) (16 * y + r)) (over-more k (sub_step m (at x y)) b)
-      ∙ ap (λ (n : ℕ). pixel (sub_step m (at x y) k s) n (16 * y + r)) left
-      ∙ ap (pixel (sub_step m (at x y) k s) (16 * x + 4 * (k % 4) + c % 4)) top
-      ∙ pixel_inside s (16 * x + 4 * (k % 4)) (16 * y + 4 * (k / 4)) 4 (λ i j. luma_made m (at x y) s (4 * (k / 4) + i) (4 * (k % 4) + j)) (r % 4) (c % 4)
-      (omega arith) (omega arith) (omega arith) (omega arith)
-      ∙ ap (λ (i : ℕ). luma_made m (at x y) s i (4 * (k % 4) + c % 4)) row
-      ∙ ap (luma_made m (at x y) s r) column
-      ∙ sym (sub_made_alike (at x y) w s m k r c subs (omega arith) (omega arith) (omega arith)
-      (λ u v uin vin ready. luma_ready k u v subs (omega arith) (omega arith) (omega arith) ready) refl rin cin)
+    value_in : (p : Raster) (u v r c : ℕ) → u / 16 ≡ x → v / 16 ≡ y → v % 16 ≡ r → u % 16 ≡ c → luma_made (f (at x y)) (at x y) p r c ≡ luma_at f p u v
+    value_in p u v r c column row re ce = cc
 
-  luma_law : (r c : ℕ) → r < 16 → c < 16
-      → pixel (walk cols rows (luma_step f) p) (16 * x + c) (16 * y + r) ≡ luma_made (f (at x y)) (at x y) (walk cols rows (luma_step f) p) r c
-  luma_law r c rin cin = elim (cases_Bool (has_sub_modes (f (at x y)).source)) [
-    | inl subs ↦ luma_sub subs r c rin cin
-    | inr whole ↦
-        at_once 16 cols rows (luma_step f) (λ _ _ _. refl) (λ _ _ _. refl) outside_step p (omega arith) (omega arith)
-        x y (16 * x) (16 * y) xin yin (omega arith) (omega arith) (luma_made (f (at x y)) (at x y))
-        (λ q. sym (luma_at_once (f (at x y)) (at x y) q whole)) (λ q b. whole_made_alike (at x y) q b (f (at x y)) whole) r c rin cin
-  ]
+    -- only its places have its turns
+    place_of : (u v n : ℕ) → u < 16 * cols → n < 16 → luma_turn f cols u v ≡ 16 * (y * cols + x) + n → (v / 16 ≡ y) × (u / 16 ≡ x)
+    place_of u v n uin few turn =
+        let s = stage_low (has_sub_modes (f (at (u / 16) (v / 16))).source) (4 * (v % 16 / 4) + u % 16 / 4) in
+        same_from_place (v / 16) (u / 16) y x cols (omega arith) xin (omega arith)
 
--- ---- the picture
+    abbrev Made : ℕ → Raster → Type 0
+    Made = MadeTo (16 * cols) (16 * rows) (luma_turn f cols) (luma_at f)
 
--- one plane of the picture is built by itself
-part : (plane : Image → Raster) (step : ℕ → ℕ → Raster → Raster) (f : Place → Macroblock) (p : Image)
-    → ((x y : ℕ) (q : Image) → plane (rebuilt (f (at x y)) (at x y) q) ≡ step x y (plane q))
-    → plane (all_rebuilt f p) ≡ walk (macroblocks p.width) (macroblocks p.height) step (plane p)
-part plane step f p here =
-    over_look plane (macroblocks p.height) (row_rebuilt (macroblocks p.width) f) (row_walk (macroblocks p.width) step) p
-    (λ row b. over_look plane (macroblocks p.width) (λ column. rebuilt (f (at column row)) (at column row)) (λ column. step column row) b (λ column q. here column row q))
+    luma_sub : has_sub_modes (f (at x y)).source ≡ true → (k : ℕ) → k < 16 → (p : Raster) → Made (16 * (y * cols + x) + k) p
+        → Made (16 * (y * cols + x) + suc k) (sub_step (f (at x y)) (at x y) k p)
+    luma_sub subs k few p so_far =
+        let own : (r c : ℕ) → stage (f (at x y)).source r c ≡ 4 * (r / 4) + c / 4 = λ r c. ap (λ (b : Bool). cond b (4 * (r / 4) + c / 4) 0) subs in
+        block_made (16 * cols) (16 * rows) (luma_turn f cols) (luma_at f) luma_by_turns (16 * (y * cols + x) + k) (16 * (y * cols + x) + suc k)
+        (16 * x + 4 * (k % 4)) (16 * y + 4 * (k / 4)) 4 (λ r c. luma_made (f (at x y)) (at x y) p (4 * (k / 4) + r) (4 * (k % 4) + c)) p so_far
+        (λ u v l. turn_in u v (omega arith) (omega arith) ∙ (let s = own (v % 16) (u % 16) in omega arith))
+        (λ u v uin vin low high.
+        let turn : luma_turn f cols u v ≡ 16 * (y * cols + x) + k = omega arith in
+        let place = place_of u v k uin few turn in
+        let s = own (v % 16) (u % 16) in
+        let is = turn_in u v place.1 place.0 in
+        record { left = omega (arith, place); right = omega (arith, place); top = omega (arith, place); bottom = omega (arith, place) })
+        (λ u v l. value_in p u v (4 * (k / 4) + (v - (16 * y + 4 * (k / 4)))) (4 * (k % 4) + (u - (16 * x + 4 * (k % 4)))) (omega arith) (omega arith) (omega arith) (omega arith))
 
--- what each macroblock keeps
+    luma_step : (p : Raster) → Made (16 * (y * cols + x)) p → Made (16 * (y * cols + x + 1)) (luma_rebuilt (f (at x y)) (at x y) p)
+    luma_step p so_far = elim (cases_Bool (has_sub_modes (f (at x y)).source)) [
+      | inl subs ↦
+          subst (λ (q : Raster). Made (16 * (y * cols + x + 1)) q) (luma_by_subs (f (at x y)) (at x y) p subs)
+          (subst (λ (n : ℕ). Made n (over 16 (sub_step (f (at x y)) (at x y)) p)) (let e : 16 * (y * cols + x) + 16 ≡ 16 * (y * cols + x + 1) = omega arith in e)
+          (over-grows (λ k. Made (16 * (y * cols + x) + k)) 16 (sub_step (f (at x y)) (at x y)) p (luma_sub subs)
+          (subst (λ (n : ℕ). Made n p) (let e : 16 * (y * cols + x) ≡ 16 * (y * cols + x) + 0 = omega arith in e) so_far)))
+      | inr whole ↦
+          let none : (r c : ℕ) → stage (f (at x y)).source r c ≡ 0 = λ r c. ap (λ (b : Bool). cond b (4 * (r / 4) + c / 4) 0) whole in
+          subst (λ (q : Raster). Made (16 * (y * cols + x + 1)) q) (luma_at_once (f (at x y)) (at x y) p whole)
+          (block_made (16 * cols) (16 * rows) (luma_turn f cols) (luma_at f) luma_by_turns (16 * (y * cols + x)) (16 * (y * cols + x + 1))
+          (16 * x) (16 * y) 16 (luma_made (f (at x y)) (at x y) p) p so_far
+          (λ u v l. turn_in u v (omega arith) (omega arith) ∙ (let s = none (v % 16) (u % 16) in omega arith))
+          (λ u v uin vin low high.
+          let turn : luma_turn f cols u v ≡ 16 * (y * cols + x) + (luma_turn f cols u v - 16 * (y * cols + x)) = omega arith in
+          let place = place_of u v (luma_turn f cols u v - 16 * (y * cols + x)) uin (omega arith) turn in
+          record { left = omega (arith, place); right = omega (arith, place); top = omega (arith, place); bottom = omega (arith, place) })
+          (λ u v l. value_in p u v (v - 16 * y) (u - 16 * x) (omega arith) (omega arith) (omega arith) (omega arith)))
+    ]
+
+  -- ---- the picture
+
+  record Built (n : ℕ) (p : Image) : Type 0 where
+    luma : MadeTo (16 * cols) (16 * rows) (luma_turn f cols) (luma_at f) (16 * n) p.luma
+    u : MadeTo (8 * cols) (8 * rows) (chroma_turn cols) (chroma_at f 1) n p.u
+    v : MadeTo (8 * cols) (8 * rows) (chroma_turn cols) (chroma_at f 2) n p.v
+
+  all_built : (p : Image) → IsAligned p → cols ≡ macroblocks p.width → rows ≡ macroblocks p.height
+      → Built (rows * cols) (over rows (row_rebuilt cols f) p)
+  all_built p aligned across down =
+      grid-grows Built cols rows (λ x y. rebuilt (f (at x y)) (at x y)) p
+      (λ x y xin yin q b. record { luma = luma_step x y xin q.luma b.luma; u = chroma_step 1 x y xin q.u b.u; v = chroma_step 2 x y xin q.v b.v })
+      (record {
+        luma = record { wide = omega (arith, aligned); high = omega (arith, aligned); value = λ i j iin jin below. absurd (omega arith) };
+        u = record { wide = omega (arith, aligned); high = omega (arith, aligned); value = λ i j iin jin below. absurd (omega arith) };
+        v = record { wide = omega (arith, aligned); high = omega (arith, aligned); value = λ i j iin jin below. absurd (omega arith) };
+      })
+
+  -- by macroblocks and their rows and columns
+  luma_law : (p : Raster) → MadeTo (16 * cols) (16 * rows) (luma_turn f cols) (luma_at f) (16 * (rows * cols)) p
+      → (x y r c : ℕ) → x < cols → y < rows → r < 16 → c < 16 → pixel p (16 * x + c) (16 * y + r) ≡ luma_made (f (at x y)) (at x y) p r c
+  luma_law p made x y r c xin yin rin cin =
+      let room : y * cols + cols ≤ rows * cols = row_fits y cols rows cols yin (omega arith) in
+      let column : (16 * x + c) / 16 ≡ x = omega arith in
+      let row : (16 * y + r) / 16 ≡ y = omega arith in
+      let low = stage_low (has_sub_modes (f (at x y)).source) (4 * ((16 * y + r) % 16 / 4) + (16 * x + c) % 16 / 4) in
+      made.value (16 * x + c) (16 * y + r) (omega arith) (omega arith) (let e = turn_in x y xin (16 * x + c) (16 * y + r) column row in omega arith)
+      ∙ sym (value_in x y xin p (16 * x + c) (16 * y + r) r c column row (omega arith) (omega arith))
+
+  chroma_law : (k : ℕ) (p : Raster) → MadeTo (8 * cols) (8 * rows) (chroma_turn cols) (chroma_at f k) (rows * cols) p
+      → (x y r c : ℕ) → x < cols → y < rows → r < 8 → c < 8 → pixel p (8 * x + c) (8 * y + r) ≡ chroma_made (f (at x y)) k (at x y) p r c
+  chroma_law k p made x y r c xin yin rin cin =
+      let room : y * cols + cols ≤ rows * cols = row_fits y cols rows cols yin (omega arith) in
+      let column : (8 * x + c) / 8 ≡ x = omega arith in
+      let row : (8 * y + r) / 8 ≡ y = omega arith in
+      let across : (8 * y + r) / 8 * cols ≡ y * cols = ap (λ (n : ℕ). n * cols) row in
+      let re : (8 * y + r) % 8 ≡ r = omega arith in
+      let ce : (8 * x + c) % 8 ≡ c = omega arith in
+      made.value (8 * x + c) (8 * y + r) (omega arith) (omega arith) (omega arith) ∙ cc
+
+-- ---- what each macroblock keeps
+
 all_keep : (P : Image → Type 0) (f : Place → Macroblock) (p : Image) → ((m : Macroblock) (place : Place) (q : Image) → P q → P (rebuilt m place q)) → P p → P (all_rebuilt f p)
 all_keep P f p keeps =
     over-holds P (macroblocks p.height) (row_rebuilt (macroblocks p.width) f) p
@@ -237,28 +211,58 @@ still_aligned f p = all_keep IsAligned f p (λ m place q h. h)
 pub still_whole : (f : Place → Macroblock) (p : Image) → AreWhole p → AreWhole (all_rebuilt f p)
 still_whole f p = all_keep AreWhole f p whole_kept
 
+-- ---- the laws
+
 pub solves : (f : Place → Macroblock) (p : Image) → IsAligned p → IsUnfiltered f (all_rebuilt f p)
 solves f p aligned place xin yin =
-    let x : ℕ = place.column in
-    let y : ℕ = place.row in
     let cols : ℕ = macroblocks p.width in
     let rows : ℕ = macroblocks p.height in
     let xs : place.column < macroblocks p.width = let e : macroblocks (all_rebuilt f p).width ≡ macroblocks p.width = ap (λ (n : ℕ). macroblocks n) (one_size f p).width in omega arith in
     let ys : place.row < macroblocks p.height = let e : macroblocks (all_rebuilt f p).height ≡ macroblocks p.height = ap (λ (n : ℕ). macroblocks n) (one_size f p).height in omega arith in
-    let luma = part (λ i. i.luma) (luma_step f) f p (λ i j q. refl) in
-    let u = part (λ i. i.u) (chroma_step f 1) f p (λ i j q. refl) in
-    let v = part (λ i. i.v) (chroma_step f 2) f p (λ i j q. refl) in
+    let built = all_built f cols rows p aligned refl refl in
     record {
-      luma = λ r c rin cin.
-          ap (λ (q : Raster). pixel q (16 * x + c) (16 * y + r)) luma
-          ∙ luma_law f cols rows p.luma aligned.0.0 aligned.0.1 x y xs ys r c rin cin
-          ∙ ap (λ (q : Raster). luma_made (f place) place q r c) (sym luma);
-      u = λ r c rin cin.
-          ap (λ (q : Raster). pixel q (8 * x + c) (8 * y + r)) u
-          ∙ chroma_law f 1 cols rows p.u aligned.1.0 aligned.1.1 x y r c xs ys rin cin
-          ∙ ap (λ (q : Raster). chroma_made (f place) 1 place q r c) (sym u);
-      v = λ r c rin cin.
-          ap (λ (q : Raster). pixel q (8 * x + c) (8 * y + r)) v
-          ∙ chroma_law f 2 cols rows p.v aligned.2.0 aligned.2.1 x y r c xs ys rin cin
-          ∙ ap (λ (q : Raster). chroma_made (f place) 2 place q r c) (sym v);
+      luma = λ r c. luma_law f cols rows (all_rebuilt f p).luma built.luma place.column place.row r c xs ys;
+      u = λ r c. chroma_law f cols rows 1 (all_rebuilt f p).u built.u place.column place.row r c xs ys;
+      v = λ r c. chroma_law f cols rows 2 (all_rebuilt f p).v built.v place.column place.row r c xs ys;
     }
+
+-- a plane that solves it, by columns and rows of pixels
+module _ (s cols rows : ℕ) (p : Raster) (made : ℕ → ℕ → ℕ → ℕ → ℕ) (some : 0 < s)
+    (each : (x y r c : ℕ) → x < cols → y < rows → r < s → c < s → pixel p (s * x + c) (s * y + r) ≡ made x y r c) where
+  by_pixels : (u v : ℕ) → u < s * cols → v < s * rows → pixel p u v ≡ made (u / s) (v / s) (v % s) (u % s)
+  by_pixels u v uin vin =
+      let column : s * (u / s) + u % s ≡ u = let e = div-add-mod' u s in let t = mul_comm s (u / s) in omega arith in
+      let row : s * (v / s) + v % s ≡ v = let e = div-add-mod' v s in let t = mul_comm s (v / s) in omega arith in
+      let is = each (u / s) (v / s) (v % s) (u % s) (div_below u s cols some (let t = mul_comm s cols in omega arith))
+      (div_below v s rows some (let t = mul_comm s rows in omega arith)) (mod_below v s some) (mod_below u s some) in
+      cc
+
+abbrev image : ℕ → ℕ → Raster → Raster → Raster → Image
+image w h l u v = record { width = w; height = h; luma = l; u = u; v = v }
+
+-- two pictures of one size that both solve the equation of a frame are equal
+pub one : (f : Place → Macroblock) (p q : Image) → IsAligned p → IsAligned q → AreOneSize p q → AreWhole p → AreWhole q → IsUnfiltered f p → IsUnfiltered f q → p ≡ q
+one f p q pa qa size pw qw pe qe =
+    let cols : ℕ = macroblocks p.width in
+    let rows : ℕ = macroblocks p.height in
+    let cw : macroblocks q.width ≡ macroblocks p.width = ap (λ (n : ℕ). macroblocks n) (sym size.width) in
+    let ch : macroblocks q.height ≡ macroblocks p.height = ap (λ (n : ℕ). macroblocks n) (sym size.height) in
+    let luma : p.luma ≡ q.luma =
+    one_plane (16 * cols) (16 * rows) (luma_turn f cols) (luma_at f) (luma_by_turns f cols rows) p.luma q.luma pa.0.0 pa.0.1 (omega (arith, qa)) (omega (arith, qa))
+    (by_pixels 16 cols rows p.luma (λ x y r c. luma_made (f (at x y)) (at x y) p.luma r c) (omega arith) (λ x y r c xin yin rin cin. (pe (at x y) xin yin).luma r c rin cin))
+    (by_pixels 16 cols rows q.luma (λ x y r c. luma_made (f (at x y)) (at x y) q.luma r c) (omega arith) (λ x y r c xin yin rin cin. (qe (at x y) (omega arith) (omega arith)).luma r c rin cin)) pw.0 qw.0 in
+    let chroma : (k : ℕ) (a b : Raster) → IsCovering 8 p.width p.height a → IsCovering 8 p.width p.height b
+    → ((x y r c : ℕ) → x < cols → y < rows → r < 8 → c < 8 → pixel a (8 * x + c) (8 * y + r) ≡ chroma_made (f (at x y)) k (at x y) a r c)
+    → ((x y r c : ℕ) → x < cols → y < rows → r < 8 → c < 8 → pixel b (8 * x + c) (8 * y + r) ≡ chroma_made (f (at x y)) k (at x y) b r c)
+    → IsWhole a → IsWhole b → a ≡ b =
+    λ k a b ac bc ae be.
+    one_plane (8 * cols) (8 * rows) (chroma_turn cols) (chroma_at f k) (chroma_by_turns f cols rows k) a b ac.0 ac.1 bc.0 bc.1
+    (by_pixels 8 cols rows a (λ x y r c. chroma_made (f (at x y)) k (at x y) a r c) (omega arith) ae)
+    (by_pixels 8 cols rows b (λ x y r c. chroma_made (f (at x y)) k (at x y) b r c) (omega arith) be) in
+    let u : p.u ≡ q.u = chroma 1 p.u q.u pa.1 (omega (arith, qa), omega (arith, qa)) (λ x y r c xin yin. (pe (at x y) xin yin).u r c) (λ x y r c xin yin. (qe (at x y) (omega arith) (omega arith)).u r c) pw.1 qw.1 in
+    let v : p.v ≡ q.v = chroma 2 p.v q.v pa.2 (omega (arith, qa), omega (arith, qa)) (λ x y r c xin yin. (pe (at x y) xin yin).v r c) (λ x y r c xin yin. (qe (at x y) (omega arith) (omega arith)).v r c) pw.2 qw.2 in
+    ap (λ (n : ℕ). image n p.height p.luma p.u p.v) size.width
+    ∙ ap (λ (n : ℕ). image q.width n p.luma p.u p.v) size.height
+    ∙ ap (λ (r : Raster). image q.width q.height r p.u p.v) luma
+    ∙ ap (λ (r : Raster). image q.width q.height q.luma r p.v) u
+    ∙ ap (λ (r : Raster). image q.width q.height q.luma q.u r) v

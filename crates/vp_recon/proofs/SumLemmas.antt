@@ -1,5 +1,5 @@
--- What is kept of residues, and its sum with prediction.
-use Rattle.std.proofs.Common.{◌≡◌, ◌∙◌, ℕ, ◌+◌, ◌*◌, ◌<◌, ◌≤◌, ℤ, pos, negsuc, ◌+ℤ◌, ◌≤ℤ◌, min, List, [], ◌∷◌, map, zero, suc, unsigned_abs, get_or, to_z, of_z, w16, ◌^◌, replicate, refl, sym, ap, arith, inl, inr}
+-- Residues as rows of numbers that the code keeps in 16 bits, and their sums with pixels.
+use Rattle.std.proofs.Common.{◌≡◌, ◌∙◌, ℕ, ◌+◌, ◌*◌, ◌<◌, ◌≤◌, ℤ, pos, negsuc, ◌+ℤ◌, ◌≤ℤ◌, min, List, [], ◌∷◌, map, zero, suc, unsigned_abs, get_or, to_z, of_z, w16, ◌^◌, replicate, refl, sym, ap, arith, inl, inr, ◌-◌, ◌/◌, ◌%◌, subst}
 use Rattle.std.proofs.lemmas.Bool.{cases_lt}
 use Rattle.std.proofs.lemmas.Int.{ints, clamps, to_z-of_z}
 use Rattle.std.proofs.lemmas.List.{get_or-replicate}
@@ -10,7 +10,15 @@ use Rattle.vp_transform.proofs.Words.{coded, read}
 use Rattle.vp_transform.specs.Transform.{idct}
 use Rattle.vp_transform.specs.Short.{cut}
 use Rattle.vp_recon.specs.Rebuilt.{summed, clamp_to_pixel}
-use Rattle.vp_recon.specs.Sums.{HasEqualSums, IsNothing}
+use Rattle.vp_recon.specs.Sums.{HasEqualSums, IsNothing, row_lane, AreRows, AreLow}
+use Rattle.vp_lanes.specs.Lane.{lane}
+use Rattle.vp_transform.specs.Fits.{EachWithin}
+use Rattle.vp_transform.specs.Pair.{row_in}
+use Rattle.vp_transform.proofs.Bounds.{idct-within}
+use Rattle.vp_transform.proofs.Eights.{coded16, handed16, passed16}
+use Rattle.vp_transform.proofs.Vectors.{short16_fits, below_four}
+use Rattle.vp_recon.specs.declared.residues.Residues.{Residues}
+use Rattle.vp_recon.specs.Parts.{residue_in}
 
 pub summed-zero : (p : ℕ) → p ≤ 255 → summed p (pos 0) ≡ p
 unfolding summed
@@ -72,3 +80,132 @@ even_is dc z small value within =
       read z (fits-below z (omega (arith, within, same, small))),
       λ i below. ap (λ (y : ℤ). get_or (idct (y ∷ replicate 15 (pos 0))) i (pos 0)) (sym exact) ∙ ap (λ (ys : List ℤ). get_or ys i (pos 0)) value ∙ get_or-replicate 16 i z (pos 0) below,
     )
+
+pub low_handed : (n : ℕ) (xs : List ℤ) → AreLow n xs → AreLow n (handed16 xs)
+low_handed n xs low j h = subst (λ z. unsigned_abs z ≤ 8800) (sym (passed16 xs j 8800 (omega arith) (low j h))) (low j h)
+
+pub rows_handed : (n : ℕ) (a b c d : List ℤ) (own : ℕ → List ℤ) → AreRows n a b c d own → AreRows n (handed16 a) (handed16 b) (handed16 c) (handed16 d) own
+rows_handed n a b c d own rows =
+    let same : (r j : ℕ) → r < 4 → j < n → row_lane (handed16 a) (handed16 b) (handed16 c) (handed16 d) r j ≡ row_lane a b c d r j =
+    λ r j rin jin. below_four (λ i. row_lane (handed16 a) (handed16 b) (handed16 c) (handed16 d) i j ≡ row_lane a b c d i j)
+    (passed16 a j 8800 (omega arith) (rows.low 0 j (omega arith) jin)) (passed16 b j 8800 (omega arith) (rows.low 1 j (omega arith) jin))
+    (passed16 c j 8800 (omega arith) (rows.low 2 j (omega arith) jin)) (passed16 d j 8800 (omega arith) (rows.low 3 j (omega arith) jin)) r rin in
+    record {
+      low = λ r j rin jin. subst (λ z. unsigned_abs z ≤ 8800) (sym (same r j rin jin)) (rows.low r j rin jin);
+      sums = λ r j pixel rin jin byte. ap (summed pixel) (same r j rin jin) ∙ rows.sums r j pixel rin jin byte;
+    }
+
+pub own_same : (own : ℕ → List ℤ) (k l n m : ℕ) → k ≡ l → n ≡ m → get_or (own k) n (pos 0) ≡ get_or (own l) m (pos 0)
+own_same own k l n m e f = cc
+
+-- ---- residues of one number each
+even : (row : List ℤ) (r j : ℕ) → r < 4 → row_lane row row row row r j ≡ lane row j
+even row r j = below_four (λ i. row_lane row row row row i j ≡ lane row j) refl refl refl refl r
+
+module _ (n : ℕ) (row : List ℤ) (number : ℕ → ℤ) (few : n ≤ 16) (lanes : (i j : ℕ) → j < 4 → 4 * i + j < n → lane row (4 * i + j) ≡ number i) where
+  number_of : (j : ℕ) → j < n → lane row j ≡ number (j / 4)
+  number_of j jin = ap (λ (k : ℕ). lane row k) (let e : j ≡ 4 * (j / 4) + j % 4 = omega arith in e) ∙ lanes (j / 4) (j % 4) (omega arith) (omega arith)
+
+  pub even_rows : (own : ℕ → List ℤ) → ((i : ℕ) → 4 * i < n → unsigned_abs (number i) ≤ 255)
+      → ((i s pixel : ℕ) → 4 * i < n → s < 16 → pixel ≤ 255 → summed pixel (number i) ≡ summed pixel (get_or (own i) s (pos 0))) → AreRows n row row row row own
+  even_rows own small sums = record {
+    low = λ r j rin jin. subst (λ z. unsigned_abs z ≤ 8800) (sym (even row r j rin ∙ number_of j jin)) (let l = small (j / 4) (omega arith) in omega arith);
+    sums = λ r j pixel rin jin byte. ap (summed pixel) (even row r j rin ∙ number_of j jin) ∙ sums (j / 4) (4 * r + j % 4) pixel (omega arith) (omega arith) byte;
+  }
+
+pub by_two : (P : ℕ → Type 0) → P 0 → P 1 → (i : ℕ) → 4 * i < 8 → P i
+by_two P a b zero below = a
+by_two P a b (suc zero) below = b
+by_two P a b (suc (suc i)) below = absurd (omega arith)
+
+pub two_lanes : (row : List ℤ) (a b : ℤ) → ((j : ℕ) → j < 4 → lane row j ≡ a) → ((j : ℕ) → j < 4 → lane row (4 + j) ≡ b)
+    → (i j : ℕ) → j < 4 → 4 * i + j < 8 → lane row (4 * i + j) ≡ get_or (a ∷ b ∷ []) i (pos 0)
+two_lanes row a b ea eb i j jin below =
+    by_two (λ n. lane row (4 * n + j) ≡ get_or (a ∷ b ∷ []) n (pos 0)) (ap (lane row) (let e : 4 * 0 + j ≡ j = omega arith in e) ∙ ea j jin) (eb j jin) i (omega arith)
+
+-- two such rows side by side
+pub joined_rows : (left right row : List ℤ) (own next : ℕ → List ℤ) → ((j : ℕ) → j < 8 → lane row j ≡ lane left j) → ((j : ℕ) → j < 8 → lane row (8 + j) ≡ lane right j)
+    → ((i : ℕ) → next i ≡ own (2 + i)) → AreRows 8 left left left left own → AreRows 8 right right right right next → AreRows 16 row row row row own
+joined_rows left right row own next first second is rows_left rows_right =
+    let near : (r j : ℕ) → r < 4 → j < 8 → row_lane row row row row r j ≡ row_lane left left left left r j =
+    λ r j rin jin. even row r j rin ∙ first j jin ∙ sym (even left r j rin) in
+    let far : (r j : ℕ) → r < 4 → 8 ≤ j → j < 16 → row_lane row row row row r j ≡ row_lane right right right right r (j - 8) =
+    λ r j rin from jin. even row r j rin ∙ ap (lane row) (let e : j ≡ 8 + (j - 8) = omega arith in e) ∙ second (j - 8) (omega arith) ∙ sym (even right r (j - 8) rin) in
+    record {
+      low = λ r j rin jin. elim (cases_lt j 8) [
+        | inl l ↦ subst (λ z. unsigned_abs z ≤ 8800) (sym (near r j rin l)) (rows_left.low r j rin l)
+        | inr h ↦ subst (λ z. unsigned_abs z ≤ 8800) (sym (far r j rin h jin)) (rows_right.low r (j - 8) rin (omega arith))
+      ];
+      sums = λ r j pixel rin jin byte. elim (cases_lt j 8) [
+        | inl l ↦ ap (summed pixel) (near r j rin l) ∙ rows_left.sums r j pixel rin l byte
+        | inr h ↦
+            ap (summed pixel) (far r j rin h jin)
+            ∙ rows_right.sums r (j - 8) pixel rin (omega arith) byte
+            ∙ ap (λ (zs : List ℤ). summed pixel (get_or zs (4 * r + (j - 8) % 4) (pos 0))) (is ((j - 8) / 4))
+            ∙ ap (summed pixel) (own_same own (2 + (j - 8) / 4) (j / 4) (4 * r + (j - 8) % 4) (4 * r + j % 4) (omega arith) (omega arith))
+      ];
+    }
+
+-- ---- two residues whose coefficients are small
+row_first : (x y : List ℤ) (r j : ℕ) → j < 4 → lane (row_in x y r) j ≡ get_or x (4 * r + j) (pos 0)
+row_first x y r = below_four (λ j. lane (row_in x y r) j ≡ get_or x (4 * r + j) (pos 0)) refl refl refl refl
+
+row_second : (x y : List ℤ) (r j : ℕ) → j < 4 → lane (row_in x y r) (4 + j) ≡ get_or y (4 * r + j) (pos 0)
+row_second x y r = below_four (λ j. lane (row_in x y r) (4 + j) ≡ get_or y (4 * r + j) (pos 0)) refl refl refl refl
+
+pub idct_low : (a : List ℤ) → EachWithin 2200 a → AreLow 16 (idct a)
+idct_low a small j h = idct-within 2200 a small j
+
+pub rows_beside : (own : Residues) (k : ℕ) (x y v0 v1 v2 v3 : List ℤ) → AreLow 16 x → AreLow 16 y → HasEqualSums x (residue_in own k) → HasEqualSums y (residue_in own (k + 1))
+    → v0 ≡ row_in x y 0 → v1 ≡ row_in x y 1 → v2 ≡ row_in x y 2 → v3 ≡ row_in x y 3 → AreRows 8 v0 v1 v2 v3 (λ i. residue_in own (k + i))
+rows_beside own k x y v0 v1 v2 v3 low_x low_y is_x is_y e0 e1 e2 e3 =
+    let rows : (r j : ℕ) → r < 4 → row_lane v0 v1 v2 v3 r j ≡ lane (row_in x y r) j =
+    λ r j rin. below_four (λ i. row_lane v0 v1 v2 v3 i j ≡ lane (row_in x y i) j)
+    (ap (λ (v : List ℤ). lane v j) e0) (ap (λ (v : List ℤ). lane v j) e1) (ap (λ (v : List ℤ). lane v j) e2) (ap (λ (v : List ℤ). lane v j) e3) r rin in
+    let left : (r j : ℕ) → r < 4 → j < 4 → row_lane v0 v1 v2 v3 r j ≡ get_or x (4 * r + j) (pos 0) = λ r j rin jin. rows r j rin ∙ row_first x y r j jin in
+    let right : (r j : ℕ) → r < 4 → 4 ≤ j → j < 8 → row_lane v0 v1 v2 v3 r j ≡ get_or y (4 * r + (j - 4)) (pos 0) =
+    λ r j rin from jin. rows r j rin ∙ ap (lane (row_in x y r)) (let e : j ≡ 4 + (j - 4) = omega arith in e) ∙ row_second x y r (j - 4) (omega arith) in
+    record {
+      low = λ r j rin jin. elim (cases_lt j 4) [
+        | inl l ↦ subst (λ z. unsigned_abs z ≤ 8800) (sym (left r j rin l)) (low_x (4 * r + j) (omega arith))
+        | inr h ↦ subst (λ z. unsigned_abs z ≤ 8800) (sym (right r j rin h jin)) (low_y (4 * r + (j - 4)) (omega arith))
+      ];
+      sums = λ r j pixel rin jin byte. elim (cases_lt j 4) [
+        | inl l ↦
+            ap (summed pixel) (left r j rin l)
+            ∙ is_x (4 * r + j) (omega arith) pixel byte
+            ∙ ap (summed pixel) (own_same (residue_in own) k (k + j / 4) (4 * r + j) (4 * r + j % 4) (omega arith) (omega arith))
+        | inr h ↦
+            ap (summed pixel) (right r j rin h jin)
+            ∙ is_y (4 * r + (j - 4)) (omega arith) pixel byte
+            ∙ ap (summed pixel) (own_same (residue_in own) (k + 1) (k + j / 4) (4 * r + (j - 4)) (4 * r + j % 4) (omega arith) (omega arith))
+      ];
+    }
+
+-- ---- a number held, which the code keeps in i16
+pub short_coded : (z : ℤ) → unsigned_abs z ≤ 255 → coded16 z ≡ z
+short_coded z l = to_z-of_z w16 z (short16_fits z (omega arith))
+
+-- sixteen times such a number
+pub sixteen_kept : (z : ℤ) (i : ℕ) → unsigned_abs z ≤ 255 → i < 16 → get_or (replicate 16 (coded16 z)) i (pos 0) ≡ z
+sixteen_kept z i l below = get_or-replicate 16 i (coded16 z) (pos 0) below ∙ short_coded z l
+
+pub held_sum : (p : ℕ) (y z : ℤ) → p ≤ 255 → y ≡ int_max (negsuc 254) (int_min z (pos 255)) → summed p y ≡ summed p z
+unfolding summed
+held_sum p y (pos n) byte e =
+    let f : y ≡ pos (min n 255) = e ∙ (let g : int_max (negsuc 254) (int_min (pos n) (pos 255)) ≡ pos (min n 255) = omega (arith, ints, clamps) in g) in
+    ap (λ (v : ℤ). summed p v) f ∙ (let g : min (p + min n 255) 255 ≡ min (p + n) 255 = omega arith in g)
+held_sum p y (negsuc n) byte e = elim (cases_lt n 255) [
+  | inl near ↦
+      ap (λ (v : ℤ). summed p v) (e ∙ (let g : int_max (negsuc 254) (int_min (negsuc n) (pos 255)) ≡ negsuc n = omega (arith, ints, clamps) in g))
+  | inr far ↦
+      ap (λ (v : ℤ). summed p v) (e ∙ (let g : int_max (negsuc 254) (int_min (negsuc n) (pos 255)) ≡ negsuc 254 = omega (arith, ints, clamps) in g))
+      ∙ clamp_to_pixel-low (pos p +ℤ negsuc 254) (omega (arith, ints)) ∙ sym (clamp_to_pixel-low (pos p +ℤ negsuc n) (omega (arith, ints)))
+]
+
+-- a number clamped to -255..255
+pub clamped_sum : (p : ℕ) (y z : ℤ) → p ≤ 255 → y ≡ int_min (pos 255) (int_max (negsuc 254) z) → summed p y ≡ summed p z
+clamped_sum p y z byte e = held_sum p y z byte (omega (arith, ints, clamps))
+
+pub clamped_low : (y z : ℤ) → y ≡ int_min (pos 255) (int_max (negsuc 254) z) → unsigned_abs y ≤ 8800
+clamped_low y z e = omega (arith, ints, clamps)

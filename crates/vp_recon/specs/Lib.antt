@@ -3,8 +3,7 @@ pub mod Residue
 pub mod Prediction
 pub mod Rebuilt
 pub mod Equation
-pub mod Sums
 pub mod Parts
 pub mod Laws
-pub mod Pairs
+pub mod Sums
 pub mod Given

@@ -1,17 +1,20 @@
 -- Private to the crate: the coefficients from which the residues of a plane's subblocks are computed.
-use Rattle.std.specs.Prelude.{◌≡◌, ℕ, ◌+◌, ◌<◌, ◌^◌, ℤ, pos, List, ◌∷◌, replicate, Option, Some, None, slice_index_or}
+use Rattle.std.specs.Prelude.{◌≡◌, ℕ, ◌+◌, ◌<◌, ◌≤◌, ℤ, pos, List, ◌∷◌, replicate, Option, Some, None, slice_index_or}
 use Rattle.std.specs.Prelude.{slice_set}
 use Rattle.std.specs.Borrow.{Bor}
 use Rattle.vp_tokens.specs.Blocks.{block_of}
 use Rattle.vp_quant.specs.Quant.{dequantised}
-use Rattle.vp_transform.specs.Fits.{EachWithin}
 use Rattle.vp_transform.specs.Transform.{idct}
-use Rattle.vp_recon.specs.declared.residue.Residues.{Residues}
+use Rattle.vp_recon.specs.declared.residues.Residues.{Residues}
 
 -- the coefficients of subblock k, whose DC coefficient comes from the Y2 block if there is one
 abbrev pub with_first : Option (Bor (List ℤ)) → ℕ → List ℤ → List ℤ
 with_first None k own = own
 with_first (Some dc_from_y2) k own = slice_set own 0 (slice_index_or dc_from_y2.now k (pos 0))
+
+-- there are n subblocks
+abbrev pub HasBlocks : Residues → ℕ → Type 0
+HasBlocks r n = (n ≤ 16) × (r.first + n ≤ 25)
 
 -- the coefficients of subblock k
 abbrev pub coefficients_in : Residues → ℕ → List ℤ
@@ -24,10 +27,6 @@ residue_in r k = idct (coefficients_in r k)
 -- the residues of n subblocks
 abbrev pub HasResidues : ℕ → Residues → (ℕ → List ℤ) → Type 0
 HasResidues n r residue = (k : ℕ) → k < n → residue_in r k ≡ residue k
-
--- DC coefficients from a Y2 block are small enough for the inverse transform in 64 bits
-abbrev pub HasBoundedY2Dc : Residues → Type 0
-HasBoundedY2Dc r = (dc_from_y2 : Bor (List ℤ)) → r.dc_from_y2 ≡ Some dc_from_y2 → EachWithin (2 ^ 40) dc_from_y2.now
 
 -- the AC coefficients of subblock k are 0
 abbrev pub IsAlone : Residues → ℕ → Type 0

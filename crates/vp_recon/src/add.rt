@@ -2,20 +2,22 @@
 
 ghost use Rattle.std.specs.Prelude.{◌≡◌, ℕ, ◌+◌, ◌-◌, ◌*◌, ◌<◌, ◌≤◌, true, List, ℤ, length, []};
 ghost use Rattle.std.specs.Prelude.{slice_index, slice_index_or};
-ghost use Rattle.vp_base.specs.Raster.{Raster, pixel};
+ghost use Rattle.vp_base.specs.Raster.{Raster};
 ghost use Rattle.vp_base.specs.Block.{with_block, written};
 ghost use Rattle.vp_base.specs.Image.{plane_of, with_plane};
 ghost use Rattle.vp_quant.specs.Short.{AreFactors};
 ghost use Rattle.vp_recon.specs.Residue.{luma_residue, chroma_residue};
-ghost use Rattle.vp_recon.specs.Rebuilt.{summed, residue_at};
-ghost use Rattle.vp_recon.specs.Pairs.{IsAcross, LiesAt, block_sum, strip_sum, row_pixel, AreLow, AreSums};
-ghost use Rattle.vp_recon.specs.Parts.{HasBoundedY2Dc, HasResidues, IsAlone, residue_in};
+ghost use Rattle.vp_recon.specs.Rebuilt.{summed};
+ghost use Rattle.vp_recon.specs.Sums.{IsAcross, LiesAt, IsWritten, IsAdded, block_sum, row_pixel};
+ghost use Rattle.vp_recon.specs.Sums.{AreLow, AreLowRows, AreRows};
+ghost use Rattle.vp_recon.specs.Parts.{HasBlocks, HasResidues, IsAlone, residue_in};
 ghost use Rattle.std.specs.Simd.Lanes.{put_chunk};
 ghost use Rattle.vp_lanes.specs.Lane.{lane};
 
-use crate::residue::{Residues, block_of, luma_firsts, residues_after_y2, side_by_side};
+use crate::residue::{block_of, luma_firsts, residues_after_y2, side_by_side};
+use crate::residues::Residues;
 use std::simd::prelude::*;
-use vp_base::{Picture, Plane};
+use vp_base::Picture;
 use vp_quant::{Factors, ShortFactors};
 use vp_tokens::Tokens;
 
@@ -32,8 +34,7 @@ pub(crate) fn add_luma(
     requires columns { x + 16 ≤ picture.old.luma.width }
     requires rows { y + 16 ≤ picture.old.luma.height }
     ensures { picture.new ≡ with_plane picture.old 0 (with_block picture.old.luma x y 16 16
-        (λ r c. summed (pixel picture.old.luma (x + c) (y + r))
-        (residue_at 4 (luma_residue y2 tokens.now factors.now) r c))) }
+        (block_sum 4 picture.old.luma x y (luma_residue y2 tokens.now factors.now))) }
 {
     if !y2 {
         let residues = Residues {
@@ -75,8 +76,7 @@ pub(crate) fn add_chroma(
     requires columns { x + 8 ≤ (plane_of picture.old plane).width }
     requires rows { y + 8 ≤ (plane_of picture.old plane).height }
     ensures { picture.new ≡ with_plane picture.old plane (with_block (plane_of picture.old plane) x y 8 8
-        (λ r c. summed (pixel (plane_of picture.old plane) (x + c) (y + r))
-        (residue_at 2 (chroma_residue tokens.now factors.now plane) r c))) }
+        (block_sum 2 (plane_of picture.old plane) x y (chroma_residue tokens.now factors.now plane))) }
 {
     let residues = Residues {
         tokens,
@@ -101,26 +101,25 @@ fn add_residues<const ACROSS: usize>(
     requires plane { plane < 3 }
     requires across { IsAcross ACROSS }
     requires blocks { residues.now.first + ACROSS * ACROSS ≤ 25 }
-    requires small { HasBoundedY2Dc residues.now }
     requires columns { x + 4 * ACROSS ≤ (plane_of picture.old plane).width }
     requires rows { y + 4 * ACROSS ≤ (plane_of picture.old plane).height }
     ensures { (residue : ℕ → List ℤ) → HasResidues (ACROSS * ACROSS) residues.now residue
-        → picture.new ≡ with_plane picture.old plane
-        (with_block (plane_of picture.old plane) x y (4 * ACROSS) (4 * ACROSS)
-        (λ r c. summed (pixel (plane_of picture.old plane) (x + c) (y + r)) (residue_at ACROSS residue r c))) }
+        → picture.new ≡ with_plane picture.old plane (with_block (plane_of picture.old plane) x y (4 * ACROSS)
+        (4 * ACROSS) (block_sum ACROSS (plane_of picture.old plane) x y residue)) }
 {
     let _known = picture.plane(plane).height();
     let stride = picture.plane(plane).width();
-    know_bytes(picture.plane(plane));
+    know_bytes(picture.plane(plane).pixels());
     let tokens = residues.tokens_in(0, ACROSS * ACROSS);
     if tokens == 0 && residues.dc_from_y2.is_none() {
         return;
     }
     let at = y * stride + x;
+    let pixels = picture.pixels_mut(plane);
     if tokens <= 1 {
-        add_strips::<ACROSS, true>(picture.pixels_mut(plane), at, stride, residues);
+        add_strips::<ACROSS, true>(pixels, at, stride, residues);
     } else {
-        add_strips::<ACROSS, false>(picture.pixels_mut(plane), at, stride, residues);
+        add_strips::<ACROSS, false>(pixels, at, stride, residues);
     }
 }
 
@@ -135,7 +134,6 @@ fn add_strips<const ACROSS: usize, const ALONE: bool>(
 )
     requires across { IsAcross ACROSS }
     requires blocks { residues.now.first + ACROSS * ACROSS ≤ 25 }
-    requires small { HasBoundedY2Dc residues.now }
     requires alone { ALONE ≡ true → (i : ℕ) → i < ACROSS * ACROSS → IsAlone residues.now i }
     requires room { at + (4 * ACROSS - 1) * stride + 4 * ACROSS ≤ length pixels.old }
     ensures value { (p : Raster) (x y : ℕ) (residue : ℕ → List ℤ) → HasResidues (ACROSS * ACROSS) residues.now residue
@@ -166,14 +164,10 @@ fn add_firsts<const ACROSS: usize>(
     k: usize,
 )
     requires across { IsAcross ACROSS }
-    requires subblocks { k + ACROSS ≤ 16 }
-    requires blocks { residues.now.first + k + ACROSS ≤ 25 }
-    requires small { HasBoundedY2Dc residues.now }
+    requires subblocks { HasBlocks residues.now (k + ACROSS) }
     requires alone { (i : ℕ) → i < ACROSS → IsAlone residues.now (k + i) }
     requires room { at + 3 * stride + 4 * ACROSS ≤ length pixels.old }
-    ensures value { (p : Raster) (x y : ℕ) → LiesAt p x y (4 * ACROSS) 4 pixels.old at stride
-        → pixels.new ≡ written p x y (4 * ACROSS) 4 (strip_sum p x y (λ i. residue_in residues.now (k + i))) }
-    ensures len { length pixels.new ≡ length pixels.old }
+    ensures { IsAdded (4 * ACROSS) pixels.old pixels.new at stride (λ i. residue_in residues.now (k + i)) }
 {
     if ACROSS == 4 {
         let row = residues.row_of_four(k);
@@ -195,14 +189,10 @@ fn add_strip<const ACROSS: usize>(
     factors: &ShortFactors,
 )
     requires across { IsAcross ACROSS }
-    requires subblocks { k + ACROSS ≤ 16 }
-    requires blocks { residues.now.first + k + ACROSS ≤ 25 }
-    requires small { HasBoundedY2Dc residues.now }
+    requires subblocks { HasBlocks residues.now (k + ACROSS) }
     requires factors { AreFactors factors.now residues.now.dc residues.now.ac }
     requires room { at + 3 * stride + 4 * ACROSS ≤ length pixels.old }
-    ensures value { (p : Raster) (x y : ℕ) → LiesAt p x y (4 * ACROSS) 4 pixels.old at stride
-        → pixels.new ≡ written p x y (4 * ACROSS) 4 (strip_sum p x y (λ i. residue_in residues.now (k + i))) }
-    ensures len { length pixels.new ≡ length pixels.old }
+    ensures { IsAdded (4 * ACROSS) pixels.old pixels.new at stride (λ i. residue_in residues.now (k + i)) }
 {
     for i in 0..ACROSS / 2 {
         add_two(pixels, at + 8 * i, stride, residues, k + 2 * i, factors);
@@ -219,14 +209,10 @@ fn add_two(
     k: usize,
     factors: &ShortFactors,
 )
-    requires subblocks { k + 1 < 16 }
-    requires blocks { residues.now.first + k + 1 < 25 }
-    requires small { HasBoundedY2Dc residues.now }
+    requires subblocks { HasBlocks residues.now (k + 2) }
     requires factors { AreFactors factors.now residues.now.dc residues.now.ac }
     requires room { at + 3 * stride + 8 ≤ length pixels.old }
-    ensures value { (p : Raster) (x y : ℕ) → LiesAt p x y 8 4 pixels.old at stride
-        → pixels.new ≡ written p x y 8 4 (strip_sum p x y (λ i. residue_in residues.now (k + i))) }
-    ensures len { length pixels.new ≡ length pixels.old }
+    ensures { IsAdded 8 pixels.old pixels.new at stride (λ i. residue_in residues.now (k + i)) }
 {
     let tokens = residues.tokens_in(k, 2);
     if tokens == 0 && residues.dc_from_y2.is_none() {
@@ -247,13 +233,9 @@ fn add_two(
 #[cold]
 #[inline(never)]
 fn add_large_two(pixels: &mut [u8], at: usize, stride: usize, residues: &Residues, k: usize)
-    requires subblocks { k + 1 < 16 }
-    requires blocks { residues.now.first + k + 1 < 25 }
-    requires small { HasBoundedY2Dc residues.now }
+    requires subblocks { HasBlocks residues.now (k + 2) }
     requires room { at + 3 * stride + 8 ≤ length pixels.old }
-    ensures value { (p : Raster) (x y : ℕ) → LiesAt p x y 8 4 pixels.old at stride
-        → pixels.new ≡ written p x y 8 4 (strip_sum p x y (λ i. residue_in residues.now (k + i))) }
-    ensures len { length pixels.new ≡ length pixels.old }
+    ensures { IsAdded 8 pixels.old pixels.new at stride (λ i. residue_in residues.now (k + i)) }
 {
     let (a, b, c, d) = side_by_side(residues.kept(k), residues.kept(k + 1));
     add_rows::<8>(pixels, at, stride, a, b, c, d);
@@ -273,13 +255,9 @@ fn add_rows<const N: usize>(
 )
     requires few { N ≤ 16 }
     requires room { at + 3 * stride + N ≤ length pixels.old }
-    requires first { AreLow N a }
-    requires second { AreLow N b }
-    requires third { AreLow N c }
-    requires fourth { AreLow N d }
-    ensures value { (p : Raster) (x y : ℕ) (own : ℕ → List ℤ) → LiesAt p x y N 4 pixels.old at stride
-        → AreSums N a.entry b.entry c.entry d.entry own → pixels.new ≡ written p x y N 4 (strip_sum p x y own) }
-    ensures len { length pixels.new ≡ length pixels.old }
+    requires low { AreLowRows N a b c d }
+    ensures { (own : ℕ → List ℤ) → AreRows N a.entry b.entry c.entry d.entry own
+        → IsAdded N pixels.old pixels.new at stride own }
 {
     let second = at + stride;
     let third = second + stride;
@@ -337,9 +315,7 @@ fn put_rows<const N: usize>(
 )
     requires few { N ≤ 16 }
     requires room { at + 3 * stride + N ≤ length pixels.old }
-    ensures value { (p : Raster) (x y : ℕ) → LiesAt p x y N 4 pixels.old at stride
-        → pixels.new ≡ written p x y N 4 (row_pixel a.entry b.entry c.entry d.entry) }
-    ensures len { length pixels.new ≡ length pixels.old }
+    ensures { IsWritten N pixels.old pixels.new at stride (λ _ _ _. row_pixel a.entry b.entry c.entry d.entry) }
 {
     let second = at + stride;
     let third = second + stride;
@@ -364,8 +340,8 @@ fn put<const N: usize>(pixels: &mut [u8], at: usize, row: Simd<u8, N>)
 pub(crate) fn store_subblock(picture: &mut Picture, x: usize, y: usize, pixels: u8x16)
     requires columns { x + 4 ≤ picture.old.luma.width }
     requires rows { y + 4 ≤ picture.old.luma.height }
-    ensures { picture.new ≡ with_plane picture.old 0 (with_block picture.old.luma x y 4 4
-        (λ r c. slice_index pixels (r * 4 + c))) }
+    ensures { (f : ℕ → ℕ → ℕ) → ((r c : ℕ) → r < 4 → c < 4 → slice_index pixels (r * 4 + c) ≡ f r c)
+        → picture.new ≡ with_plane picture.old 0 (with_block picture.old.luma x y 4 4 f) }
 {
     let _known = picture.plane(0).height();
     let stride = picture.plane(0).width();
@@ -387,15 +363,8 @@ fn rows_of(pixels: u8x16) -> [u8x4; 4]
     ]
 }
 
-/// States that a plane's pixels are bytes, for proofs: it does nothing.
+/// States that pixels are bytes, for proofs: it does nothing.
 #[inline(always)]
-pub(crate) fn know_bytes(plane: &Plane)
-    ensures { (i : ℕ) → slice_index plane.now.pixels i ≤ 255 }
-{
-    are_bytes(plane.pixels());
-}
-
-/// States that a slice's items are bytes.
-fn are_bytes(pixels: &[u8])
+pub(crate) fn know_bytes(pixels: &[u8])
     ensures { (i : ℕ) → slice_index pixels.now i ≤ 255 }
 {}

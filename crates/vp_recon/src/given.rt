@@ -1,13 +1,13 @@
 //! Rebuilds macroblocks and subblocks whose prediction is made already: adds their residue to it (RFC 6386, chapter
 //! 14.5).
 
-ghost use Rattle.std.specs.Prelude.{◌≡◌, ◌+◌, ◌*◌, ◌<◌, ◌≤◌, pos, not, slice_index, slice_index_or, true};
+ghost use Rattle.std.specs.Prelude.{◌≡◌, ◌+◌, ◌*◌, ◌<◌, ◌≤◌, pos, not, slice_index, slice_index_or};
 ghost use Rattle.vp_base.specs.Block.{with_block};
 ghost use Rattle.vp_base.specs.Image.{macroblocks, plane_of, with_plane};
 ghost use Rattle.vp_quant.specs.Short.{AreFactors};
 ghost use Rattle.vp_recon.specs.Predictor.{Predictor, macroblock_of, has_sub_modes, has_y2};
 ghost use Rattle.vp_recon.specs.Rebuilt.{rebuilt, summed, residue_at};
-ghost use Rattle.vp_recon.specs.Residue.{residue, luma_residue, chroma_residue};
+ghost use Rattle.vp_recon.specs.Residue.{residue, chroma_residue};
 ghost use Rattle.vp_recon.specs.Given.{IsGiven};
 
 use crate::add::{add_chroma, add_luma, store_subblock};
@@ -48,31 +48,11 @@ pub fn rebuild_from(
     let _known = picture.dim();
     rebuild_chroma(picture, 1, place, &prediction.u, tokens, factors);
     rebuild_chroma(picture, 2, place, &prediction.v, tokens, factors);
-    if by_subblocks {
-        picture.write_block::<16>(0, 16 * place.column, 16 * place.row, &prediction.luma);
-        return;
-    }
-    rebuild_luma(picture, place, &prediction.luma, tokens, factors);
-}
-
-/// Rebuilds the luma of a macroblock with a Y2 block.
-fn rebuild_luma(
-    picture: &mut Picture,
-    place: Place,
-    prediction: &[u8; 256],
-    tokens: &Tokens,
-    factors: &Factors,
-)
-    requires columns { 16 * place.column + 16 ≤ picture.old.luma.width }
-    requires rows { 16 * place.row + 16 ≤ picture.old.luma.height }
-    ensures { picture.new ≡ with_plane picture.old 0 (with_block picture.old.luma (16 * place.column)
-        (16 * place.row) 16 16 (λ r c. summed (slice_index prediction.now (r * 16 + c))
-        (residue_at 4 (luma_residue true tokens.now factors.now) r c))) }
-{
-    let _known = [picture.plane(0).width(), picture.plane(0).height()];
     let [x, y] = [16 * place.column, 16 * place.row];
-    picture.write_block::<16>(0, x, y, prediction);
-    add_luma(picture, x, y, true, tokens, factors);
+    picture.write_block::<16>(0, x, y, &prediction.luma);
+    if !by_subblocks {
+        add_luma(picture, x, y, true, tokens, factors);
+    }
 }
 
 /// Rebuilds a chroma plane of a macroblock: 1 is U, 2 is V.

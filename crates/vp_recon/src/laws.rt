@@ -51,6 +51,7 @@ pub fn rebuilding_reads_one_row_above()
 {}
 
 /// The luma of a B_PRED macroblock is rebuilt subblock by subblock.
+#[tactic(auto, using(crate::proofs::LumaLemmas::subs_alone))]
 pub fn luma_is_rebuilt_by_subblocks()
     ensures { (modes : Modes) (tokens : Tokens) (factors : Factors) (place : Place) (p : Raster)
         → IsBySubblocks modes tokens factors place p }

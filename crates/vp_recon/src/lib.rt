@@ -8,6 +8,7 @@ mod macroblock;
 mod predict;
 mod predictor;
 mod residue;
+mod residues;
 
 pub use given::{MacroblockPixels, rebuild_from, rebuild_subblock_from};
 pub use laws::{

@@ -24,7 +24,9 @@ use vp_quant::{Factors, ShortFactors};
 use vp_tables::SubMode;
 use vp_tokens::{Block, Tokens};
 
-/// Rebuilds the macroblock at `place` from its prediction and its residue (RFC 6386, chapters 12, 14.5 and 18).
+/// Rebuilds the macroblock at `place` from its prediction and its residue (RFC 6386, chapters 12, 14.5 and 18). Not
+/// inlined: the caller's loop keeps its registers for macroblocks without tokens.
+#[inline(never)]
 pub fn rebuild_macroblock(
     picture: &mut Picture,
     place: Place,
@@ -52,10 +54,10 @@ pub fn predict_macroblock(picture: &mut Picture, place: Place, source: &Predicto
 {
     let _known = picture.dim();
     predict_luma(picture, place, source);
-    know_bytes(picture.plane(0));
+    know_bytes(picture.plane(0).pixels());
     predict_chroma(picture, place, source);
-    know_bytes(picture.plane(1));
-    know_bytes(picture.plane(2));
+    know_bytes(picture.plane(1).pixels());
+    know_bytes(picture.plane(2).pixels());
 }
 
 /// Rebuilds the luma of a macroblock: subblock by subblock where these have intra modes of their own (B_PRED), else at

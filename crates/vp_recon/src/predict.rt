@@ -1,15 +1,14 @@
 //! Predicts macroblocks: from their own picture (RFC 6386, chapter 12) or from a reference frame (chapter 18).
 
-ghost use Rattle.std.specs.Prelude.{◌≡◌, ℕ, ◌+◌, ◌*◌, ◌<◌, ◌≤◌, length, map, false, true};
+ghost use Rattle.std.specs.Prelude.{◌≡◌, ◌+◌, ◌*◌, ◌<◌, ◌≤◌, length, false, true};
 ghost use Rattle.vp_base.specs.Block.{with_block};
 ghost use Rattle.vp_base.specs.Image.{macroblocks, plane_of, with_plane};
 ghost use Rattle.vp_tables.specs.Modes.{is_split, is_by_subblocks};
-ghost use Rattle.vp_inter.specs.declared.vector.PlaneVector.{PlaneVector};
 ghost use Rattle.vp_inter.specs.Vectors.{chroma_vector};
 ghost use Rattle.vp_recon.specs.Predictor.{Inter, Intra, predictor_of, has_sub_modes};
-ghost use Rattle.vp_recon.specs.Prediction.{four_from, moved_pixel, luma_moved, chroma_moved};
+ghost use Rattle.vp_recon.specs.Prediction.{moved_pixel, luma_moved, chroma_moved};
 ghost use Rattle.vp_recon.specs.Prediction.{luma_predicted, chroma_predicted};
-ghost use Rattle.vp_recon.specs.Sums.{AreVectors, AreEqualVectors, sub_of_quarter, with_colours};
+ghost use Rattle.vp_recon.specs.Sums.{AreVectors, vector_at, sub_of_quarter, with_colours};
 
 use crate::predictor::Predictor;
 use vp_base::{Picture, Place, Plane};
@@ -19,7 +18,7 @@ use vp_inter::{
 };
 use vp_intra::{predict_chroma_into, predict_luma_into};
 use vp_modes::Modes;
-use vp_motion::{MacroblockMotion, Vector};
+use vp_motion::MacroblockMotion;
 
 /// Predicts the luma of a macroblock whose subblocks have no intra modes of their own. Inlined into both callers, so
 /// that most macroblocks take one call less.
@@ -48,8 +47,13 @@ pub(crate) fn predict_chroma(picture: &mut Picture, place: Place, source: &Predi
     requires row { place.row < macroblocks picture.old.height }
     ensures { picture.new ≡ with_colours picture.old (λ k. chroma_predicted (predictor_of source.now) k place) }
 {
+    let _known = picture.dim();
     match source {
-        Predictor::Intra(modes) => predict_intra_chroma(picture, place, modes),
+        Predictor::Intra(modes) => {
+            let [x, y] = [8 * place.column, 8 * place.row];
+            predict_chroma_into(picture, 1, x, y, modes.chroma);
+            predict_chroma_into(picture, 2, x, y, modes.chroma);
+        }
         Predictor::Inter {
             motion,
             reference,
@@ -67,18 +71,6 @@ fn predict_intra_luma(picture: &mut Picture, place: Place, modes: &Modes)
 {
     let _known = [picture.plane(0).width(), picture.plane(0).height()];
     predict_luma_into(picture, 16 * place.column, 16 * place.row, modes.luma);
-}
-
-/// Predicts both chroma planes of an intra macroblock.
-fn predict_intra_chroma(picture: &mut Picture, place: Place, modes: &Modes)
-    requires column { place.column < macroblocks picture.old.width }
-    requires row { place.row < macroblocks picture.old.height }
-    ensures { picture.new ≡ with_colours picture.old (λ k. chroma_predicted (Intra modes.now) k place) }
-{
-    let _known = picture.dim();
-    let [x, y] = [8 * place.column, 8 * place.row];
-    predict_chroma_into(picture, 1, x, y, modes.chroma);
-    predict_chroma_into(picture, 2, x, y, modes.chroma);
 }
 
 /// Predicts the luma of an inter macroblock: as one block, or by quarters for split vectors.
@@ -149,7 +141,15 @@ fn chroma_vector_of(version: u8, motion: &MacroblockMotion, k: usize) -> PlaneVe
     requires { k < 4 }
     ensures { result ≡ chroma_moved version motion.now k }
 {
-    vector_of_four(version, &motion.vectors, 8 * (k / 2) + 2 * (k % 2))
+    let first = 8 * (k / 2) + 2 * (k % 2);
+    let vectors = &motion.vectors;
+    let [a, b] = [vectors[first], vectors[first + 1]];
+    let [c, d] = [vectors[first + 4], vectors[first + 5]];
+    chroma_vector(
+        version,
+        &[a.row, b.row, c.row, d.row],
+        &[a.column, b.column, c.column, d.column],
+    )
 }
 
 /// Returns the motion vector of both chroma planes of a macroblock that isn't split. Its luma vectors are equal, and so
@@ -166,21 +166,6 @@ fn whole_chroma_vector(version: u8, motion: &MacroblockMotion) -> PlaneVector
         row: vector.row,
         column: vector.column,
     }
-}
-
-/// Returns the chroma vector for a square of four luma subblocks. `first` is the number of the one at the top left.
-fn vector_of_four(version: u8, vectors: &[Vector; 16], first: usize) -> PlaneVector
-    requires { first ≤ 10 }
-    ensures { result ≡ chroma_vector version (map (λ v. v.row) (four_from vectors.now first))
-        (map (λ v. v.column) (four_from vectors.now first)) }
-{
-    let [a, b] = [vectors[first], vectors[first + 1]];
-    let [c, d] = [vectors[first + 4], vectors[first + 5]];
-    chroma_vector(
-        version,
-        &[a.row, b.row, c.row, d.row],
-        &[a.column, b.column, c.column, d.column],
-    )
 }
 
 /// Returns the motion vectors of the four subblocks in a quarter of the luma.
@@ -252,9 +237,8 @@ fn predict_four(
     requires rows { y + 8 ≤ (plane_of picture.old plane).height }
     requires wide { 0 < source.now.width }
     requires high { 0 < source.now.height }
-    ensures { (vector : ℕ → PlaneVector) → AreVectors 4 vectors.now vector
-        → picture.new ≡ with_plane picture.old plane
-        (with_block (plane_of picture.old plane) x y 8 8 (moved_pixel version source.now x y 2 vector)) }
+    ensures { picture.new ≡ with_plane picture.old plane (with_block (plane_of picture.old plane) x y 8 8
+        (moved_pixel version source.now x y 2 (vector_at vectors.now))) }
 {
     let _known = picture.plane(plane).width();
     let _known = picture.plane(plane).height();
@@ -271,7 +255,7 @@ fn predict_four(
 
 /// Returns whether four vectors are equal.
 fn are_alike(vectors: &[PlaneVector; 4]) -> bool
-    ensures { result ≡ true → AreEqualVectors vectors.now }
+    ensures { result ≡ true → AreVectors 4 vectors.now (λ _. vector_at vectors.now 0) }
 {
     let [a, b, c, d] = *vectors;
     b == a && c == a && d == a

@@ -50,7 +50,8 @@ impl<'a> Predictor<'a> {
 }
 
 /// Returns whether a macroblock has a Y2 block: not with B_PRED or split vectors (RFC 6386, chapter 13). An intra
-/// macroblock has no vectors (`vectors` is then not `Split`), an inter macroblock no luma mode (`luma` is then not `B`).
+/// macroblock has no vectors (`vectors` is then not `Split`), an inter macroblock no luma mode (`luma` is then not
+/// `B`).
 #[inline(always)]
 pub fn has_y2(luma: LumaMode, vectors: VectorMode) -> bool
     ensures { result ≡ not (is_split vectors || is_by_subblocks luma) }

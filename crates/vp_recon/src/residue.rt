@@ -11,11 +11,11 @@ ghost use Rattle.vp_transform.specs.Pair.{row_in};
 ghost use Rattle.vp_lanes.specs.Lane.{lane};
 ghost use Rattle.vp_recon.specs.Rebuilt.{summed};
 ghost use Rattle.vp_recon.specs.Residue.{residue, luma_firsts};
-ghost use Rattle.vp_recon.specs.Sums.{HasEqualSums, IsNothing};
-ghost use Rattle.vp_recon.specs.Parts.{HasBoundedY2Dc, HasResidues, IsAlone, coefficients_in, residue_in};
-ghost use Rattle.vp_recon.specs.Pairs.{AreSums, AreLow, Four};
+ghost use Rattle.vp_recon.specs.Parts.{HasBlocks, IsAlone, HasResidues, coefficients_in, residue_in};
+ghost use Rattle.vp_recon.specs.Sums.{HasEqualSums, IsNothing, AreLow, AreRows, Four};
 
 use crate::add::added;
+use crate::residues::Residues;
 use std::simd::prelude::*;
 use vp_lanes::clamp_i16;
 use vp_quant::{Factors, ShortFactors, dequant, dequant_short};
@@ -129,20 +129,6 @@ fn own_residue(block: &Block, factors: &Factors, short: &ShortFactors) -> [i16; 
     large_residue(block, first, factors.y_ac)
 }
 
-/// The inputs from which the residues of a plane's subblocks are computed.
-#[derive(Clone, Copy)]
-pub(crate) struct Residues<'a> {
-    pub(crate) tokens: &'a Tokens,
-    /// The number of the first subblock's block among all 25.
-    pub(crate) first: usize,
-    /// The factor of the DC levels.
-    pub(crate) dc: u16,
-    /// The factor of the AC levels.
-    pub(crate) ac: u16,
-    /// The DC coefficients, if a Y2 block gives them.
-    pub(crate) dc_from_y2: Option<&'a [i64; 16]>,
-}
-
 impl<'a> Residues<'a> {
     /// Returns the bitwise OR of the end positions of the `count` subblocks from `start` on: at least the greatest of
     /// them, and 0 or 1 only if that is.
@@ -162,9 +148,7 @@ impl<'a> Residues<'a> {
 
     /// Returns the DC coefficient of subblock `k`.
     fn first_coefficient(&self, k: usize) -> i64
-        requires subblock { k < 16 }
-        requires block { self.now.first + k < 25 }
-        requires small { HasBoundedY2Dc self.now }
+        requires subblock { HasBlocks self.now (k + 1) }
         ensures value { slice_set (dequantised (block_of self.now.tokens.now (self.now.first
             + k)).levels 0 self.now.ac) 0 result ≡ coefficients_in self.now k }
         ensures within { unsigned_abs result ≤ 2 ^ 40 }
@@ -183,7 +167,6 @@ impl<'a> Residues<'a> {
         requires own { own ≡ dequantised (block_of self.now.tokens.now (self.now.first + k)).levels self.now.dc
             self.now.ac }
         requires short { EachWithin 2200 own }
-        requires small { HasBoundedY2Dc self.now }
         ensures value { (zs : List ℤ) → result ≡ Some zs → zs ≡ coefficients_in self.now k }
         ensures small { (zs : List ℤ) → result ≡ Some zs → EachWithin 2200 zs }
     {
@@ -195,9 +178,7 @@ impl<'a> Residues<'a> {
 
     /// Returns numbers that add up like the residue of subblock `k`.
     pub(crate) fn kept(&self, k: usize) -> [i16; 16]
-        requires subblock { k < 16 }
-        requires block { self.now.first + k < 25 }
-        requires small { HasBoundedY2Dc self.now }
+        requires subblock { HasBlocks self.now (k + 1) }
         ensures value { HasEqualSums result (residue_in self.now k) }
         ensures low { AreLow 16 result }
     {
@@ -213,15 +194,9 @@ impl<'a> Residues<'a> {
         k: usize,
         factors: &ShortFactors,
     ) -> Option<(i16x8, i16x8, i16x8, i16x8)>
-        requires subblocks { k + 1 < 16 }
-        requires blocks { self.now.first + k + 1 < 25 }
-        requires small { HasBoundedY2Dc self.now }
+        requires subblocks { HasBlocks self.now (k + 2) }
         requires factors { AreFactors factors.now self.now.dc self.now.ac }
-        ensures value { (v : Four) → result ≡ Some v → AreSums 8 v.0 v.1 v.2 v.3 (λ i. residue_in self.now (k + i)) }
-        ensures first { (v : Four) → result ≡ Some v → AreLow 8 v.0 }
-        ensures second { (v : Four) → result ≡ Some v → AreLow 8 v.1 }
-        ensures third { (v : Four) → result ≡ Some v → AreLow 8 v.2 }
-        ensures fourth { (v : Four) → result ≡ Some v → AreLow 8 v.3 }
+        ensures { (v : Four) → result ≡ Some v → AreRows 8 v.0 v.1 v.2 v.3 (λ i. residue_in self.now (k + i)) }
     {
         let left = block_of(self.tokens, self.first + k).levels;
         let right = block_of(self.tokens, self.first + (k + 1)).levels;
@@ -241,9 +216,7 @@ impl<'a> Residues<'a> {
     /// only: then its pixels have one residue.
     #[inline(always)]
     fn number(&self, k: usize) -> i16
-        requires subblock { k < 16 }
-        requires block { self.now.first + k < 25 }
-        requires small { HasBoundedY2Dc self.now }
+        requires subblock { HasBlocks self.now (k + 1) }
         requires alone { IsAlone self.now k }
         ensures value { (i pixel : ℕ) → i < 16 → pixel ≤ 255 → summed pixel result
             ≡ summed pixel (slice_index_or (residue_in self.now k) i (pos 0)) }
@@ -256,12 +229,9 @@ impl<'a> Residues<'a> {
     /// all equal.
     #[inline(always)]
     pub(crate) fn row_of_two(&self, k: usize) -> i16x8
-        requires subblocks { k + 1 < 16 }
-        requires blocks { self.now.first + k + 1 < 25 }
-        requires small { HasBoundedY2Dc self.now }
+        requires subblocks { HasBlocks self.now (k + 2) }
         requires alone { (i : ℕ) → i < 2 → IsAlone self.now (k + i) }
-        ensures value { AreSums 8 result result result result (λ i. residue_in self.now (k + i)) }
-        ensures low { AreLow 8 result }
+        ensures { AreRows 8 result result result result (λ i. residue_in self.now (k + i)) }
     {
         even_row(self.number(k), self.number(k + 1))
     }
@@ -269,18 +239,13 @@ impl<'a> Residues<'a> {
     /// Returns a row of the residues of subblocks `k` to `k + 3`, which have DC coefficients only.
     #[inline(always)]
     pub(crate) fn row_of_four(&self, k: usize) -> i16x16
-        requires subblocks { k + 3 < 16 }
-        requires blocks { self.now.first + k + 3 < 25 }
-        requires small { HasBoundedY2Dc self.now }
+        requires subblocks { HasBlocks self.now (k + 4) }
         requires alone { (i : ℕ) → i < 4 → IsAlone self.now (k + i) }
-        ensures value { AreSums 16 result result result result (λ i. residue_in self.now (k + i)) }
-        ensures low { AreLow 16 result }
+        ensures { AreRows 16 result result result result (λ i. residue_in self.now (k + i)) }
     {
-        four_numbers(
-            self.number(k),
-            self.number(k + 1),
-            self.number(k + 2),
-            self.number(k + 3),
+        self.row_of_two(k).shuffle::<16>(
+            self.row_of_two(k + 2),
+            [0, 1, 2, 3, 4, 5, 6, 7, 8, 9, 10, 11, 12, 13, 14, 15],
         )
     }
 }
@@ -291,21 +256,6 @@ fn even_row(left: i16, right: i16) -> i16x8
     ensures right { (j : ℕ) → j < 4 → lane result (4 + j) ≡ right }
 {
     i16x8::splat(left).shuffle::<8>(i16x8::splat(right), [0, 1, 2, 3, 8, 9, 10, 11])
-}
-
-/// Returns a row of the residues of four subblocks, each of which has one value for all its pixels.
-fn four_numbers(a: i16, b: i16, c: i16, d: i16) -> i16x16
-    ensures first { (j : ℕ) → j < 4 → lane result j ≡ a }
-    ensures second { (j : ℕ) → j < 4 → lane result (4 + j) ≡ b }
-    ensures third { (j : ℕ) → j < 4 → lane result (8 + j) ≡ c }
-    ensures fourth { (j : ℕ) → j < 4 → lane result (12 + j) ≡ d }
-{
-    i16x8::splat(a)
-        .shuffle::<8>(i16x8::splat(b), [0, 1, 2, 3, 8, 9, 10, 11])
-        .shuffle::<16>(
-            i16x8::splat(c).shuffle::<8>(i16x8::splat(d), [0, 1, 2, 3, 8, 9, 10, 11]),
-            [0, 1, 2, 3, 4, 5, 6, 7, 8, 9, 10, 11, 12, 13, 14, 15],
-        )
 }
 
 /// Returns the rows of two subblocks side by side.
@@ -349,7 +299,6 @@ pub(crate) fn residues_after_y2<'a>(
 ) -> Residues<'a>
     requires { EachWithin (2 ^ 40) dc_from_y2.now }
     ensures first { result.first ≡ 1 }
-    ensures small { HasBoundedY2Dc result }
     ensures value { HasResidues 16 result (λ k. idct (slice_set
         (dequantised (block_of tokens.now (1 + k)).levels 0 ac) 0 (slice_index_or dc_from_y2.now k (pos 0)))) }
 {

@@ -1,36 +1,23 @@
-use Rattle.std.proofs.Common.{◌≡◌, ◌∙◌, ◌+◌, ◌*◌, ℕ, List, ℤ, sym, ap, subst, arith}
-use Rattle.vp_base.specs.Block.{written}
-use Rattle.vp_recon.specs.Pairs.{LiesAt, strip_sum}
+use Rattle.std.proofs.Common.{◌≡◌, ◌+◌, ◌*◌, ℕ, List, ℤ, sym, subst, arith}
+use Rattle.vp_recon.specs.Sums.{IsAdded}
 use Rattle.vp_recon.specs.Parts.{residue_in}
-use Rattle.vp_recon.proofs.PairLemmas.{low_handed, sums_handed}
+use Rattle.vp_recon.proofs.SumLemmas.{rows_handed}
 use Rattle.vp_recon.proofs.add.add_firsts.Goals as goal
 
 pub add_rows-requires : goal.add_rows-requires
-add_rows-requires g c =
-    let low = low_handed 16 c.row_of_four-row.result c.row_of_four-row.ensures.low in
-    (omega arith, (omega arith, (omega (arith, c.requires.room, c.if-this-eq4.true), (low, (low, (low, low))))))
+add_rows-requires g c = (omega arith, (omega arith, (omega (arith, c.requires.room, c.if-this-eq4.true), (rows_handed 16 _ _ _ _ _ c.row_of_four-row.ensures).low)))
 
-pub returns-then-this-eq4-clause-value : goal.returns-then-this-eq4-clause-value
-returns-then-this-eq4-clause-value g c p x y lies =
+pub returns-then-this-eq4 : goal.returns-then-this-eq4
+returns-then-this-eq4 g c =
     let own : ℕ → List ℤ = λ i. residue_in c.args.residues.now (c.args.k + i) in
-    let row = c.row_of_four-row.result in
-    let to = c.row_of_four-row.ensures in
-    let four : g.row.ACROSS ≡ 4 = c.if-this-eq4.true in
-    c.add_rows.ensures.value p x y own (subst (λ (a : ℕ). LiesAt p x y (4 * a) 4 c.args.pixels.now c.args.at c.args.stride) four lies)
-    (sums_handed 16 row row row row own to.low to.low to.low to.low to.value)
-    ∙ ap (λ (a : ℕ). written p x y (4 * a) 4 (strip_sum p x y own)) (sym four)
+    subst (λ (a : ℕ). IsAdded (4 * a) c.args.pixels.now c.add_rows.new.pixels c.args.at c.args.stride own) (sym c.if-this-eq4.true) (c.add_rows.ensures own (rows_handed 16 _ _ _ _ own c.row_of_four-row.ensures))
 
 pub add_rows-requires-else-this-eq4 : goal.add_rows-requires-else-this-eq4
 add_rows-requires-else-this-eq4 g c =
-    let low = low_handed 8 c.row_of_two-row.result c.row_of_two-row.ensures.low in
-    (omega arith, (omega arith, (omega (arith, c.requires.room, c.requires.across, c.if-this-eq4.false), (low, (low, (low, low))))))
+    (omega arith, (omega arith, (omega (arith, c.requires.room, c.requires.across, c.if-this-eq4.false), (rows_handed 8 _ _ _ _ _ c.row_of_two-row.ensures).low)))
 
-pub returns-else-this-eq4-clause-value : goal.returns-else-this-eq4-clause-value
-returns-else-this-eq4-clause-value g c p x y lies =
+pub returns-else-this-eq4 : goal.returns-else-this-eq4
+returns-else-this-eq4 g c =
     let own : ℕ → List ℤ = λ i. residue_in c.args.residues.now (c.args.k + i) in
-    let row = c.row_of_two-row.result in
-    let to = c.row_of_two-row.ensures in
-    let two : g.row.ACROSS ≡ 2 = omega (arith, c.requires.across, c.if-this-eq4.false) in
-    c.add_rows-else-this-eq4.ensures.value p x y own (subst (λ (a : ℕ). LiesAt p x y (4 * a) 4 c.args.pixels.now c.args.at c.args.stride) two lies)
-    (sums_handed 8 row row row row own to.low to.low to.low to.low to.value)
-    ∙ ap (λ (a : ℕ). written p x y (4 * a) 4 (strip_sum p x y own)) (sym two)
+    let two : 2 ≡ g.row.ACROSS = omega (arith, c.requires.across, c.if-this-eq4.false) in
+    subst (λ (a : ℕ). IsAdded (4 * a) c.args.pixels.now c.add_rows-else-this-eq4.new.pixels c.args.at c.args.stride own) two (c.add_rows-else-this-eq4.ensures own (rows_handed 8 _ _ _ _ own c.row_of_two-row.ensures))

@@ -1,7 +1,7 @@
 -- The pairs before i have been added.
 use Rattle.std.proofs.Common.{◌≡◌, ℕ, ◌+◌, ◌*◌, length}
 use Rattle.vp_base.specs.Raster.{Raster}
-use Rattle.vp_recon.specs.Pairs.{LiesAt, strip_sum}
+use Rattle.vp_recon.specs.Sums.{LiesAt, strip_sum}
 use Rattle.vp_recon.specs.Parts.{residue_in}
 use Rattle.vp_recon.proofs.StripLemmas.{so_far, pair_at}
 use Rattle.vp_recon.proofs.add.add_strip.Given as goal

@@ -1,6 +1,7 @@
-use Rattle.std.proofs.Common.{◌∙◌, length, refl, arith}
-use Rattle.vp_recon.specs.Pairs.{block_sum}
-use Rattle.vp_recon.proofs.StripLemmas.{parts_none, strip_at, strip_room, strips_more, strips_all}
+use Rattle.std.proofs.Common.{◌∙◌, ◌+◌, ◌*◌, ℕ, List, length, refl, sym, subst, arith}
+use Rattle.vp_recon.specs.Sums.{IsAdded, block_sum}
+use Rattle.vp_recon.specs.Parts.{residue_in}
+use Rattle.vp_recon.proofs.StripLemmas.{parts_none, strip_at, strip_room, strips_more, parts_all}
 use Rattle.vp_recon.proofs.add.add_strips.Goals.{then-this-ne0, else-this-ne0}
 use Rattle.vp_recon.proofs.add.add_strips.Goals as goal
 
@@ -24,12 +25,12 @@ loop-i-preserved g c = record {
   pixels = λ p x y residue are lies.
       strips_more p x y g.row.ACROSS c.args.residues.now residue c.loop-i.i c.args.pixels.now c.loop-i.pixels c.if-this-ne0.pixels c.args.at c.args.stride c.loop-i.start are (omega arith) lies
       (c.loop-i.invariant.pixels p x y residue are lies) c.loop-i.invariant.start
-      (λ q u v here. elim c.if-this-ne0.branch [
-        | then-this-ne0 w ↦ w.pixels-is ∙ w.add_firsts.ensures.value q u v here
-        | else-this-ne0 w ↦ w.pixels-is ∙ w.add_strip.ensures.value q u v here
+      (elim c.if-this-ne0.branch [
+        | then-this-ne0 w ↦ subst (λ (ns : List ℕ). IsAdded (4 * g.row.ACROSS) c.loop-i.pixels ns c.loop-i.start c.args.stride (λ j. residue_in c.args.residues.now (g.row.ACROSS * c.loop-i.i + j))) (sym w.pixels-is) w.add_firsts.ensures
+        | else-this-ne0 w ↦ subst (λ (ns : List ℕ). IsAdded (4 * g.row.ACROSS) c.loop-i.pixels ns c.loop-i.start c.args.stride (λ j. residue_in c.args.residues.now (g.row.ACROSS * c.loop-i.i + j))) (sym w.pixels-is) w.add_strip.ensures
       ]);
 }
 
 pub returns-clause-value : goal.returns-clause-value
 returns-clause-value g c p x y residue are lies =
-    c.loop-i.invariant.pixels p x y residue are lies ∙ strips_all p x y g.row.ACROSS residue c.loop-i.i (omega arith)
+    c.loop-i.invariant.pixels p x y residue are lies ∙ parts_all p x y _ _ strip_at (block_sum g.row.ACROSS p x y residue) c.args.pixels.now c.args.at c.args.stride lies c.loop-i.i (λ r j rin jin. omega arith)

@@ -1,7 +1,7 @@
 -- The strips before i have been added.
 use Rattle.std.proofs.Common.{◌≡◌, ℕ, ◌+◌, ◌*◌, List, ℤ, length}
 use Rattle.vp_base.specs.Raster.{Raster}
-use Rattle.vp_recon.specs.Pairs.{LiesAt, block_sum}
+use Rattle.vp_recon.specs.Sums.{LiesAt, block_sum}
 use Rattle.vp_recon.specs.Parts.{HasResidues}
 use Rattle.vp_recon.proofs.StripLemmas.{so_far, strip_at}
 use Rattle.vp_recon.proofs.add.add_strips.Given as goal

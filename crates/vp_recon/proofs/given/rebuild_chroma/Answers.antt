@@ -1,16 +1,8 @@
 use Rattle.std.proofs.Common.{◌+◌, ◌*◌, get_or}
 use Rattle.vp_recon.specs.Residue.{chroma_residue}
 use Rattle.vp_recon.specs.Rebuilt.{residue_at}
-use Rattle.vp_recon.proofs.AddLemmas.{still_wide, still_high, summed_onto}
+use Rattle.vp_recon.proofs.PlaneLemmas.{summed_onto}
 use Rattle.vp_recon.proofs.given.rebuild_chroma.Goals as goal
-
-pub add_chroma-requires-clause-columns : goal.add_chroma-requires-clause-columns
-add_chroma-requires-clause-columns c =
-    still_wide c.args.picture.now c.write_block.new.self c.args.plane (8 * c.args.place.column) (8 * c.args.place.row) 8 _ c.requires.columns c.requires.rows c.write_block.ensures
-
-pub add_chroma-requires-clause-rows : goal.add_chroma-requires-clause-rows
-add_chroma-requires-clause-rows c =
-    still_high c.args.picture.now c.write_block.new.self c.args.plane (8 * c.args.place.column) (8 * c.args.place.row) 8 _ c.requires.columns c.requires.rows c.write_block.ensures
 
 pub returns : goal.returns
 returns c =

@@ -1,7 +1,5 @@
 use Rattle.std.proofs.Common.{◌∙◌, ℕ, ◌+◌, ◌*◌, pos, List, get_or, ap}
 use Rattle.vp_base.specs.Raster.{Raster}
-use Rattle.vp_base.specs.Image.{Image, with_plane}
-use Rattle.vp_base.proofs.BlockLemmas.{with_block_same}
 use Rattle.vp_intra.specs.Edges.{block}
 use Rattle.vp_intra.specs.Sub.{sub_pixel}
 use Rattle.vp_intra.proofs.BlockLemmas.{read_block}
@@ -11,17 +9,12 @@ use Rattle.vp_recon.proofs.macroblock.rebuild_sub.Goals as goal
 
 pub returns : goal.returns
 returns c =
-    let p : Image = c.args.picture.now in
     let x : ℕ = 4 * c.args.block.column in
     let y : ℕ = 4 * c.args.block.row in
-    let f = c.args.factors.now in
-    let own = residue c.args.levels.now.levels f.y_dc f.y_ac in
-    c.store_subblock.ensures
-    ∙ ap (with_plane p 0) (with_block_same p.luma x y 4 4
-    (λ r j. get_or c.with_residue-pixels.result (r * 4 + j) 0)
-    (λ r j. summed (sub_pixel c.args.mode p.luma x y r j) (get_or own (4 * r + j) (pos 0)))
+    let own = residue c.args.levels.now.levels c.args.factors.now.y_dc c.args.factors.now.y_ac in
+    c.store_subblock.ensures _
     (λ r j rin jin.
     c.with_residue-pixels.ensures r j rin jin
     ∙ ap (λ (q : ℕ). summed q (get_or own (4 * r + j) (pos 0)))
     (ap (λ (ps : List ℕ). get_or ps (r * 4 + j) 0) (c.predict_sub-prediction.ensures ∙ ap (λ (s : Raster). block 4 (sub_pixel c.args.mode s x y)) c.plane-3.ensures)
-    ∙ read_block 4 (sub_pixel c.args.mode p.luma x y) r j rin jin)))
+    ∙ read_block 4 (sub_pixel c.args.mode c.args.picture.now.luma x y) r j rin jin))

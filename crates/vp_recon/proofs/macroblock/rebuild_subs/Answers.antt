@@ -1,45 +1,38 @@
 use Rattle.std.proofs.Common.{◌≡◌, ◌∙◌, ℕ, ◌+◌, get_or, sym, refl, ap, arith}
 use Rattle.vp_base.specs.declared.place.Place.{Place}
+use Rattle.vp_base.specs.Raster.{Raster}
 use Rattle.vp_base.specs.Image.{Image, with_plane}
 use Rattle.vp_base.specs.Near.{block_place}
-use Rattle.vp_base.specs.Over.{over}
-use Rattle.vp_base.proofs.OverLemmas.{over-none, over-more}
+use Rattle.vp_base.proofs.OverLemmas.{over-none, over-next}
 use Rattle.vp_tables.specs.declared.modes.SubMode.TheVariants as sub_is
 use Rattle.vp_modes.specs.Entry.{Modes}
 use Rattle.vp_tokens.specs.Block.{Block}
 use Rattle.vp_tokens.specs.Blocks.{block_of}
-use Rattle.vp_quant.specs.declared.factors.Factors.{Factors}
-use Rattle.vp_recon.specs.Predictor.{Macroblock, Intra, macroblock_of}
-use Rattle.vp_recon.specs.Rebuilt.{sub_step, with_sub}
+use Rattle.vp_recon.specs.Rebuilt.{with_sub}
 use Rattle.vp_recon.specs.Residue.{residue}
-use Rattle.vp_recon.proofs.LumaLemmas.{luma_by_subs, sub_alone}
+use Rattle.vp_recon.proofs.LumaLemmas.{first_subs, subs_alone}
 use Rattle.vp_recon.proofs.macroblock.rebuild_subs.Goals as goal
 
 pub loop-k-init : goal.loop-k-init
-loop-k-init c = record {
-  pixels = ap (with_plane c.args.picture.now 0) (sym (over-none (sub_step (macroblock_of (Intra c.args.modes.now) c.args.tokens.now c.args.factors.now) c.args.place) c.args.picture.now.luma));
-  wide = refl;
-  high = refl;
-}
+loop-k-init c = record { pixels = ap (with_plane c.args.picture.now 0) (sym (over-none _ c.args.picture.now.luma)); wide = refl; high = refl }
 
 pub loop-k-preserved : goal.loop-k-preserved
 loop-k-preserved c =
     let p : Image = c.args.picture.now in
     let now : Image = c.loop-k.picture in
-    let m : Macroblock = macroblock_of (Intra c.args.modes.now) c.args.tokens.now c.args.factors.now in
+    let f = c.args.factors.now in
     let k : ℕ = c.loop-k.k in
-    let f : Factors = c.args.factors.now in
     let here : Place = block_place 4 c.args.place c.loop-k.k in
     let own = residue (block_of c.args.tokens.now (1 + c.loop-k.k)).levels f.y_dc f.y_ac in
-    let is : c.rebuild_sub.new.picture ≡ with_plane now 0 (sub_step m c.args.place k now.luma) =
+    let step : Raster → Raster = λ q. with_sub q here (get_or c.args.modes.now.subs k sub_is.Dc) own in
+    let is : c.rebuild_sub.new.picture ≡ with_plane now 0 (step now.luma) =
     c.rebuild_sub.ensures
     ∙ ap (λ (b : Block). with_plane now 0 (with_sub now.luma here (get_or c.modes.inside.subs k sub_is.Dc) (residue b.levels f.y_dc f.y_ac))) c.block_of-levels.ensures
-    ∙ ap (λ (a : Modes). with_plane now 0 (with_sub now.luma here (get_or a.subs k sub_is.Dc) own)) c.modes.view_is
-    ∙ ap (with_plane now 0) (sub_alone c.args.modes.now c.args.tokens.now f c.args.place now.luma k c.requires.subs) in
+    ∙ ap (λ (a : Modes). with_plane now 0 (with_sub now.luma here (get_or a.subs k sub_is.Dc) own)) c.modes.view_is in
     record {
       pixels = is
-          ∙ ap (λ (i : Image). with_plane i 0 (sub_step m c.args.place k i.luma)) c.loop-k.invariant.pixels
-          ∙ ap (with_plane p 0) (sym (over-more k (sub_step m c.args.place) p.luma));
+          ∙ ap (λ (i : Image). with_plane i 0 (step i.luma)) c.loop-k.invariant.pixels
+          ∙ ap (with_plane p 0) (over-next k _ p.luma (first_subs c.args.modes.now c.args.tokens.now f c.args.place k p.luma) refl);
       wide = ap (λ (i : Image). i.luma.width) is ∙ c.loop-k.invariant.wide;
       high = ap (λ (i : Image). i.luma.height) is ∙ c.loop-k.invariant.high;
     }
@@ -47,8 +40,7 @@ loop-k-preserved c =
 pub returns : goal.returns
 returns c =
     let p : Image = c.args.picture.now in
-    let m : Macroblock = macroblock_of (Intra c.args.modes.now) c.args.tokens.now c.args.factors.now in
     let all : c.loop-k.k ≡ 16 = omega arith in
     c.loop-k.invariant.pixels
-    ∙ ap (λ n. with_plane p 0 (over n (sub_step m c.args.place) p.luma)) all
-    ∙ ap (with_plane p 0) (luma_by_subs m c.args.place p.luma c.requires.subs)
+    ∙ ap (λ n. with_plane p 0 (first_subs c.args.modes.now c.args.tokens.now c.args.factors.now c.args.place n p.luma)) all
+    ∙ ap (with_plane p 0) (sym (subs_alone c.args.modes.now c.args.tokens.now c.args.factors.now c.args.place p.luma c.requires.subs))

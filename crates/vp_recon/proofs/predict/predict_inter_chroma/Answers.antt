@@ -1,4 +1,4 @@
-use Rattle.std.proofs.Common.{◌≡◌, ◌∙◌, ◌*◌, ℕ, false, sym, ap, subst, arith}
+use Rattle.std.proofs.Common.{◌≡◌, ◌∙◌, ◌*◌, ℕ, false, sym, ap, subst}
 use Rattle.vp_base.specs.Raster.{Raster}
 use Rattle.vp_base.specs.Block.{with_block}
 use Rattle.vp_base.specs.Image.{Image, plane_of, with_plane}
@@ -8,23 +8,10 @@ use Rattle.vp_motion.specs.Vector.{MacroblockMotion, AreOne}
 use Rattle.vp_inter.specs.declared.vector.PlaneVector.{PlaneVector}
 use Rattle.vp_inter.specs.Inter.{inter_pixel}
 use Rattle.vp_recon.specs.Prediction.{chroma_moved, moved_pixel}
+use Rattle.vp_recon.specs.Sums.{vector_at}
 use Rattle.vp_recon.proofs.Parts.{sub_at, sub_below}
-use Rattle.vp_recon.proofs.MovedLemmas.{moved_alike, chroma_one}
+use Rattle.vp_recon.proofs.MovedLemmas.{moved_same, moved_alike, chroma_one}
 use Rattle.vp_recon.proofs.predict.predict_inter_chroma.Goals as goal
-
-pub predict_four-requires-then-is_split-clause-columns : goal.predict_four-requires-then-is_split-clause-columns
-predict_four-requires-then-is_split-clause-columns c =
-    let aligned = c.dim.ensures.aligned in
-    let same : c.predict_four.new.picture.v.width ≡ c.args.picture.now.v.width =
-    ap (λ (i : Image). i.v.width) (c.predict_four.ensures (chroma_moved c.args.version c.args.motion.now) c.chroma_vectors-vectors.ensures.value) in
-    omega (arith, aligned, same)
-
-pub predict_four-requires-then-is_split-clause-rows : goal.predict_four-requires-then-is_split-clause-rows
-predict_four-requires-then-is_split-clause-rows c =
-    let aligned = c.dim.ensures.aligned in
-    let same : c.predict_four.new.picture.v.height ≡ c.args.picture.now.v.height =
-    ap (λ (i : Image). i.v.height) (c.predict_four.ensures (chroma_moved c.args.version c.args.motion.now) c.chroma_vectors-vectors.ensures.value) in
-    omega (arith, aligned, same)
 
 pub returns-then-is_split : goal.returns-then-is_split
 returns-then-is_split c =
@@ -33,15 +20,15 @@ returns-then-is_split c =
     let x : ℕ = 8 * c.args.place.column in
     let y : ℕ = 8 * c.args.place.row in
     let moved = chroma_moved c.args.version c.args.motion.now in
-    let step : Raster → Raster → Raster = λ from s. with_block s x y 8 8 (moved_pixel c.args.version from x y 2 moved) in
-    c.predict_four-then-is_split.ensures moved c.chroma_vectors-vectors.ensures.value
+    let vectors = c.chroma_vectors-vectors.result in
+    let step : Raster → Raster → Raster = λ from s. with_block s x y 8 8 (moved_pixel c.args.version from x y 2 (vector_at vectors)) in
+    let each : (from s : Raster) → step from s ≡ with_block s x y 8 8 (moved_pixel c.args.version from x y 2 moved) =
+    λ from s. with_block_same s x y 8 8 (moved_pixel c.args.version from x y 2 (vector_at vectors)) (moved_pixel c.args.version from x y 2 moved)
+    (λ r j. moved_same c.args.version from x y vectors moved r j c.chroma_vectors-vectors.ensures.value) in
+    c.predict_four-then-is_split.ensures
     ∙ ap (λ (from : Raster). with_plane now 2 (step from (plane_of now 2))) c.plane-v.ensures
-    ∙ ap (λ (i : Image). with_plane i 2 (step c.args.reference.now.v (plane_of i 2)))
-    (c.predict_four.ensures moved c.chroma_vectors-vectors.ensures.value
-    ∙ ap (λ (from : Raster). with_plane p 1 (step from p.u)) c.plane-u.ensures)
-
-pub whole_chroma_vector-vector-requires : goal.whole_chroma_vector-vector-requires
-whole_chroma_vector-vector-requires c = ap (λ (a : MacroblockMotion). is_split a.mode) (sym c.motion.view_is) ∙ sym c.is_split.ensures ∙ c.if-is_split.false
+    ∙ ap (λ (i : Image). with_plane i 2 (step c.args.reference.now.v (plane_of i 2))) (c.predict_four.ensures ∙ ap (λ (from : Raster). with_plane p 1 (step from p.u)) c.plane-u.ensures)
+    ∙ cc (each c.args.reference.now.u p.u, each c.args.reference.now.v p.v)
 
 pub returns-else-is_split : goal.returns-else-is_split
 returns-else-is_split c =
@@ -53,12 +40,9 @@ returns-else-is_split c =
     let vector : PlaneVector = c.whole_chroma_vector-vector.result in
     let whole : is_split c.args.motion.now.mode ≡ false = ap (λ (a : MacroblockMotion). is_split a.mode) (sym c.motion.view_is) ∙ sym c.is_split.ensures ∙ c.if-is_split.false in
     let one : AreOne e.mode e.vectors = subst (λ (a : MacroblockMotion). AreOne a.mode a.vectors) c.motion.view_is c.motion.invariant in
-    let step : Raster → Raster → Raster = λ ref s. with_block s x y 8 8 (moved_pixel c.args.version ref x y 2 moved) in
-    let as_one : (ref s : Raster) → with_block s x y 8 8 (inter_pixel c.args.version ref x y vector) ≡ step ref s =
-    λ ref s. with_block_same s x y 8 8 (inter_pixel c.args.version ref x y vector) (moved_pixel c.args.version ref x y 2 moved)
+    let each : (from s : Raster) → with_block s x y 8 8 (inter_pixel c.args.version from x y vector) ≡ with_block s x y 8 8 (moved_pixel c.args.version from x y 2 moved) =
+    λ from s. with_block_same s x y 8 8 (inter_pixel c.args.version from x y vector) (moved_pixel c.args.version from x y 2 moved)
     (λ r j rin jin.
-    ap (λ (v : PlaneVector). inter_pixel c.args.version ref x y v r j) c.whole_chroma_vector-vector.ensures
-    ∙ moved_alike c.args.version ref x y 2 moved r j (chroma_one c.args.version e (sub_at 2 r j) one whole (sub_below 2 r j rin jin))) in
-    c.predict_into_chroma.ensures
-    ∙ ap (λ (q : Raster). record p { u = q; v = with_block p.v x y 8 8 (inter_pixel c.args.version c.args.reference.now.v x y vector) }) (as_one c.args.reference.now.u p.u)
-    ∙ ap (λ (q : Raster). record p { u = step c.args.reference.now.u p.u; v = q }) (as_one c.args.reference.now.v p.v)
+    ap (λ (v : PlaneVector). inter_pixel c.args.version from x y v r j) c.whole_chroma_vector-vector.ensures
+    ∙ moved_alike c.args.version from x y 2 moved r j (chroma_one e one whole c.args.version (sub_at 2 r j) (sub_below 2 r j rin jin))) in
+    c.predict_into_chroma.ensures ∙ cc (each c.args.reference.now.u p.u, each c.args.reference.now.v p.v)

@@ -1,6 +1,5 @@
 use Rattle.std.proofs.Common.{◌≡◌, ◌∙◌, ◌*◌, ℕ, false, sym, ap, subst}
 use Rattle.vp_base.specs.Raster.{Raster}
-use Rattle.vp_base.specs.Block.{with_block}
 use Rattle.vp_base.specs.Image.{Image, with_plane}
 use Rattle.vp_base.proofs.BlockLemmas.{with_block_same}
 use Rattle.vp_tables.specs.Modes.{is_split}
@@ -11,14 +10,6 @@ use Rattle.vp_recon.specs.Prediction.{luma_moved, moved_pixel}
 use Rattle.vp_recon.proofs.Parts.{sub_at, sub_below}
 use Rattle.vp_recon.proofs.MovedLemmas.{moved_alike, luma_one}
 use Rattle.vp_recon.proofs.predict.predict_inter_luma.Goals as goal
-
-pub returns-then-is_split : goal.returns-then-is_split
-returns-then-is_split c =
-    let p : Image = c.args.picture.now in
-    let x : ℕ = 16 * c.args.place.column in
-    let y : ℕ = 16 * c.args.place.row in
-    c.predict_quarters.ensures
-    ∙ ap (λ (s : Raster). with_plane p 0 (with_block p.luma x y 16 16 (moved_pixel c.args.version s x y 4 (luma_moved c.args.motion.now)))) c.plane-from.ensures
 
 pub returns-else-is_split : goal.returns-else-is_split
 returns-else-is_split c =
@@ -35,4 +26,4 @@ returns-else-is_split c =
     (λ r j rin jin.
     ap (λ (s : Raster). inter_pixel c.args.version s x y c.luma_vector_of-vector.result r j) c.plane-from.ensures
     ∙ ap (λ (v : PlaneVector). inter_pixel c.args.version ref x y v r j) c.luma_vector_of-vector.ensures
-    ∙ moved_alike c.args.version ref x y 4 (luma_moved e) r j (luma_one e (sub_at 4 r j) one whole (sub_below 4 r j rin jin))))
+    ∙ moved_alike c.args.version ref x y 4 (luma_moved e) r j (luma_one e one whole (sub_at 4 r j) (sub_below 4 r j rin jin))))

@@ -5,8 +5,7 @@ use Rattle.vp_transform.proofs.Sizes.{fits-below}
 use Rattle.vp_transform.proofs.Words.{coded, read}
 use Rattle.vp_transform.proofs.Eights.{coded16}
 use Rattle.vp_recon.specs.Rebuilt.{summed}
-use Rattle.vp_recon.proofs.SumLemmas.{even_is}
-use Rattle.vp_recon.proofs.PairLemmas.{short_coded, held_sum}
+use Rattle.vp_recon.proofs.SumLemmas.{even_is, short_coded, held_sum}
 use Rattle.vp_recon.proofs.residue.even_number.Goals as goal
 
 pub returns-clause-value : goal.returns-clause-value

@@ -4,8 +4,7 @@ use mir.Val.{SFits}
 use Rattle.vp_lanes.proofs.Shape.{signed_lanes, lane_fits}
 use Rattle.vp_transform.proofs.Eights.{handed16, passed16}
 use Rattle.vp_recon.specs.Rebuilt.{summed}
-use Rattle.vp_recon.proofs.SumLemmas.{lane_kept}
-use Rattle.vp_recon.proofs.PairLemmas.{clamped_sum, clamped_low}
+use Rattle.vp_recon.proofs.SumLemmas.{lane_kept, clamped_sum, clamped_low}
 use Rattle.vp_recon.proofs.residue.held.Goals as goal
 
 pub returns-clause-value : goal.returns-clause-value

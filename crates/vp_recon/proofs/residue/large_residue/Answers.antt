@@ -1,21 +1,18 @@
-use Rattle.std.proofs.Common.{◌≡◌, ◌∙◌, ◌^◌, ◌≤◌, ℤ, pos, List, set, get_or, unsigned_abs, ap, subst, arith}
+use Rattle.std.proofs.Common.{◌∙◌, ◌^◌, ◌≤◌, ℤ, pos, List, set, get_or, unsigned_abs, ap, subst, arith}
 use Rattle.vp_transform.proofs.Bounds.{idct_fits}
-use Rattle.vp_transform.proofs.Words.{coded, read}
-use Rattle.vp_transform.proofs.Sizes.{fits-below}
+use Rattle.vp_transform.proofs.Words.{coded}
 use Rattle.vp_transform.specs.Transform.{idct}
 use Rattle.vp_tokens.specs.Block.{Block}
 use Rattle.vp_quant.specs.Quant.{dequantised}
 use Rattle.vp_recon.specs.Sums.{HasEqualSums}
 use Rattle.vp_recon.proofs.SumLemmas.{cut_kept}
-use Rattle.vp_recon.proofs.ResidueLemmas.{within_set}
+use Rattle.vp_recon.proofs.ResidueLemmas.{exact, within_set}
 use Rattle.vp_recon.proofs.residue.large_residue.Goals as goal
 
 pub idct_cut-requires : goal.idct_cut-requires
 idct_cut-requires c =
     let dc : ℤ = c.args.first in
-    let exact : coded dc ≡ dc = read dc (fits-below dc (omega (arith, c.requires))) in
-    let same : unsigned_abs (coded dc) ≡ unsigned_abs dc = ap unsigned_abs exact in
-    let small : unsigned_abs (coded dc) ≤ 2 ^ 40 = omega (arith, same, c.requires) in
+    let small : unsigned_abs (coded dc) ≤ 2 ^ 40 = omega (arith, ap unsigned_abs (exact dc c.requires), c.requires) in
     let coefficients : List ℤ = c.dequant-coefficients.result in
     idct_fits (2 ^ 40) (set coefficients 0 (coded dc))
     (within_set (2 ^ 40) coefficients (coded dc)
@@ -25,11 +22,10 @@ idct_cut-requires c =
 pub returns-clause-value : goal.returns-clause-value
 returns-clause-value c =
     let dc : ℤ = c.args.first in
-    let exact : coded dc ≡ dc = read dc (fits-below dc (omega (arith, c.requires))) in
     let coefficients : List ℤ = c.dequant-coefficients.result in
     c.held.ensures.value (idct (set (dequantised c.args.block.now.levels 0 c.args.ac) 0 dc))
     (subst (λ (zs : List ℤ). HasEqualSums c.idct_cut.result (idct zs))
-    (ap (λ (z : ℤ). set coefficients 0 z) exact ∙ ap (λ (zs : List ℤ). set zs 0 dc) c.dequant-coefficients.ensures.value
+    (ap (λ (z : ℤ). set coefficients 0 z) (exact dc c.requires) ∙ ap (λ (zs : List ℤ). set zs 0 dc) c.dequant-coefficients.ensures.value
     ∙ ap (λ (b : Block). set (dequantised b.levels 0 c.args.ac) 0 dc) c.block.view_is)
     (cut_kept c.idct_cut.result (idct (set coefficients 0 (coded dc)))
     c.idct_cut.ensures))

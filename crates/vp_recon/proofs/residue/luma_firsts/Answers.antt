@@ -1,13 +1,12 @@
-use Rattle.std.proofs.Common.{◌≡◌, ◌∙◌, ◌^◌, ◌≤◌, ◌*ℤ◌, ◌∷◌, ℤ, pos, replicate, get_or, unsigned_abs, sym, ap, subst, arith}
+use Rattle.std.proofs.Common.{◌≡◌, ◌∙◌, ◌^◌, ◌≤◌, ◌*ℤ◌, ℤ, pos, replicate, get_or, unsigned_abs, sym, ap, subst, arith}
 use Rattle.vp_transform.proofs.Bounds.{iwht_fits}
-use Rattle.vp_transform.proofs.Words.{coded, read}
-use Rattle.vp_transform.proofs.Sizes.{fits-below}
+use Rattle.vp_transform.proofs.Words.{coded}
 use Rattle.vp_transform.specs.Transform.{iwht}
 use Rattle.vp_quant.specs.Quant.{dequantised}
 use Rattle.vp_quant.specs.declared.factors.Factors.{Factors}
 use Rattle.vp_tokens.specs.Block.{Block, IsBlock}
 use Rattle.vp_recon.specs.Residue.{luma_firsts}
-use Rattle.vp_recon.proofs.ResidueLemmas.{first_alone, own_first}
+use Rattle.vp_recon.proofs.ResidueLemmas.{exact, first_alone, own_scaled}
 use Rattle.vp_recon.proofs.residue.luma_firsts.Goals as goal
 
 pub returns-then-block-le1-clause-value : goal.returns-then-block-le1-clause-value
@@ -18,14 +17,12 @@ returns-then-block-le1-clause-value c =
     let is : IsBlock c.block_of-block.result.now = subst IsBlock c.block.view_is c.block.invariant in
     let few : c.block_of-block.result.now.tokens ≤ 1 = let e : c.block.inside.tokens ≡ c.block_of-block.result.now.tokens = ap (λ (a : Block). a.tokens) c.block.view_is in omega (arith, e, c.if-block-le1.true) in
     let first : ℤ = c.scaled_dc.result in
-    let exact : coded first ≡ first = read first (fits-below first (omega (arith, c.scaled_dc.ensures.within))) in
-    let own : ℤ = get_or b.levels 0 (pos 0) *ℤ pos f.y2_dc in
+    let same : coded first ≡ first = exact first (omega (arith, c.scaled_dc.ensures.within)) in
     let all : ℤ = c.iwht_of_first.result in
-    let whole : coded all ≡ all = read all (fits-below all (omega (arith, ap unsigned_abs exact, c.scaled_dc.ensures.within, c.iwht_of_first.ensures.within))) in
-    ap (λ (z : ℤ). replicate 16 z) whole
+    ap (λ (z : ℤ). replicate 16 z) (exact all (omega (arith, ap unsigned_abs same, c.scaled_dc.ensures.within, c.iwht_of_first.ensures.within)))
     ∙ sym c.iwht_of_first.ensures.value
-    ∙ ap (λ (z : ℤ). iwht (z ∷ replicate 15 (pos 0))) (exact ∙ c.scaled_dc.ensures.value ∙ ap (λ (a : Block). get_or a.levels 0 (pos 0) *ℤ pos f.y2_dc) c.block.view_is)
-    ∙ ap iwht (first_alone b is own f.y2_ac few ∙ own_first b.levels f.y2_dc f.y2_ac)
+    ∙ ap iwht (first_alone b is (coded first) f.y2_ac few
+    ∙ own_scaled b.levels f.y2_dc f.y2_ac first (c.scaled_dc.ensures.value ∙ ap (λ (a : Block). get_or a.levels 0 (pos 0) *ℤ pos f.y2_dc) c.block.view_is) c.scaled_dc.ensures.within)
     ∙ ap (λ (a : Block). iwht (dequantised a.levels f.y2_dc f.y2_ac)) c.block_of-block.ensures
 
 pub iwht-requires : goal.iwht-requires

@@ -1,13 +1,11 @@
 use Rattle.std.proofs.Common.{◌≡◌, ◌∙◌, ℕ, ◌+◌, ◌*◌, ◌<◌, ℤ, pos, List, get_or, sym, ap, subst, refl, arith}
-use Rattle.std.proofs.lemmas.List.{get_or-replicate}
 use Rattle.vp_tokens.specs.Block.{Block, IsBlock}
 use Rattle.vp_transform.proofs.Eights.{passed16}
 use Rattle.vp_recon.specs.Residue.{residue}
 use Rattle.vp_recon.specs.Rebuilt.{summed}
 use Rattle.vp_lanes.proofs.Bytes.{byte_lane}
-use Rattle.vp_recon.proofs.SumLemmas.{nothing_added}
-use Rattle.vp_recon.proofs.PairLemmas.{low_handed}
-use Rattle.vp_recon.proofs.ResidueLemmas.{no_residue}
+use Rattle.vp_recon.proofs.SumLemmas.{nothing_added, low_handed}
+use Rattle.vp_recon.proofs.ResidueLemmas.{no_residue, nothing_of}
 use Rattle.vp_recon.proofs.residue.with_residue.Goals as goal
 
 pub returns-then-block-eq0 : goal.returns-then-block-eq0
@@ -16,7 +14,7 @@ returns-then-block-eq0 c =
     let is : IsBlock c.args.block.now = subst IsBlock c.block.view_is c.block.invariant in
     let none : c.args.block.now.tokens ≡ 0 = ap (λ (b : Block). b.tokens) (sym c.block.view_is) ∙ c.if-block-eq0.true in
     nothing_added c.args.prediction c.args.prediction (residue b.levels c.args.factors.now.y_dc c.args.factors.now.y_ac)
-    (λ i below. ap (λ (zs : List ℤ). get_or zs i (pos 0)) (no_residue b is c.args.factors.now.y_dc c.args.factors.now.y_ac none) ∙ get_or-replicate 16 i (pos 0) (pos 0) below)
+    (nothing_of _ (no_residue b is c.args.factors.now.y_dc c.args.factors.now.y_ac none))
     refl (λ i below. let b = byte_lane c.args.prediction c.fits-prediction i below in omega arith)
 
 pub returns : goal.returns

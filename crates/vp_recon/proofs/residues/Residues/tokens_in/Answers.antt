@@ -4,7 +4,7 @@ use Rattle.std.proofs.lemmas.Nat.{le_or_l, le_or_r}
 use Rattle.vp_tokens.specs.Block.{Block, IsBlock}
 use Rattle.vp_tokens.specs.Blocks.{block_of}
 use Rattle.vp_recon.proofs.ResidueLemmas.{first_alone, nothing_in}
-use Rattle.vp_recon.proofs.residue.Residues.tokens_in.Goals as goal
+use Rattle.vp_recon.proofs.residues.Residues.tokens_in.Goals as goal
 
 pub loop-i-preserved : goal.loop-i-preserved
 loop-i-preserved c j below =

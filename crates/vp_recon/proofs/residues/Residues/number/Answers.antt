@@ -1,8 +1,8 @@
 use Rattle.std.proofs.Common.{◌∙◌, ap}
 use Rattle.vp_recon.specs.Rebuilt.{summed}
-use Rattle.vp_recon.proofs.PairLemmas.{short_coded}
+use Rattle.vp_recon.proofs.SumLemmas.{short_coded}
 use Rattle.vp_recon.proofs.ResidueLemmas.{alone_sum}
-use Rattle.vp_recon.proofs.residue.Residues.number.Goals as goal
+use Rattle.vp_recon.proofs.residues.Residues.number.Goals as goal
 
 pub returns-clause-value : goal.returns-clause-value
 returns-clause-value c i pixel inside byte =
