@@ -3,58 +3,51 @@ use Rattle.std.proofs.Common.{◌≡◌, ◌∙◌, ℕ, zero, suc, ◌+◌, ◌
 use Rattle.std.proofs.lemmas.Bool.{cases_lt}
 use Rattle.vp_base.specs.Raster.{Raster}
 use Rattle.vp_base.specs.Block.{IsWhole}
-use Rattle.vp_base.specs.Image.{Image, macroblocks}
+use Rattle.vp_base.specs.Image.{Image}
 use Rattle.vp_base.specs.Rows.{IsSameAbove, IsSameFrom, AreSameAbove, AreSameFrom}
 use Rattle.vp_base.specs.Over.{over}
 use Rattle.vp_base.proofs.BlockLemmas.{same_raster}
 use Rattle.vp_base.proofs.OverLemmas.{over-holds}
 use Rattle.vp_decode.specs.RowBands.{IsShaped, IsAbove, IsBelow}
 
-record IsOf (w h : ℕ) (p : Raster) : Type 0 where
-  wide : p.width ≡ w
-  high : p.height ≡ h
-
 -- ---- work above a row and work from it on may change places
 
-joined : (k w h : ℕ) (p q r s : Raster) → IsOf w h p → IsOf w h q → IsWhole p → IsWhole q
+-- pictures whose planes have the same sizes
+record AreAlike (p q : Image) : Type 0 where
+  width_is : p.width ≡ q.width
+  height_is : p.height ≡ q.height
+  luma : (p.luma.width ≡ q.luma.width) × (p.luma.height ≡ q.luma.height)
+  u : (p.u.width ≡ q.u.width) × (p.u.height ≡ q.u.height)
+  v : (p.v.width ≡ q.v.width) × (p.v.height ≡ q.v.height)
+
+alike : (width height : ℕ) (p q : Image) → IsShaped width height p → IsShaped width height q → AreAlike p q
+alike width height p q a b =
+    let w : p.width ≡ q.width = a.width_is ∙ sym b.width_is in
+    let h : p.height ≡ q.height = a.height_is ∙ sym b.height_is in
+    let c = a.aligned in
+    let d = b.aligned in
+    record { width_is = w; height_is = h; luma = (cc, cc); u = (cc, cc); v = (cc, cc) }
+
+joined : (k : ℕ) (p q r s : Raster) → (p.width ≡ q.width) × (p.height ≡ q.height) → IsWhole p → IsWhole q
     → IsSameAbove k p r → IsSameAbove k q r → IsSameFrom k p s → IsSameFrom k q s → p ≡ q
-joined k w h p q r s ps qs pw qw pa qa pf qf =
-    same_raster p q (ps.wide ∙ sym qs.wide) (ps.high ∙ sym qs.high) pw qw (λ x y xin yin.
-    let xq : x < q.width = omega (arith, ps.wide, qs.wide) in
-    let yq : y < q.height = omega (arith, ps.high, qs.high) in
+joined k p q r s size pw qw pa qa pf qf =
+    same_raster p q size.0 size.1 pw qw (λ x y xin yin.
+    let xq : x < q.width = omega (arith, size.0) in
+    let yq : y < q.height = omega (arith, size.1) in
     elim (cases_lt y k) [
       | inl above ↦ pa x y xin yin above ∙ sym (qa x y xq yq above)
       | inr below ↦ pf x y xin yin below ∙ sym (qf x y xq yq below)
     ])
 
-luma_of : (width height : ℕ) (p : Image) → IsShaped width height p → IsOf (16 * macroblocks width) (16 * macroblocks height) p.luma
-luma_of width height p s = record {
-  wide = s.aligned.0.0 ∙ ap (λ (n : ℕ). 16 * macroblocks n) s.width_is;
-  high = s.aligned.0.1 ∙ ap (λ (n : ℕ). 16 * macroblocks n) s.height_is;
-}
-
-u_of : (width height : ℕ) (p : Image) → IsShaped width height p → IsOf (8 * macroblocks width) (8 * macroblocks height) p.u
-u_of width height p s = record {
-  wide = s.aligned.1.0 ∙ ap (λ (n : ℕ). 8 * macroblocks n) s.width_is;
-  high = s.aligned.1.1 ∙ ap (λ (n : ℕ). 8 * macroblocks n) s.height_is;
-}
-
-v_of : (width height : ℕ) (p : Image) → IsShaped width height p → IsOf (8 * macroblocks width) (8 * macroblocks height) p.v
-v_of width height p s = record {
-  wide = s.aligned.2.0 ∙ ap (λ (n : ℕ). 8 * macroblocks n) s.width_is;
-  high = s.aligned.2.1 ∙ ap (λ (n : ℕ). 8 * macroblocks n) s.height_is;
-}
-
 -- two pictures that are alike above a row and from it on
 same_picture : (width height a b : ℕ) (p q r s : Image) → IsShaped width height p → IsShaped width height q
     → AreSameAbove a b p r → AreSameAbove a b q r → AreSameFrom a b p s → AreSameFrom a b q s → p ≡ q
 same_picture width height a b p q r s sp sq pa qa pf qf =
-    let w : p.width ≡ q.width = sp.width_is ∙ sym sq.width_is in
-    let h : p.height ≡ q.height = sp.height_is ∙ sym sq.height_is in
-    let luma : p.luma ≡ q.luma = joined a _ _ p.luma q.luma r.luma s.luma (luma_of width height p sp) (luma_of width height q sq) sp.whole.0 sq.whole.0 pa.luma qa.luma pf.luma qf.luma in
-    let u : p.u ≡ q.u = joined b _ _ p.u q.u r.u s.u (u_of width height p sp) (u_of width height q sq) sp.whole.1 sq.whole.1 pa.u qa.u pf.u qf.u in
-    let v : p.v ≡ q.v = joined b _ _ p.v q.v r.v s.v (v_of width height p sp) (v_of width height q sq) sp.whole.2 sq.whole.2 pa.v qa.v pf.v qf.v in
-    λ i. record { width = w i; height = h i; luma = luma i; u = u i; v = v i }
+    let size = alike width height p q sp sq in
+    let luma = joined a p.luma q.luma r.luma s.luma size.luma sp.whole.0 sq.whole.0 pa.luma qa.luma pf.luma qf.luma in
+    let u = joined b p.u q.u r.u s.u size.u sp.whole.1 sq.whole.1 pa.u qa.u pf.u qf.u in
+    let v = joined b p.v q.v r.v s.v size.v sp.whole.2 sq.whole.2 pa.v qa.v pf.v qf.v in
+    λ i. record { width = size.width_is i; height = size.height_is i; luma = luma i; u = u i; v = v i }
 
 apart : (width height k : ℕ) (f g : Image → Image) → IsAbove width height k f → IsBelow width height k g → (p : Image) → IsShaped width height p → g (f p) ≡ f (g p)
 apart width height k f g a b p s =
@@ -107,16 +100,17 @@ window_end (suc k) F u x y before none one =
 
 -- ---- steps one after another
 
-above_then : (k w h : ℕ) (p q r : Raster) → IsOf w h p → IsOf w h q → IsSameAbove k p q → IsSameAbove k q r → IsSameAbove k p r
-above_then k w h p q r ps qs pq qr = λ u v uin vin less.
-    pq u v uin vin less ∙ qr u v (let i : u < q.width = omega (arith, ps.wide, qs.wide) in i) (let j : v < q.height = omega (arith, ps.high, qs.high) in j) less
+above_then : (k : ℕ) (p q r : Raster) → (p.width ≡ q.width) × (p.height ≡ q.height) → IsSameAbove k p q → IsSameAbove k q r → IsSameAbove k p r
+above_then k p q r size pq qr = λ u v uin vin less. pq u v uin vin less ∙ qr u v (omega (arith, size.0)) (omega (arith, size.1)) less
 
 all_above_then : (width height a b : ℕ) (p q r : Image) → IsShaped width height p → IsShaped width height q → AreSameAbove a b p q → AreSameAbove a b q r → AreSameAbove a b p r
-all_above_then width height a b p q r sp sq pq qr = record {
-  luma = above_then a _ _ p.luma q.luma r.luma (luma_of width height p sp) (luma_of width height q sq) pq.luma qr.luma;
-  u = above_then b _ _ p.u q.u r.u (u_of width height p sp) (u_of width height q sq) pq.u qr.u;
-  v = above_then b _ _ p.v q.v r.v (v_of width height p sp) (v_of width height q sq) pq.v qr.v;
-}
+all_above_then width height a b p q r sp sq pq qr =
+    let size = alike width height p q sp sq in
+    record {
+      luma = above_then a p.luma q.luma r.luma size.luma pq.luma qr.luma;
+      u = above_then b p.u q.u r.u size.u pq.u qr.u;
+      v = above_then b p.v q.v r.v size.v pq.v qr.v;
+    }
 
 same_above : (a b : ℕ) (p : Image) → AreSameAbove a b p p
 same_above a b p = record { luma = λ u v uin vin less. refl; u = λ u v uin vin less. refl; v = λ u v uin vin less. refl }

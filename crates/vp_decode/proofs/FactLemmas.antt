@@ -19,72 +19,44 @@ use Rattle.vp_decode.specs.Frame.{picture_of}
 use Rattle.vp_decode.specs.FrameFacts.{facts_of, facts_in, frame_facts, shown_before, IsOlder, AreFactsOfStep}
 use Rattle.vp_decode.specs.Step.{DecoderState, FrameContext, ParsedPacket, key_context, inter_context, context_of, parsed, frame_of_packet, references_after, shown_after, state_after, answer, decoded, step, outcome}
 use Rattle.vp_decode.proofs.CutLemmas.{IsOpened, opened-is}
-use Rattle.vp_decode.proofs.SizeLemmas.{KeepsShape, picture_shaped}
+use Rattle.vp_decode.proofs.SizeLemmas.{KeepsShape, copied_keeps, newest_is, picture_shaped}
 
-newest_is : (before : Option References) (h : Header) (p : Image) → (references_after before h p).newest ≡ p
-newest_is None h p = refl
-newest_is (Some r) h p = refl
+-- the references that are refreshed
+record AreNew (before : Option References) (h : Header) (p : Image) : Type 0 where
+  last : (h.key || h.updates.refresh_last) ≡ true → (references_after before h p).last ≡ p
+  golden : (h.key || h.updates.refresh_golden) ≡ true → (references_after before h p).golden ≡ p
+  alt : (h.key || h.updates.refresh_alt) ≡ true → (references_after before h p).alt ≡ p
 
-last_is : (before : Option References) (h : Header) (p : Image) → (h.key || h.updates.refresh_last) ≡ true → (references_after before h p).last ≡ p
-last_is None h p e = refl
-last_is (Some r) h p e = rw e refl
-
-golden_is : (before : Option References) (h : Header) (p : Image) → (h.key || h.updates.refresh_golden) ≡ true → (references_after before h p).golden ≡ p
-golden_is None h p e = refl
-golden_is (Some r) h p e = rw e refl
-
-alt_is : (before : Option References) (h : Header) (p : Image) → (h.key || h.updates.refresh_alt) ≡ true → (references_after before h p).alt ≡ p
-alt_is None h p e = refl
-alt_is (Some r) h p e = rw e refl
-
--- ---- what a frame that isn't a key frame has of the state before
-
--- its context is that of the state, if it is no key frame
-inter_before : (key : Option KeyTag) (state : Option DecoderState) (context : FrameContext) → context_of key state ≡ Ok context → is_some key ≡ false → IsSomeAnd state (λ k. inter_context k ≡ context)
-inter_before (Some key) state context c off = absurd cc
-inter_before None None context c off = absurd cc
-inter_before None (Some k) context c off = cc
-
-shown_is : (key : Option KeyTag) (state : Option DecoderState) (context : FrameContext) → context_of key state ≡ Ok context → context.shown ≡ shown_before (is_some key) state
-shown_is (Some key) state context c = let same : key_context key.dim ≡ context = cc in ap (λ (b : FrameContext). b.shown) (sym same)
-shown_is None None context c = absurd cc
-shown_is None (Some k) context c = let same : inter_context k ≡ context = cc in ap (λ (b : FrameContext). b.shown) (sym same)
-
-hidden_is : (show : Bool) (p : Image) (before : Option Image) → show ≡ false → shown_after show p before ≡ before
-hidden_is true p before e = absurd cc
-hidden_is false p before e = refl
-
-shown_new : (show : Bool) (p : Image) (before : Option Image) → show ≡ true → shown_after show p before ≡ Some p
-shown_new true p before e = refl
-shown_new false p before e = absurd cc
-
-last_after : (r : Option References) (b : References) (h : Header) (p : Image) → r ≡ Some b → (h.key || h.updates.refresh_last) ≡ false → (references_after r h p).last ≡ b.last
-last_after None b h p e off = absurd cc
-last_after (Some r) b h p e off = let same : r ≡ b = cc in rw off (ap (λ (x : References). x.last) same)
+are_new : (before : Option References) (h : Header) (p : Image) → AreNew before h p
+are_new None h p = record { last = λ e. refl; golden = λ e. refl; alt = λ e. refl }
+are_new (Some r) h p = record { last = λ e. rw e refl; golden = λ e. rw e refl; alt = λ e. rw e refl }
 
 -- a picture that is one of three
 abbrev IsOld : References → Image → Type 0
 IsOld b p = (p ≡ b.last) ⊎ (p ≡ b.golden) ⊎ (p ≡ b.alt)
 
-copied_is : (c : ReferenceCopy) (b : References) (last other own : Image) → IsOld b last → IsOld b other → IsOld b own → IsOld b (copied_by c last other own)
-copied_is Nothing b last other own l o w = w
-copied_is Last b last other own l o w = l
-copied_is Other b last other own l o w = o
-copied_is Unused b last other own l o w = w
+-- the references that are not refreshed
+record AreOld (before : Option References) (b : References) (h : Header) (p : Image) : Type 0 where
+  last : (h.key || h.updates.refresh_last) ≡ false → (references_after before h p).last ≡ b.last
+  golden : (h.key || h.updates.refresh_golden) ≡ false → IsOld b (references_after before h p).golden
+  alt : (h.key || h.updates.refresh_alt) ≡ false → IsOld b (references_after before h p).alt
 
-old_alt : (u : ReferenceUpdates) (b : References) → IsOld b (copied_by u.copy_to_alt b.last b.golden b.alt)
-old_alt u b = copied_is u.copy_to_alt b b.last b.golden b.alt (inl refl) (inr (inl refl)) (inr (inr refl))
+are_old : (before : Option References) (b : References) (h : Header) (p : Image) → before ≡ Some b → AreOld before b h p
+are_old before b h p e =
+    let u : ReferenceUpdates = h.updates in
+    let alt : IsOld b (copied_by u.copy_to_alt b.last b.golden b.alt) = copied_keeps (IsOld b) u.copy_to_alt b.last b.golden b.alt (inl refl) (inr (inl refl)) (inr (inr refl)) in
+    rw e (record {
+      last = λ off. rw off refl;
+      golden = λ off. rw off (copied_keeps (IsOld b) u.copy_to_golden b.last _ b.golden (inl refl) alt (inr (inl refl)));
+      alt = λ off. rw off alt;
+    })
 
-old_golden : (u : ReferenceUpdates) (b : References) → IsOld b (copied_by u.copy_to_golden b.last (copied_by u.copy_to_alt b.last b.golden b.alt) b.golden)
-old_golden u b = copied_is u.copy_to_golden b b.last (copied_by u.copy_to_alt b.last b.golden b.alt) b.golden (inl refl) (old_alt u b) (inr (inl refl))
+-- ---- what a frame has of the state before
 
-golden_after : (r : Option References) (b : References) (h : Header) (p : Image) → r ≡ Some b → (h.key || h.updates.refresh_golden) ≡ false → IsOld b (references_after r h p).golden
-golden_after None b h p e off = absurd cc
-golden_after (Some r) b h p e off = let same : r ≡ b = cc in subst (λ (x : References). IsOld x (references_after (Some r) h p).golden) same (rw off (old_golden h.updates r))
-
-alt_after : (r : Option References) (b : References) (h : Header) (p : Image) → r ≡ Some b → (h.key || h.updates.refresh_alt) ≡ false → IsOld b (references_after r h p).alt
-alt_after None b h p e off = absurd cc
-alt_after (Some r) b h p e off = let same : r ≡ b = cc in subst (λ (x : References). IsOld x (references_after (Some r) h p).alt) same (rw off (old_alt h.updates r))
+shown_is : (key : Option KeyTag) (state : Option DecoderState) (context : FrameContext) → context_of key state ≡ Ok context → context.shown ≡ shown_before (is_some key) state
+shown_is (Some key) state context c = let same : key_context key.dim ≡ context = cc in ap (λ (b : FrameContext). b.shown) (sym same)
+shown_is None None context c = absurd cc
+shown_is None (Some k) context c = let same : inter_context k ≡ context = cc in ap (λ (b : FrameContext). b.shown) (sym same)
 
 -- the state before, and its references
 record HasBefore (state : Option DecoderState) (references : Option References) : Type 0 where
@@ -92,38 +64,34 @@ record HasBefore (state : Option DecoderState) (references : Option References) 
   is : state ≡ Some before
   has : references ≡ Some before.references
 
-before_by : (state : Option DecoderState) (context : FrameContext) → IsSomeAnd state (λ k. inter_context k ≡ context) → HasBefore state context.references
-before_by None context h = absurd h
-before_by (Some k) context h = record { before = k; is = refl; has = ap (λ (b : FrameContext). b.references) (sym h) }
+before_by : (key : Option KeyTag) (state : Option DecoderState) (context : FrameContext) → context_of key state ≡ Ok context → is_some key ≡ false → HasBefore state context.references
+before_by (Some key) state context c off = absurd cc
+before_by None None context c off = absurd cc
+before_by None (Some k) context c off = let same : inter_context k ≡ context = cc in record { before = k; is = refl; has = ap (λ (b : FrameContext). b.references) (sym same) }
 
 -- a frame that doesn't refresh a reference is no key frame, and has the references of a state before
 before_is : (limits : Limits) (state : Option DecoderState) (packet : List ℕ) (o : ParsedPacket) (refresh : Bool) → IsOpened limits state packet o → (o.header.key || refresh) ≡ false
     → HasBefore state o.context.references
-before_is limits state packet o refresh is off =
-    before_by state o.context (inter_before o.tag.key state o.context is.context_is (sym is.key_is ∙ (or_parts o.header.key refresh off).0))
+before_is limits state packet o refresh is off = before_by o.tag.key state o.context is.context_is (sym is.key_is ∙ (or_parts o.header.key refresh off).0)
 
 facts_hold : KeepsShape → (limits : Limits) (state : Option DecoderState) (packet : List ℕ) (o : ParsedPacket) → IsOpened limits state packet o → AreFactsOfStep (facts_of o) state (state_after o)
 facts_hold law limits state packet o is =
     let p : Image = picture_of (frame_of_packet o) in
     let newest = newest_is o.context.references o.header p in
     let shaped = picture_shaped law (frame_of_packet o) in
+    let new = are_new o.context.references o.header p in
+    let u : ReferenceUpdates = o.header.updates in
     record {
       width_is = ap (λ (q : Image). q.width) newest ∙ shaped.width_is;
       height_is = ap (λ (q : Image). q.height) newest ∙ shaped.height_is;
-      shown = λ e. shown_new o.tag.show p o.context.shown e ∙ ap Some (sym newest);
-      hidden = λ e. hidden_is o.tag.show p o.context.shown e ∙ shown_is o.tag.key state o.context is.context_is;
-      last = λ e. last_is o.context.references o.header p e ∙ sym newest;
-      golden = λ e. golden_is o.context.references o.header p e ∙ sym newest;
-      alt = λ e. alt_is o.context.references o.header p e ∙ sym newest;
-      last_stays = λ e. let b : HasBefore state o.context.references = before_is limits state packet o o.header.updates.refresh_last is e in
-          subst (λ (s : Option DecoderState). IsSomeAnd s (λ k. (state_after o).references.last ≡ k.references.last)) (sym b.is)
-          (last_after o.context.references b.before.references o.header p b.has e);
-      older_golden = λ e. let b : HasBefore state o.context.references = before_is limits state packet o o.header.updates.refresh_golden is e in
-          subst (λ (s : Option DecoderState). IsOlder s (state_after o).references.golden) (sym b.is)
-          (golden_after o.context.references b.before.references o.header p b.has e);
-      older_alt = λ e. let b : HasBefore state o.context.references = before_is limits state packet o o.header.updates.refresh_alt is e in
-          subst (λ (s : Option DecoderState). IsOlder s (state_after o).references.alt) (sym b.is)
-          (alt_after o.context.references b.before.references o.header p b.has e);
+      shown = λ e. subst (λ (show : Bool). shown_after show p o.context.shown ≡ Some (state_after o).references.newest) (sym e) (ap Some (sym newest));
+      hidden = λ e. subst (λ (show : Bool). shown_after show p o.context.shown ≡ shown_before (is_some o.tag.key) state) (sym e) (shown_is o.tag.key state o.context is.context_is);
+      last = λ e. new.last e ∙ sym newest;
+      golden = λ e. new.golden e ∙ sym newest;
+      alt = λ e. new.alt e ∙ sym newest;
+      last_stays = λ e. let b = before_is limits state packet o u.refresh_last is e in rw b.is ((are_old o.context.references b.before.references o.header p b.has).last e);
+      older_golden = λ e. let b = before_is limits state packet o u.refresh_golden is e in rw b.is ((are_old o.context.references b.before.references o.header p b.has).golden e);
+      older_alt = λ e. let b = before_is limits state packet o u.refresh_alt is e in rw b.is ((are_old o.context.references b.before.references o.header p b.has).alt e);
     }
 
 state_by : KeepsShape → (limits : Limits) (state : Option DecoderState) (packet : List ℕ) (r : Result ParsedPacket PacketFault) (f : FrameFacts) → parsed limits state packet ≡ r → facts_in r ≡ Some f

@@ -1,58 +1,36 @@
 -- A frame is corrupt exactly if one of its partitions is read past its end.
-use Rattle.std.proofs.Common.{◌≡◌, ◌∙◌, ℕ, zero, suc, ◌+◌, ◌%◌, ◌<◌, ◌≤◌, Bool, true, false, cond, List, [], ◌∷◌, length, drop, Ok, Err, inl, inr, sym, ap, subst, arith}
-use Rattle.std.specs.Prelude.{Option, Result, map, nat_lt, slice_index_or, slice_set}
+use Rattle.std.proofs.Common.{◌≡◌, ◌∙◌, ℕ, zero, suc, ◌%◌, ◌<◌, ◌≤◌, true, false, List, [], ◌∷◌, length, Ok, inl, inr, sym, ap, subst, arith}
+use Rattle.std.specs.Prelude.{Option, map, slice_index_or, slice_set}
 use Rattle.std.proofs.Math.Dec.{ltb}
-use Rattle.std.proofs.lemmas.Bool.{cases_Bool, cases_lt, lt-ltb, le-ltb, or_left, or_right, or_parts}
+use Rattle.std.proofs.lemmas.Bool.{cases_Bool, lt-ltb, ltb-true, ltb-false, or_left, or_right, or_parts}
 use Rattle.vp_bool.specs.Bools.{State, initial_state, after_bools}
 use Rattle.vp_bool.specs.Laws.{PastIsBits, bits_after_first, bits_shifted}
 use Rattle.vp_base.specs.declared.limits.Limits.{Limits}
 use Rattle.vp_base.proofs.OverLemmas.{over-holds}
-use Rattle.vp_head.specs.declared.fields.Tag.{Tag}
-use Rattle.vp_head.specs.declared.fault.PacketFault.{PacketFault}
-use Rattle.vp_head.specs.declared.fault.PacketFault.TheVariants.{FirstPartition}
 use Rattle.vp_head.specs.Tag.{tag_of}
-use Rattle.vp_head.specs.Header.{header}
-use Rattle.vp_tokens.specs.Partitions.{cut_of}
 use Rattle.vp_decode.specs.Frame.{FrameInfo}
 use Rattle.vp_decode.specs.TokenRows.{Readings, row_partition, token_row, nothing_read, readings}
 use Rattle.vp_decode.proofs.TokenGrid.{rests_in_turn}
-use Rattle.vp_decode.specs.Step.{DecoderState, FrameContext, ParsedPacket, tag_length, first_part, count_of, ◌>>=◌, context_of, parsed_in_context, parsed, maps_before, frame_info_of}
+use Rattle.vp_decode.specs.Step.{DecoderState, ParsedPacket, first_part, parsed, maps_before, frame_info_of}
 use Rattle.vp_decode.specs.Corrupt.{first_after, tokens_after, any_past, is_corrupt, corrupt_in, corrupt}
 use Rattle.vp_decode.specs.PastEnd.{IsPastEnd, IsWithin, HasPartPast, AreAllPartsWithin, token_part, token_reader}
 use Rattle.vp_decode.proofs.CutLemmas.{opened-is}
-use Rattle.vp_decode.proofs.RunLemmas.{IsRun, run-none, run-join}
-use Rattle.vp_decode.proofs.HeaderRuns.{by_header}
-use Rattle.vp_decode.proofs.MacroblockRuns.{by_maps_read}
-use Rattle.vp_decode.proofs.TokenRuns.{by_row_seen}
+use Rattle.vp_decode.proofs.RunLemmas.{IsRun, run-none, run-join, by_header, by_maps_read, by_row_seen}
 
 -- ---- one partition
 
-past_bits : PastIsBits → (bytes : List ℕ) (s : State) → s.past ≡ true → (ps : List ℕ) → s ≡ after_bools ps (initial_state bytes)
-    → bits_after_first bytes < bits_shifted ps (initial_state bytes)
-past_bits law bytes s e ps h =
-    let bits : s.past ≡ ltb (bits_after_first bytes) (bits_shifted ps (initial_state bytes)) = ap (λ (t : State). t.past) h ∙ law bytes ps in
-    elim (cases_lt (bits_after_first bytes) (bits_shifted ps (initial_state bytes))) [
-      | inl less ↦ less
-      | inr most ↦ let no : ltb (bits_after_first bytes) (bits_shifted ps (initial_state bytes)) ≡ false = le-ltb _ _ most in absurd cc
-    ]
+-- whether a state is past the end is whether more bits are shifted in than follow the first byte
+bits_say : PastIsBits → (bytes : List ℕ) (s : State) (ps : List ℕ) → s ≡ after_bools ps (initial_state bytes) → ltb (bits_after_first bytes) (bits_shifted ps (initial_state bytes)) ≡ s.past
+bits_say law bytes s ps h = sym (ap (λ (t : State). t.past) h ∙ law bytes ps)
 
 past_end : PastIsBits → (bytes : List ℕ) (s : State) → IsRun (initial_state bytes) s → s.past ≡ true → IsPastEnd bytes s
-past_end law bytes s r e = record { probabilities = r.probabilities; read = r.after; past = past_bits law bytes s e }
-
-within_bits : PastIsBits → (bytes : List ℕ) (s : State) → s.past ≡ false → (ps : List ℕ) → s ≡ after_bools ps (initial_state bytes)
-    → bits_shifted ps (initial_state bytes) ≤ bits_after_first bytes
-within_bits law bytes s e ps h =
-    let bits : s.past ≡ ltb (bits_after_first bytes) (bits_shifted ps (initial_state bytes)) = ap (λ (t : State). t.past) h ∙ law bytes ps in
-    elim (cases_lt (bits_after_first bytes) (bits_shifted ps (initial_state bytes))) [
-      | inl less ↦ let yes : ltb (bits_after_first bytes) (bits_shifted ps (initial_state bytes)) ≡ true = lt-ltb _ _ less in absurd cc
-      | inr most ↦ most
-    ]
+past_end law bytes s r e = record { probabilities = r.probabilities; read = r.after; past = λ ps h. ltb-true _ _ (bits_say law bytes s ps h ∙ e) }
 
 within_end : PastIsBits → (bytes : List ℕ) (s : State) → IsRun (initial_state bytes) s → s.past ≡ false → IsWithin bytes s
-within_end law bytes s r e = record { probabilities = r.probabilities; read = r.after; enough = within_bits law bytes s e }
+within_end law bytes s r e = record { probabilities = r.probabilities; read = r.after; enough = λ ps h. ltb-false _ _ (bits_say law bytes s ps h ∙ e) }
 
 is_past : PastIsBits → (bytes : List ℕ) (s : State) → IsPastEnd bytes s → s.past ≡ true
-is_past law bytes s p = ap (λ (t : State). t.past) p.read ∙ law bytes p.probabilities ∙ lt-ltb _ _ (p.past p.probabilities p.read)
+is_past law bytes s p = sym (bits_say law bytes s p.probabilities p.read) ∙ lt-ltb _ _ (p.past p.probabilities p.read)
 
 -- a partition is not both
 not_both : (bytes : List ℕ) (s : State) → IsPastEnd bytes s → IsWithin bytes s → ⊥
@@ -63,42 +41,10 @@ not_both bytes s p w =
 
 -- ---- the first partition
 
--- the first partition is read from its start up to where the header ends
-first_over : (tag : Tag) (context : FrameContext) (packet : List ℕ) (short : Bool) (cut : Result (List (List ℕ)) PacketFault) (o : ParsedPacket)
-    → ◌≡◌ {A = Result ParsedPacket PacketFault}
-    (cond short (Err FirstPartition) (cut >>= λ (parts : List (List ℕ)). Ok (record {
-      tag = tag;
-      context = context;
-      header = (header context.saved tag (initial_state (first_part tag packet))).0.0;
-      saved = (header context.saved tag (initial_state (first_part tag packet))).0.1;
-      first = (header context.saved tag (initial_state (first_part tag packet))).1;
-      partitions = parts;
-    }))) (Ok o) → IsRun (initial_state (first_part o.tag packet)) o.first
-first_over tag context packet true cut o e = absurd cc
-first_over tag context packet false (Err f) o e = absurd cc
-first_over tag context packet false (Ok parts) o e =
-    let s : State = initial_state (first_part tag packet) in
-    let made : ParsedPacket = record { tag = tag; context = context; header = (header context.saved tag s).0.0; saved = (header context.saved tag s).0.1; first = (header context.saved tag s).1; partitions = parts } in
-    let same : made ≡ o = cc in
-    subst (λ (z : ParsedPacket). IsRun (initial_state (first_part z.tag packet)) z.first) same ((by_header context.saved tag).run s)
-
-first_in : (tag : Tag) (context : Result FrameContext PacketFault) (packet : List ℕ) (o : ParsedPacket) → (context >>= λ (b : FrameContext). parsed_in_context tag b packet) ≡ Ok o
-    → IsRun (initial_state (first_part o.tag packet)) o.first
-first_in tag (Err f) packet o e = absurd cc
-first_in tag (Ok context) packet o e =
-    let s : State = initial_state (first_part tag packet) in
-    first_over tag context packet (nat_lt (length packet) (tag_length tag + tag.first_partition))
-    (cut_of (drop (tag_length tag + tag.first_partition) packet) (count_of (header context.saved tag s).0.0.log2_partitions)) o e
-
-first_by : (state : Option DecoderState) (tag : Result Tag PacketFault) (packet : List ℕ) (o : ParsedPacket)
-    → (tag >>= λ (t : Tag). context_of t.key state >>= λ (b : FrameContext). parsed_in_context t b packet) ≡ Ok o → IsRun (initial_state (first_part o.tag packet)) o.first
-first_by state (Err f) packet o e = absurd cc
-first_by state (Ok tag) packet o e = first_in tag (context_of tag.key state) packet o e
-
+-- the first partition is read from its start: the header, and then the modes and the motion
 first_run : (limits : Limits) (state : Option DecoderState) (packet : List ℕ) (o : ParsedPacket) → parsed limits state packet ≡ Ok o → IsRun (initial_state (first_part o.tag packet)) (first_after o)
-unfolding parsed
 first_run limits state packet o e =
-    run-join (initial_state (first_part o.tag packet)) o.first (first_after o) (first_by state (tag_of limits packet) packet o e)
+    run-join (initial_state (first_part o.tag packet)) o.first (first_after o) (rw ((opened-is limits state packet o e).first_is) ((by_header o.context.saved o.tag).run _))
     ((by_maps_read o.header (maps_before o.context.modes)).run o.first)
 
 -- ---- the token partitions
@@ -180,54 +126,33 @@ corrupt_at limits state (b ∷ bs) o e = ap corrupt_in e
 runs_of : (o : ParsedPacket) → AreRuns o.partitions (tokens_after (frame_info_of o) (map initial_state o.partitions))
 runs_of o = token_runs (frame_info_of o) o.partitions
 
-tokens_of_past : PastIsBits → (packet : List ℕ) (o : ParsedPacket) → any_past (tokens_after (frame_info_of o) (map initial_state o.partitions)) ≡ true → HasPartPast packet o
-tokens_of_past law packet o e =
-    let found : HasPast o.partitions (tokens_after (frame_info_of o) (map initial_state o.partitions)) = find_past law o.partitions _ (runs_of o) e in
-    inr (found.at, record { is_part = found.is_part; past = found.past })
-
-has_past : PastIsBits → (packet : List ℕ) (o : ParsedPacket) → IsRun (initial_state (first_part o.tag packet)) (first_after o) → is_corrupt o ≡ true → HasPartPast packet o
-unfolding is_corrupt
-has_past law packet o r e = elim (cases_Bool (first_after o).past) [
-  | inl is ↦ inl (past_end law (first_part o.tag packet) (first_after o) r is)
-  | inr off ↦ tokens_of_past law packet o (rw off at e)
-]
-
-are_within : PastIsBits → (packet : List ℕ) (o : ParsedPacket) → IsRun (initial_state (first_part o.tag packet)) (first_after o) → is_corrupt o ≡ false → AreAllPartsWithin packet o
-unfolding is_corrupt
-are_within law packet o r e =
-    let each = or_parts (first_after o).past (any_past (tokens_after (frame_info_of o) (map initial_state o.partitions))) e in
-    record {
-      first = within_end law (first_part o.tag packet) (first_after o) r each.0;
-      tokens = all_within law o.partitions _ (runs_of o) each.1;
-    }
-
-is_told : PastIsBits → (packet : List ℕ) (o : ParsedPacket) → HasPartPast packet o → is_corrupt o ≡ true
-unfolding is_corrupt
-is_told law packet o (inl first) = or_left _ _ (is_past law (first_part o.tag packet) (first_after o) first)
-is_told law packet o (inr part) = or_right (first_after o).past _ (is_any_past law o.partitions _ (runs_of o) part.0 part.1.is_part part.1.past)
-
 none_past : (packet : List ℕ) (o : ParsedPacket) → AreAllPartsWithin packet o → HasPartPast packet o → ⊥
 none_past packet o w (inl first) = not_both (first_part o.tag packet) (first_after o) first w.first
 none_past packet o w (inr part) = not_both (token_part o part.0) (token_reader o part.0) part.1.past (w.tokens part.0 part.1.is_part)
 
-is_not_told : PastIsBits → (packet : List ℕ) (o : ParsedPacket) → IsRun (initial_state (first_part o.tag packet)) (first_after o) → AreAllPartsWithin packet o → is_corrupt o ≡ false
-is_not_told law packet o r w = elim (cases_Bool (is_corrupt o)) [
-  | inl is ↦ absurd (none_past packet o w (has_past law packet o r is))
-  | inr off ↦ off
-]
+module _ (law : PastIsBits) (limits : Limits) (state : Option DecoderState) (packet : List ℕ) (o : ParsedPacket) (e : parsed limits state packet ≡ Ok o) where
+  pub corrupt-past : corrupt limits state packet ≡ true → HasPartPast packet o
+  unfolding is_corrupt
+  corrupt-past is = elim (cases_Bool (first_after o).past) [
+    | inl past ↦ inl (past_end law (first_part o.tag packet) (first_after o) (first_run limits state packet o e) past)
+    | inr off ↦
+        let found = find_past law o.partitions _ (runs_of o) (rw off at (sym (corrupt_at limits state packet o e) ∙ is)) in
+        inr (found.at, record { is_part = found.is_part; past = found.past })
+  ]
 
-pub corrupt-past : PastIsBits → (limits : Limits) (state : Option DecoderState) (packet : List ℕ) (o : ParsedPacket) → parsed limits state packet ≡ Ok o → corrupt limits state packet ≡ true
-    → HasPartPast packet o
-corrupt-past law limits state packet o e is = has_past law packet o (first_run limits state packet o e) (sym (corrupt_at limits state packet o e) ∙ is)
+  pub corrupt-within : corrupt limits state packet ≡ false → AreAllPartsWithin packet o
+  unfolding is_corrupt
+  corrupt-within is =
+      let each = or_parts (first_after o).past (any_past (tokens_after (frame_info_of o) (map initial_state o.partitions))) (sym (corrupt_at limits state packet o e) ∙ is) in
+      record { first = within_end law (first_part o.tag packet) (first_after o) (first_run limits state packet o e) each.0; tokens = all_within law o.partitions _ (runs_of o) each.1 }
 
-pub corrupt-within : PastIsBits → (limits : Limits) (state : Option DecoderState) (packet : List ℕ) (o : ParsedPacket) → parsed limits state packet ≡ Ok o → corrupt limits state packet ≡ false
-    → AreAllPartsWithin packet o
-corrupt-within law limits state packet o e is = are_within law packet o (first_run limits state packet o e) (sym (corrupt_at limits state packet o e) ∙ is)
+  pub corrupt-told : HasPartPast packet o → corrupt limits state packet ≡ true
+  unfolding is_corrupt
+  corrupt-told (inl first) = corrupt_at limits state packet o e ∙ or_left _ _ (is_past law (first_part o.tag packet) (first_after o) first)
+  corrupt-told (inr part) = corrupt_at limits state packet o e ∙ or_right (first_after o).past _ (is_any_past law o.partitions _ (runs_of o) part.0 part.1.is_part part.1.past)
 
-pub corrupt-told : PastIsBits → (limits : Limits) (state : Option DecoderState) (packet : List ℕ) (o : ParsedPacket) → parsed limits state packet ≡ Ok o → HasPartPast packet o
-    → corrupt limits state packet ≡ true
-corrupt-told law limits state packet o e past = corrupt_at limits state packet o e ∙ is_told law packet o past
-
-pub corrupt-not_told : PastIsBits → (limits : Limits) (state : Option DecoderState) (packet : List ℕ) (o : ParsedPacket) → parsed limits state packet ≡ Ok o → AreAllPartsWithin packet o
-    → corrupt limits state packet ≡ false
-corrupt-not_told law limits state packet o e within = corrupt_at limits state packet o e ∙ is_not_told law packet o (first_run limits state packet o e) within
+  pub corrupt-not_told : AreAllPartsWithin packet o → corrupt limits state packet ≡ false
+  corrupt-not_told w = elim (cases_Bool (corrupt limits state packet)) [
+    | inl is ↦ absurd (none_past packet o w (corrupt-past is))
+    | inr off ↦ off
+  ]

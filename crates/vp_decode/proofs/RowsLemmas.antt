@@ -1,24 +1,64 @@
--- The rows of a frame, rebuilt and filtered one behind.
-use Rattle.std.proofs.Common.{◌≡◌, ◌∙◌, ℕ, ◌-◌, ◌*◌, ◌<◌, ◌≤◌, List, Some, sym, ap, subst, arith}
-use Rattle.vp_bool.specs.Bools.{State}
+-- The rows of a frame: filtered by the levels of a grid, rebuilt and filtered one behind, or filtered alone where the
+-- picture before the loop filter is given.
+use Rattle.std.proofs.Common.{◌≡◌, ◌∙◌, ℕ, ◌-◌, ◌*◌, ◌<◌, ◌≤◌, List, Some, sym, ap, subst, arith, ◌+◌, get_or, map}
+use Rattle.vp_bool.specs.Bools.{State, initial_state}
 use Rattle.vp_base.specs.declared.place.Place.{Place}
-use Rattle.vp_base.specs.Grid.{Grid, entry}
+use Rattle.vp_base.specs.Grid.{Grid, entry, Has}
 use Rattle.vp_base.specs.Image.{Image, IsAligned, AreWhole, macroblocks}
 use Rattle.vp_base.specs.Over.{over}
 use Rattle.vp_base.specs.Rows.{AreOneSize, AreSameAbove, AreSameFrom}
-use Rattle.vp_base.proofs.OverLemmas.{over-holds}
+use Rattle.vp_base.proofs.OverLemmas.{over-holds, over-same, over-next}
 use Rattle.vp_loop.specs.declared.strength.Level.{Level}
-use Rattle.vp_loop.specs.Filtered.{filtered, row_filtered, level_in}
+use Rattle.vp_loop.specs.Filtered.{filtered, row_filtered, level_in, macroblock_filtered}
 use Rattle.vp_recon.specs.Predictor.{Macroblock}
 use Rattle.vp_recon.specs.Rebuilt.{rebuilt, row_rebuilt, all_rebuilt}
 use Rattle.vp_recon.specs.Equation.{IsUnfiltered}
 use Rattle.vp_decode.specs.MacroblockInfo.{place}
 use Rattle.vp_decode.specs.Frame.{FrameInfo, Frame, frame_of, level_at, tokens_of, unfiltered, picture_of}
 use Rattle.vp_decode.specs.Equation.{IsSolution}
-use Rattle.vp_decode.specs.RowBands.{IsShaped, IsBelow}
-use Rattle.vp_decode.proofs.SizeLemmas.{KeepsShape, unfiltered_shaped}
+use Rattle.vp_decode.specs.RowBands.{IsShaped, IsBelow, IsAbove}
+use Rattle.vp_decode.proofs.SizeLemmas.{row_shaped, KeepsShape, unfiltered_shaped, info-mapped}
 use Rattle.vp_decode.proofs.BandLemmas.{below_over}
-use Rattle.vp_decode.proofs.FilterLemmas.{row_by_entries}
+use Rattle.std.proofs.lemmas.Option.{get_or_from_slice_get}
+use Rattle.vp_base.proofs.GridLemmas.{entry-inside}
+use Rattle.vp_loop.specs.Levels.{no_level}
+use Rattle.vp_loop.proofs.WindowLemmas.{row_keeps, row_reads, row_size}
+use Rattle.vp_tokens.specs.declared.contexts.Tokens.{Tokens}
+use Rattle.vp_decode.specs.RebuiltFrame.{IsRebuiltFrame}
+use Rattle.vp_decode.specs.SkippedLevels.{AreSkipsOf, AreRowLevels, level_by}
+use Rattle.vp_decode.specs.State.{HasConsistentSizes}
+use Rattle.vp_decode.specs.Step.{ParsedPacket, frame_info_of, frame_of_packet}
+
+-- ---- a row that is filtered
+
+at_entry : (g : Grid Level) (row column : ℕ) (x : Level) → column < g.columns → entry g (record { column = column; row = row }) ≡ Some x → get_or g.entries (row * g.columns + column) no_level ≡ x
+at_entry g row column x h e =
+    get_or_from_slice_get g.entries (row * g.columns + column) x no_level (sym (entry-inside g (record { column = column; row = row }) h) ∙ e)
+
+-- a row filtered by the levels of a grid, which has those of f in that row
+pub row_by_entries : (g : Grid Level) (f : Place → Level) (row : ℕ) (p : Image) → macroblocks p.width ≡ g.columns
+    → ((column : ℕ) → column < g.columns → entry g (record { column = column; row = row }) ≡ Some (f (record { column = column; row = row })))
+    → row_filtered (level_in g.entries g.columns) row p ≡ row_filtered f row p
+unfolding row_filtered
+row_by_entries g f row p wide each =
+    over-same (macroblocks p.width) (λ column. macroblock_filtered (level_in g.entries g.columns (record { column = column; row = row })) column row)
+    (λ column. macroblock_filtered (f (record { column = column; row = row })) column row) p
+    (λ column below q.
+    let within : column < g.columns = omega (arith, wide) in
+    let here : Place = record { column = column; row = row } in
+    ap (λ (x : Level). macroblock_filtered x column row q) (at_entry g row column (f here) within (each column within)))
+
+-- filtering a row works above the next one alone
+pub filter_is_above : (width height k : ℕ) (level : Place → Level) → k < macroblocks height → IsAbove width height (k + 1) (row_filtered level k)
+filter_is_above width height k level inside = record {
+  shaped = row_shaped width height k level;
+  keeps = λ p s. row_keeps level k p s.aligned (subst (λ (n : ℕ). k < macroblocks n) (sym s.height_is) inside);
+  reads = λ p q sp sq same.
+      row_reads level k p q sp.aligned sq.aligned (record { width = sp.width_is ∙ sym sq.width_is; height = sp.height_is ∙ sym sq.height_is })
+      (subst (λ (n : ℕ). k < macroblocks n) (sym sp.height_is) inside) same;
+}
+
+-- ---- a row that is rebuilt
 
 -- the filter of row k of a frame of so many columns and rows of pixels, and the rebuilding of that row
 abbrev pub row_filter : FrameInfo → List State → ℕ → ℕ → ℕ → Image → Image
@@ -102,3 +142,48 @@ pub filtered_by_levels : (f : FrameInfo) (ps : List State) (width height k : ℕ
     → row_filtered (level_in g.entries g.columns) k p ≡ row_filter f ps width height k p
 filtered_by_levels f ps width height k g p wide size each =
     row_by_entries g (frame_of f ps width height).level k p (ap (λ (n : ℕ). macroblocks n) size ∙ sym wide) (λ column within. each column (omega (arith, wide)))
+
+-- ---- a frame whose picture before the loop filter is given
+
+-- filtering a row keeps the size
+pub row_sized : (level : Place → Level) (row : ℕ) (p q : Image) → q ≡ row_filtered level row p → AreOneSize q p
+row_sized level row p q e = record { width = ap (λ (z : Image). z.width) e ∙ (row_size level row p).width; height = ap (λ (z : Image). z.height) e ∙ (row_size level row p).height }
+
+-- one more row, filtered by the levels of a grid
+pub row_more : (f : FrameInfo) (tokens : Place → Tokens) (row : ℕ) (g : Grid Level) (levels : List Level) (p q r : Image) → row < f.maps.modes.rows
+    → g.columns ≡ f.maps.modes.columns → f.maps.modes.columns ≡ macroblocks q.width → levels ≡ g.entries → AreRowLevels f row f.maps.modes.columns g → AreSkipsOf f tokens
+    → q ≡ over row (row_filtered (level_by f tokens)) p → r ≡ row_filtered (level_in levels (macroblocks q.width)) row q → r ≡ over (row + 1) (row_filtered (level_by f tokens)) p
+row_more f tokens row g levels p q r below columns wide entries set skips before made =
+    let level : Place → Level = level_by f tokens in
+    let width : macroblocks q.width ≡ g.columns = sym (columns ∙ wide) in
+    made
+    ∙ (λ i. row_filtered (level_in (entries i) (width i)) row q)
+    ∙ row_by_entries g level row q width
+    (λ column inside.
+    let within : column < f.maps.modes.columns = omega (arith, columns) in
+    let has : Has f.maps.modes (place row column) = record { column = within; row = below } in
+    set column within (tokens (place row column)) (skips (place row column) has))
+    ∙ over-next row (row_filtered level) p q before
+
+-- the picture filtered by the levels of the frame's tokens
+pub rebuilt_picture : (o : ParsedPacket) (f : FrameInfo) (p q : Image) → f ≡ frame_info_of o → IsRebuiltFrame o p
+    → ((tokens : Place → Tokens) → AreSkipsOf f tokens → q ≡ filtered (level_by f tokens) p) → q ≡ picture_of (frame_of_packet o)
+unfolding picture_of
+rebuilt_picture o f p q same is made =
+    let now : (tokens : Place → Tokens) → AreSkipsOf (frame_info_of o) tokens → q ≡ filtered (level_by (frame_info_of o) tokens) p =
+    subst (λ (z : FrameInfo). (tokens : Place → Tokens) → AreSkipsOf z tokens → q ≡ filtered (level_by z tokens) p) same made in
+    now (tokens_of (frame_info_of o) (map initial_state o.partitions)) is.skipped ∙ ap (filtered (frame_of_packet o).level) is.picture
+
+-- the modes have a place for each macroblock of the picture
+pub record IsCovered (f : FrameInfo) (p : Image) : Type 0 where
+  pub columns : f.maps.modes.columns ≡ macroblocks p.width
+  pub rows : f.maps.modes.rows ≡ macroblocks p.height
+
+pub rebuilt_covered : KeepsShape → (o : ParsedPacket) (f : FrameInfo) (p : Image) → f ≡ frame_info_of o → HasConsistentSizes o.context → IsRebuiltFrame o p → IsCovered f p
+rebuilt_covered law o f p same sizes is =
+    let shaped : IsShaped o.context.width o.context.height p = subst (IsShaped o.context.width o.context.height) (sym is.picture) (unfiltered_shaped law (frame_of_packet o)) in
+    let mapped = info-mapped o in
+    record {
+      columns = ap (λ (z : FrameInfo). z.maps.modes.columns) same ∙ mapped.columns_are ∙ sizes.columns ∙ sym (ap macroblocks shaped.width_is);
+      rows = ap (λ (z : FrameInfo). z.maps.modes.rows) same ∙ mapped.rows_are ∙ sizes.rows ∙ sym (ap macroblocks shaped.height_is);
+    }

@@ -1,8 +1,6 @@
 -- The sizes of a frame's picture and of what stands between packets.
-use Rattle.std.specs.Option.{ok_or}
-use Rattle.std.proofs.Common.{◌≡◌, ◌∙◌, ℕ, suc, ◌*◌, length, Bool, true, false, cond, List, [], ◌∷◌, Some, None, refl, sym, ap, subst, arith}
+use Rattle.std.proofs.Common.{◌≡◌, ◌∙◌, ℕ, ◌*◌, Bool, true, false, cond, List, [], ◌∷◌, Some, None, refl, sym, ap, subst}
 use Rattle.std.specs.Prelude.{Option, Result, Ok, Err, IfSome, ◌||◌}
-use Rattle.vp_head.specs.declared.fault.PacketFault.TheVariants.{NoReference}
 use Rattle.vp_base.specs.declared.place.Place.{Place}
 use Rattle.vp_base.specs.declared.limits.Dim.{Dim}
 use Rattle.vp_base.specs.declared.limits.Limits.{Limits}
@@ -27,7 +25,7 @@ use Rattle.vp_decode.specs.Frame.{Frame, unfiltered, picture_of}
 use Rattle.vp_decode.specs.Equation.{IsOneSize}
 use Rattle.vp_decode.specs.RowBands.{IsShaped}
 use Rattle.vp_decode.specs.State.{IsSized, AreSized, HasConsistentSizes}
-use Rattle.vp_decode.specs.Step.{DecoderState, FrameContext, key_context, inter_context, context_of, ParsedPacket, parsed, frame_info_of, frame_of_packet, references_after, shown_after, state_after, decoded, repeated_frame, step}
+use Rattle.vp_decode.specs.Step.{DecoderState, FrameContext, key_context, inter_context, context_of, ParsedPacket, parsed, frame_info_of, frame_of_packet, references_after, shown_after, state_after, decoded, step}
 use Rattle.vp_decode.proofs.CutLemmas.{opened-is}
 use Rattle.vp_decode.proofs.MapLemmas.{IsMapped, maps_read-mapped}
 
@@ -45,7 +43,7 @@ blank_shaped width height = record {
   );
 }
 
-row_shaped : (width height row : ℕ) (level : Place → Level) (p : Image) → IsShaped width height p → IsShaped width height (row_filtered level row p)
+pub row_shaped : (width height row : ℕ) (level : Place → Level) (p : Image) → IsShaped width height p → IsShaped width height (row_filtered level row p)
 row_shaped width height row level p s = record {
   width_is = (row_size level row p).width ∙ s.width_is;
   height_is = (row_size level row p).height ∙ s.height_is;
@@ -89,11 +87,12 @@ either_size : (b : Bool) (p q r : Image) → AreOneSize p r → AreOneSize q r �
 either_size true p q r a c = a
 either_size false p q r a c = c
 
-copied_size : (c : ReferenceCopy) (last other own r : Image) → AreOneSize last r → AreOneSize other r → AreOneSize own r → AreOneSize (copied_by c last other own) r
-copied_size Nothing last other own r a b c = c
-copied_size Last last other own r a b c = a
-copied_size Other last other own r a b c = b
-copied_size Unused last other own r a b c = c
+-- what holds of each picture that a copy may take holds of the one that it takes
+pub copied_keeps : (P : Image → Type 0) (c : ReferenceCopy) (last other own : Image) → P last → P other → P own → P (copied_by c last other own)
+copied_keeps P Nothing last other own l o w = w
+copied_keeps P Last last other own l o w = l
+copied_keeps P Other last other own l o w = o
+copied_keeps P Unused last other own l o w = w
 
 shown_size : (show : Bool) (p r : Image) (before : Option Image) → AreOneSize p r → IfSome before (λ q. AreOneSize q r) → IfSome (shown_after show p before) (λ q. AreOneSize q r)
 shown_size true p r before a b = a
@@ -131,9 +130,8 @@ kept-one_size width height (Some k) h saved segments p shown one s again columns
     let golden : AreOneSize k.golden p = same_as width height k.golden p one.golden s in
     let alt : AreOneSize k.alt p = same_as width height k.alt p one.alt s in
     let u = h.updates in
-    let new_alt : AreOneSize (copied_by u.copy_to_alt k.last k.golden k.alt) p = copied_size u.copy_to_alt k.last k.golden k.alt p last golden alt in
-    let new_golden : AreOneSize (copied_by u.copy_to_golden k.last (copied_by u.copy_to_alt k.last k.golden k.alt) k.golden) p =
-    copied_size u.copy_to_golden k.last (copied_by u.copy_to_alt k.last k.golden k.alt) k.golden p last new_alt golden in
+    let new_alt = copied_keeps (λ q. AreOneSize q p) u.copy_to_alt k.last k.golden k.alt last golden alt in
+    let new_golden = copied_keeps (λ q. AreOneSize q p) u.copy_to_golden k.last _ k.golden last new_alt golden in
     record {
       last = either_size (h.key || u.refresh_last) p k.last p (same_size p) last;
       golden = either_size (h.key || u.refresh_golden) p _ p (same_size p) new_golden;
@@ -192,15 +190,3 @@ step-one_size law limits None [] one = tt
 step-one_size law limits (Some k) [] one = one
 step-one_size law limits state (b ∷ bs) one =
     decoded-one_size law (parsed limits state (b ∷ bs)) (λ o e. context-whole o.tag.key state o.context (opened-is limits state (b ∷ bs) o e).context_is one)
-
--- ---- the two cases of a step
-
-pub step-empty : (limits : Limits) (state : Option DecoderState) (packet : List ℕ) → length packet ≡ 0 → step limits state packet ≡ repeated_frame (ok_or state NoReference)
-unfolding step
-step-empty limits state [] none = refl
-step-empty limits state (b ∷ bs) none = absurd (let no : suc (length bs) ≡ 0 = none in omega arith)
-
-pub step-decoded : (limits : Limits) (state : Option DecoderState) (packet : List ℕ) → ¬ (length packet ≡ 0) → step limits state packet ≡ decoded (parsed limits state packet)
-unfolding step
-step-decoded limits state [] some = absurd (some refl)
-step-decoded limits state (b ∷ bs) some = refl

@@ -1,13 +1,15 @@
 -- Private to the crate: the state after a decoded frame, and the sizes in a frame's context.
-use Rattle.std.specs.Prelude.{◌≡◌, ℕ, Bool, true, false, List, Result, Ok, Err, Option, Some, None, IfSome, option_map}
+use Rattle.std.specs.Prelude.{◌≡◌, ℕ, ◌+◌, Bool, true, false, List, length, drop, Result, Ok, Err, Option, Some, None}
+use Rattle.std.specs.Prelude.{IfSome, option_map, nat_lt, if◌then◌else◌}
 use Rattle.vp_base.specs.declared.limits.Dim.{Dim}
 use Rattle.vp_base.specs.Grid.{Grid, all}
 use Rattle.vp_base.specs.Image.{Image, macroblocks}
-use Rattle.vp_bool.specs.Bools.{State}
+use Rattle.vp_bool.specs.Bools.{State, initial_state}
 use Rattle.vp_head.specs.declared.fields.Tag.{Tag}
 use Rattle.vp_head.specs.declared.fields.Header.{Header}
 use Rattle.vp_head.specs.declared.fields.Saved.{Saved}
 use Rattle.vp_head.specs.declared.fault.PacketFault.{PacketFault}
+use Rattle.vp_head.specs.declared.fault.PacketFault.TheVariants.{FirstPartition}
 use Rattle.vp_head.specs.Header.{header}
 use Rattle.vp_head.specs.Saved.{defaults}
 use Rattle.vp_modes.specs.Entry.{Modes, plain}
@@ -15,7 +17,11 @@ use Rattle.vp_modes.specs.Map.{of_segments}
 use Rattle.vp_refs.specs.References.{References}
 use Rattle.vp_tokens.specs.Partitions.{cut_of}
 use Rattle.vp_decode.specs.declared.decoded_frame.DecodedFrame.{DecodedFrame}
-use Rattle.vp_decode.specs.Step.{FrameContext, DecoderState, ParsedPacket, ◌>>=◌, count_of, references_after}
+use Rattle.vp_decode.specs.declared.decoder.OnFault.{OnFault}
+use Rattle.vp_decode.specs.declared.decoder.OnFault.TheVariants as on_fault
+use Rattle.vp_decode.specs.Keeping.{keeping}
+use Rattle.vp_decode.specs.Step.{Answer, FrameContext, DecoderState, ParsedPacket, ◌>>=◌, count_of, tag_length}
+use Rattle.vp_decode.specs.Step.{first_part, references_after}
 
 -- the modes that a frame of this size starts with: those of the segment map, or `plain`
 abbrev pub modes_from : Dim → Option (Grid ℕ) → Grid Modes
@@ -26,6 +32,12 @@ modes_from dim (Some segments) = of_segments segments
 abbrev pub saved_from : Option Saved → Saved
 saved_from None = defaults
 saved_from (Some saved) = saved
+
+-- the first partition's state at its start, and the bytes after it, which the packet must have
+abbrev pub parts_of : Tag → List ℕ → Result (State × List ℕ) PacketFault
+parts_of tag packet =
+    if nat_lt (length packet) (tag_length tag + tag.first_partition) then Err FirstPartition
+    else Ok (initial_state (first_part tag packet), drop (tag_length tag + tag.first_partition) packet)
 
 -- an open packet: its tag and its context, the first partition, and the bytes after it
 pub record OpenPacket : Type 0 where
@@ -94,3 +106,8 @@ pub record HasConsistentSizes (b : FrameContext) : Type 0 where
   pub shown : IfSome b.shown (IsSized b.width b.height)
   pub columns : b.modes.columns ≡ macroblocks b.width
   pub rows : b.modes.rows ≡ macroblocks b.height
+
+-- a step's state and answer, where a fault drops the state, or leaves the one before
+abbrev pub by_fault : OnFault → Option DecoderState → Option DecoderState × Answer → Option DecoderState × Answer
+by_fault on_fault.Forget before s = s
+by_fault on_fault.Keep before s = keeping before s

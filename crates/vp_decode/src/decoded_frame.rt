@@ -1,17 +1,15 @@
 //! Decodes one frame, without changing the decoder's state yet.
 
-ghost use Rattle.std.specs.Prelude.{◌≡◌, ◌||◌, map, IfOk, IfSome, None, option_map};
+ghost use Rattle.std.specs.Prelude.{◌≡◌, map, IfOk, IfSome, None, option_map};
 ghost use Rattle.vp_modes.specs.Map.{segments_of};
 ghost use Rattle.vp_bool.specs.Bools.{initial_state};
-ghost use Rattle.vp_decode.specs.Corrupt.{any_past, tokens_after, is_corrupt};
+ghost use Rattle.vp_decode.specs.Corrupt.{any_past, tokens_after, first_after, is_corrupt};
 ghost use Rattle.vp_decode.specs.Equation.{IsOneSize};
 ghost use Rattle.vp_decode.specs.Frame.{picture_of};
-ghost use Rattle.vp_decode.specs.MacroblockInfo.{maps_read};
 ghost use Rattle.vp_decode.specs.RebuiltFrame.{IsRebuiltFrame};
-ghost use Rattle.vp_decode.specs.Step.{maps_before, frame_info_of, frame_of_packet, shown_after, state_after};
+ghost use Rattle.vp_decode.specs.Step.{frame_info_of, frame_of_packet, shown_after, state_after};
 
 use crate::frame_buffers::FrameBuffers;
-use crate::frame_context::FrameContext;
 use crate::frame_decoder::{DecodedPicture, decode_picture};
 use crate::frame_info::FrameInfo;
 use crate::macroblock_info::MacroblockInfo;
@@ -21,8 +19,6 @@ use std::alloc::{AllocError, Global};
 use std::mem;
 use std::rc::Rc;
 use vp_base::{Grid, Picture};
-use vp_bool::BoolDecoder;
-use vp_head::Header;
 use vp_loop::RowFilter;
 use vp_modes::Segment;
 use vp_recon::unfiltered_picture_solves_its_equation;
@@ -56,70 +52,57 @@ fn shown_after(
     }
 }
 
-/// Reads the modes and the motion of a frame's macroblocks, reusing the memory of `buffers`. The reader is left after
-/// them.
+/// Reads the modes and the motion of a frame's macroblocks, reusing the memory of `buffers`. Tells too whether the
+/// first partition is past its end after them.
 fn read_maps(
     alloc: Global,
     buffers: &mut FrameBuffers,
-    context: &FrameContext,
-    header: &Header,
-    first: &mut BoolDecoder,
-) -> Result<MacroblockInfo, AllocError>
-    ensures value { IfOk result (λ m. m ≡ (maps_read header.now (maps_before context.now.modes) first.old).0) }
-    ensures rest { IfOk result (λ _. first.new
-        ≡ (maps_read header.now (maps_before context.now.modes) first.old).1) }
-    ensures columns { IfOk result (λ m. m.modes.columns ≡ context.now.modes.columns) }
-    ensures rows { IfOk result (λ m. m.modes.rows ≡ context.now.modes.rows) }
+    parsed: &ParsedPacket,
+) -> Result<(MacroblockInfo, bool), AllocError>
+    ensures maps { IfOk result (λ r. r.0 ≡ (frame_info_of parsed.now).maps) }
+    ensures past { IfOk result (λ r. r.1 ≡ (first_after parsed.now).past) }
+    ensures columns { IfOk result (λ r. r.0.modes.columns ≡ parsed.now.context.modes.columns) }
+    ensures rows { IfOk result (λ r. r.0.modes.rows ≡ parsed.now.context.modes.rows) }
 {
-    let mut maps = context.maps_before(mem::replace(
-        &mut buffers.maps,
-        MacroblockInfo::empty(alloc),
-    ))?;
-    maps.read(header, first);
-    Ok(maps)
+    let kept = mem::replace(&mut buffers.maps, MacroblockInfo::empty(alloc));
+    let mut first = parsed.first.copy();
+    let context = &parsed.context;
+    let mut maps = context.maps_before(kept)?;
+    maps.read(parsed.header, &mut first);
+    Ok((maps, first.is_past_end()))
 }
 
-/// Decodes or filters the picture of a parsed packet, given the maps of its frame. A picture that is only filtered is
-/// not corrupt.
+/// Decodes or filters the picture of a parsed packet, given what is known of its frame. A picture that is only filtered
+/// is not corrupt.
 fn picture_of_packet<F: RowFilter>(
     alloc: Global,
     buffers: &mut FrameBuffers,
     parsed: &ParsedPacket,
     filter: &mut F,
     rebuilt: Option<Picture>,
-    maps: &MacroblockInfo,
+    info: &FrameInfo,
 ) -> Result<DecodedPicture, AllocError>
-    requires columns { maps.now.modes.columns ≡ parsed.now.context.modes.columns }
-    requires rows { maps.now.modes.rows ≡ parsed.now.context.modes.rows }
+    requires columns { info.now.maps.modes.columns ≡ parsed.now.context.modes.columns }
+    requires rows { info.now.maps.modes.rows ≡ parsed.now.context.modes.rows }
     requires given { IfSome rebuilt (IsRebuiltFrame parsed.now) }
-    requires maps { maps.now
-        ≡ (maps_read parsed.now.header (maps_before parsed.now.context.modes) parsed.now.first).0 }
+    requires info { info.now ≡ frame_info_of parsed.now }
     ensures picture { IfOk result (λ p. p.picture ≡ picture_of (frame_of_packet parsed.now)) }
     ensures corrupt { rebuilt ≡ None → IfOk result (λ p. p.corrupt ≡ any_past
         (tokens_after (frame_info_of parsed.now) (map initial_state parsed.now.partitions))) }
 {
     // A law, no work: each pixel is its prediction and its residue, whatever the order of macroblocks.
     unfiltered_picture_solves_its_equation();
-    let context = &parsed.context;
-    let version = parsed.tag.version;
-    let info = FrameInfo::new(parsed.header, version, context.references, maps);
     match rebuilt {
         Some(rebuilt) => Ok(DecodedPicture {
-            picture: filter_rebuilt(alloc, buffers, &info, rebuilt, filter)?,
+            picture: filter_rebuilt(alloc, buffers, info, rebuilt, filter)?,
             corrupt: false,
         }),
         None => {
+            let context = &parsed.context;
             let partitions = &parsed.partitions;
-            decode_picture(alloc, buffers, &info, context.dim, partitions, filter)
+            decode_picture(alloc, buffers, info, context.dim, partitions, filter)
         }
     }
-}
-
-/// Returns whether the first partition or a token partition is past its end.
-fn is_any_past(first: bool, tokens: bool) -> bool
-    ensures { result ≡ (first || tokens) }
-{
-    first || tokens
 }
 
 /// Returns a frame of this picture. It is the last shown picture too if `show` is set, else the one before it is.
@@ -167,14 +150,15 @@ pub(crate) fn decode_frame<F: RowFilter>(
 {
     // A law, no work: each pixel is its prediction and its residue, whatever the order of macroblocks.
     unfiltered_picture_solves_its_equation();
-    let context = &parsed.context;
-    let mut first = parsed.first.copy();
-    let maps = read_maps(alloc, buffers, context, parsed.header, &mut first)?;
+    let (maps, past) = read_maps(alloc, buffers, parsed)?;
     let kept = mem::replace(&mut buffers.segments, Grid::empty(alloc));
     let segments = maps.modes.segments_in(kept)?;
-    let decoded = picture_of_packet(alloc, buffers, parsed, filter, rebuilt, &maps)?;
+    let context = &parsed.context;
+    let version = parsed.tag.version;
+    let info = FrameInfo::new(parsed.header, version, context.references, &maps);
+    let decoded = picture_of_packet(alloc, buffers, parsed, filter, rebuilt, &info)?;
     buffers.maps = maps;
-    let corrupt = is_any_past(first.is_past_end(), decoded.corrupt);
+    let corrupt = past | decoded.corrupt;
     let show = parsed.tag.show;
     frame_of_picture(
         alloc,

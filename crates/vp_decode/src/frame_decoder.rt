@@ -95,10 +95,12 @@ impl<'a> FrameDecoder<'a> {
                 self.tokens,
                 d,
             );
+            // A copy is lent, so that the predictor itself stays in registers.
+            let lent = *predictor;
             rebuild_macroblock(
                 &mut self.picture,
                 place,
-                predictor,
+                &lent,
                 self.tokens,
                 &info.factors(macroblock),
             );

@@ -6,7 +6,7 @@ ghost use Rattle.vp_head.specs.declared.fields.LevelDeltas.{LevelDeltas};
 ghost use Rattle.vp_head.specs.declared.fields.Saved.{Saved};
 ghost use Rattle.vp_head.specs.declared.fields.SegmentValues.{SegmentValues};
 ghost use Rattle.vp_head.specs.Rows.{magnitude, optional_signed, renewed, four_signed};
-ghost use Rattle.vp_head.specs.Header.{segment_values, tree_probabilities, segmentation, filter, level_deltas, frame};
+ghost use Rattle.vp_head.specs.Header.{segment_values, segmentation, level_deltas, frame};
 
 use vp_bool::BoolDecoder;
 
@@ -62,16 +62,7 @@ fn pass_segment_values(d: &mut BoolDecoder)
     pass_four_signed(6, d);
 }
 
-#[tactic(auto, unfolding(vp_head::specs::Header::tree_probabilities, vp_bool::specs::Reader::bind))]
-fn pass_tree_probabilities(d: &mut BoolDecoder)
-    ensures { d.new ≡ (tree_probabilities d.old).1 }
-{
-    pass_probability(d);
-    pass_probability(d);
-    pass_probability(d);
-}
-
-#[tactic(auto, unfolding(vp_head::specs::Header::segmentation, vp_bool::specs::Reader::bind))]
+#[tactic(auto, unfolding(vp_head::specs::Header::segmentation, vp_head::specs::Header::tree_probabilities, vp_bool::specs::Reader::bind))]
 fn pass_segmentation(d: &mut BoolDecoder)
     ensures { (kept : SegmentValues) → d.new ≡ (segmentation kept d.old).1 }
 {
@@ -84,17 +75,10 @@ fn pass_segmentation(d: &mut BoolDecoder)
         pass_segment_values(d);
     }
     if update_map {
-        pass_tree_probabilities(d);
+        pass_probability(d);
+        pass_probability(d);
+        pass_probability(d);
     }
-}
-
-#[tactic(auto, unfolding(vp_head::specs::Header::filter, vp_bool::specs::Reader::bind))]
-fn pass_filter(d: &mut BoolDecoder)
-    ensures { d.new ≡ (filter d.old).1 }
-{
-    d.read(128);
-    d.literal(6);
-    d.literal(3);
 }
 
 #[tactic(auto, unfolding(vp_head::specs::Header::level_deltas, vp_bool::specs::Reader::bind))]
@@ -108,7 +92,7 @@ fn pass_level_deltas(d: &mut BoolDecoder)
 }
 
 /// Reads the number of token partitions, as a power of two. It doesn't depend on what earlier frames left.
-#[tactic(auto, unfolding(vp_head::specs::Header::frame, vp_bool::specs::Reader::bind))]
+#[tactic(auto, unfolding(vp_head::specs::Header::frame, vp_head::specs::Header::filter, vp_bool::specs::Reader::bind))]
 pub(crate) fn read_log2_partitions(key: bool, d: &mut BoolDecoder) -> u8
     ensures value { (kept : Saved) → result ≡ (frame key kept d.old).0.log2_partitions }
     ensures few { result ≤ 3 }
@@ -118,7 +102,10 @@ pub(crate) fn read_log2_partitions(key: bool, d: &mut BoolDecoder) -> u8
         d.read(128);
     }
     pass_segmentation(d);
-    pass_filter(d);
+    // The loop filter.
+    d.read(128);
+    d.literal(6);
+    d.literal(3);
     pass_level_deltas(d);
     d.literal(2)
 }

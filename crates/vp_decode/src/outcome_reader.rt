@@ -8,10 +8,9 @@ ghost use Rattle.vp_decode.specs.Step.{DecoderState, FrameContext, parsed_in_con
 
 use crate::decoder::Outcome;
 use crate::header_start::read_log2_partitions;
-use crate::parsed_packet::{length_of, partition_count};
+use crate::parsed_packet::{open_parts, partition_count};
 use std::marker::Model;
 use vp_base::Limits;
-use vp_bool::BoolDecoder;
 use vp_head::{PacketFault, Tag};
 use vp_tokens::Partitions;
 
@@ -66,7 +65,8 @@ impl OutcomeReader {
     }
 }
 
-fn frame_outcome(show: bool) -> Outcome
+/// Returns the outcome of a frame.
+pub(crate) fn frame_outcome(show: bool) -> Outcome
     ensures { result ≡ frame_outcome show }
 {
     if show {
@@ -128,15 +128,9 @@ fn read_checked_tag(limits: &Limits, has_state: bool, packet: &[u8]) -> Result<T
 fn check_partitions(tag: Tag, packet: &[u8]) -> Result<Tag, PacketFault>
     ensures { (context : FrameContext) → result ≡ tag_in (parsed_in_context tag context packet.now) }
 {
-    let begin = length_of(&tag);
-    let end = begin + tag.first_partition as usize;
-    if packet.len() < end {
-        return Err(PacketFault::FirstPartition);
-    }
-    let mut first = BoolDecoder::new(&packet[begin..end]);
+    let (mut first, rest) = open_parts(&tag, packet)?;
     let log2 = read_log2_partitions(tag.key.is_some(), &mut first);
-    let count = partition_count(log2);
-    match Partitions::cut(&packet[end..], count) {
+    match Partitions::cut(rest, partition_count(log2)) {
         Ok(_) => Ok(tag),
         Err(fault) => Err(fault),
     }

@@ -1,9 +1,9 @@
 //! Parses a packet and detects its faults, in the order in which they are reported.
 
-ghost use Rattle.std.specs.Prelude.{◌≡◌, ◌≤◌, ◌<◌};
+ghost use Rattle.std.specs.Prelude.{◌≡◌, ◌≤◌, ◌<◌, Ok, Err, IfOk, MatchResult};
 ghost use Rattle.vp_base.specs.declared.limits.Limits.{Limits};
-ghost use Rattle.vp_decode.specs.State.{finished, finished_from, with_header};
-ghost use Rattle.vp_decode.specs.Step.{parsed, parsed_in_context, count_of, tag_length};
+ghost use Rattle.vp_decode.specs.State.{finished, finished_from, parts_of, with_header};
+ghost use Rattle.vp_decode.specs.Step.{parsed, count_of, tag_length};
 
 use crate::decoder::DecoderState;
 use crate::frame_context::FrameContext;
@@ -79,7 +79,7 @@ pub fn partition_count(log2: u8) -> usize
 }
 
 /// Returns the length of the tag in bytes: 10 for a key frame, else 3.
-pub(crate) fn length_of(tag: &Tag) -> usize
+fn length_of(tag: &Tag) -> usize
     ensures value { result ≡ tag_length tag.now }
     ensures small { result ≤ 10 }
 {
@@ -102,7 +102,9 @@ impl<'a> OpenPacket<'a> {
         saved: &'a Saved,
     ) -> Result<ParsedPacket<'a>, PacketFault>
         requires { header.now.log2_partitions ≤ 3 }
-        ensures { result ≡ with_header self.entry header.now saved.now }
+        ensures value { result ≡ with_header self.entry header.now saved.now }
+        ensures header { IfOk result (λ o. o.header ≡ header.now) }
+        ensures saved { IfOk result (λ o. o.saved ≡ saved.now) }
     {
         let count = partition_count(header.log2_partitions);
         match Partitions::cut(self.rest, count) {
@@ -119,29 +121,24 @@ impl<'a> OpenPacket<'a> {
     }
 }
 
-/// Opens the packet after its tag.
-fn open_in_context<'a>(
-    tag: Tag,
-    context: FrameContext<'a>,
+/// Returns a reader of the first partition, and the bytes after it.
+pub(crate) fn open_parts<'a>(
+    tag: &Tag,
     packet: &'a [u8],
-) -> Result<OpenPacket<'a>, PacketFault>
-    ensures { finished_from result ≡ parsed_in_context tag context.entry packet.now }
+) -> Result<(BoolDecoder<'a>, &'a [u8]), PacketFault>
+    ensures { MatchResult result (λ parts. parts_of tag.now packet.now ≡ Ok (parts.0, parts.1.now))
+        (λ fault. parts_of tag.now packet.now ≡ Err fault) }
 {
-    let begin = length_of(&tag);
+    let begin = length_of(tag);
     let end = begin + tag.first_partition as usize;
     if packet.len() < end {
         return Err(PacketFault::FirstPartition);
     }
-    Ok(OpenPacket {
-        tag,
-        context,
-        first: BoolDecoder::new(&packet[begin..end]),
-        rest: &packet[end..],
-    })
+    Ok((BoolDecoder::new(&packet[begin..end]), &packet[end..]))
 }
 
 /// Opens a packet, or returns the first of its faults.
-#[tactic(auto, unfolding(crate::specs::Step::parsed))]
+#[tactic(auto, unfolding(crate::specs::Step::parsed), using(crate::proofs::CutLemmas::opened_in_parts))]
 pub(crate) fn open_packet<'a>(
     limits: &Limits,
     state: &'a Option<DecoderState>,
@@ -151,5 +148,11 @@ pub(crate) fn open_packet<'a>(
 {
     let tag = Tag::read(packet, limits)?;
     let context = FrameContext::of(tag.key, state)?;
-    open_in_context(tag, context, packet)
+    let (first, rest) = open_parts(&tag, packet)?;
+    Ok(OpenPacket {
+        tag,
+        context,
+        first,
+        rest,
+    })
 }

@@ -4,7 +4,7 @@ use Rattle.vp_base.specs.Over.{over}
 use Rattle.vp_base.proofs.OverLemmas.{over-none}
 use Rattle.vp_loop.specs.Filtered.{filtered, row_filtered}
 use Rattle.vp_decode.specs.SkippedLevels.{level_by}
-use Rattle.vp_decode.proofs.RebuiltLemmas.{row_sized, row_more}
+use Rattle.vp_decode.proofs.RowsLemmas.{row_sized, row_more}
 use Rattle.vp_decode.proofs.rebuilt_frame.filter_rebuilt.Goals as goal
 
 pub loop-row-init : goal.loop-row-init

@@ -11,7 +11,7 @@ use Rattle.vp_recon.specs.Predictor.{predictor_of}
 use Rattle.vp_loop.specs.declared.strength.Level.{Level}
 use Rattle.vp_decode.specs.Frame.{FrameInfo, factors_at, level_at}
 use Rattle.vp_decode.specs.FrameDecoder.{FrameDecoder, IsMacroblockAt, IsMacroblockStep}
-use Rattle.vp_decode.proofs.ReadingLemmas.{seen_here, step_made}
+use Rattle.vp_decode.proofs.ReadingLemmas.{step_made}
 use Rattle.vp_decode.proofs.frame_decoder.FrameDecoder.decode.Goals as goal
 use Rattle.vp_decode.proofs.frame_decoder.FrameDecoder.decode.Goals.{Joined-modes, then-modes+then-not-has_sub_modes, else-modes}
 
@@ -100,7 +100,7 @@ returns-clause-step c = λ g has stands.
     let j : Joined-modes = (goal.at.returns-clause-step c).Joined-modes in
     let same = kept j in
     subst (λ (a : FrameDecoder). IsMacroblockStep a.info c.args.place g c.args.d.now c.if-modes.d a (after j c.set.new.self)) c.self.view_is
-    (step j g c.set.new.self has (seen_here g c.args.place _ _ c.self.view_is stands)
+    (step j g c.set.new.self has (rw (← c.self.view_is) at stands)
     (λ tokens coded. c.set.ensures.here ∙ ap (λ (l : Level). Some l) (c.level.ensures c.args.place tokens
     (subst (λ (a : FrameDecoder). IsMacroblockAt a.info c.args.place c.args.macroblock.now) (sym c.self.view_is) c.requires.macroblock) coded))
     (λ q other. c.set.ensures.elsewhere q other ∙ ap (λ (l : Grid Level). entry l q) same.levels))

@@ -12,10 +12,9 @@ use Rattle.vp_decode.specs.Frame.{FrameInfo, frame_of, tokens_of, macroblock_at}
 use Rattle.vp_decode.specs.TokenRows.{readings, row_partition}
 use Rattle.vp_decode.specs.FrameDecoder.{FrameDecoder, IsRow, IsOneFrame, IsAfterRows}
 use Rattle.vp_decode.proofs.TokenGrid.{rests_in_turn}
-use Rattle.vp_decode.proofs.ReadingLemmas.{rows_none, rows_next, rows_kept, row_of_frame, seen_columns, seen_rows}
-use Rattle.vp_decode.proofs.FilterLemmas.{filter_is_above}
+use Rattle.vp_decode.proofs.ReadingLemmas.{IsRowRead, rows_none, rows_next, rows_kept, row_of_frame, seen_columns, seen_rows}
+use Rattle.vp_decode.proofs.RowsLemmas.{filter_is_above, Rebuilds, row_filter, row_builder, row_is_below, row_keeps_shape, filtered_by_levels, frame_made}
 use Rattle.vp_decode.proofs.BandLemmas.{window_next, window_end}
-use Rattle.vp_decode.proofs.RowsLemmas.{Rebuilds, row_filter, row_builder, row_is_below, row_keeps_shape, filtered_by_levels, frame_made}
 use Rattle.vp_decode.proofs.frame_decoder.FrameDecoder.rows.Goals as goal
 
 read_any : (ds : List State) (i : ℕ) (d e : State) → i < length ds → get_or ds i d ≡ get_or ds i e
@@ -74,12 +73,12 @@ loop-row-preserved g c =
     read_any ds at c.index-decoders-at.result (initial_state []) (omega (arith, c.requires.some, c.loop-row.invariant.some))
     ∙ ap (λ (z : List State). slice_index_or z (row % length z) (initial_state [])) before.rests in
     let seen : Grid Blocks = (readings f ps row).seen in
-    let wide : seen.columns ≡ c.loop-row.self.info.maps.modes.columns = seen_columns f ps row ∙ ap (λ (z : FrameInfo). z.maps.modes.columns) (sym c.loop-row.invariant.info) in
+    let wide : seen.columns ≡ c.loop-row.self.info.maps.modes.columns = rw c.loop-row.invariant.info (seen_columns f ps row) in
     let inside : row < seen.rows = omega (arith, seen_rows f ps row, c.loop-row-test.true) in
-    let made_by : IsRow c.loop-row.self.info row c.loop-row.self.info.maps.modes.columns seen state c.row.new.d c.loop-row.self c.row.new.self = c.row.ensures.row seen wide inside before.contexts in
-    let made : IsRow f row f.maps.modes.columns seen state c.row.new.d c.loop-row.self c.row.new.self =
-    subst (λ (z : FrameInfo). IsRow z row z.maps.modes.columns seen state c.row.new.d c.loop-row.self c.row.new.self) c.loop-row.invariant.info made_by in
-    let next : IsAfterRows f ps (row + 1) _ c.row.new.self = rows_next f ps ds row state c.row.new.d c.loop-row.self c.row.new.self before own here made in
+    let made : IsRowRead f ps row c.row.new.d c.loop-row.self c.row.new.self =
+    rw (← own) (subst (λ (z : FrameInfo). IsRow z row z.maps.modes.columns seen state c.row.new.d c.loop-row.self c.row.new.self) c.loop-row.invariant.info
+    (c.row.ensures.row seen wide inside before.contexts)) in
+    let next : IsAfterRows f ps (row + 1) _ c.row.new.self = rows_next f ps ds row c.row.new.d c.loop-row.self c.row.new.self before here made in
     let level_columns : c.row.new.self.levels.columns ≡ macroblocks p.width = c.row.ensures.columns ∙ c.loop-row.invariant.columns ∙ one.level_columns in
     let size : c.row.new.self.picture.width ≡ p.width = c.row.ensures.width ∙ c.loop-row.invariant.width in
     record {
@@ -96,7 +95,7 @@ loop-row-preserved g c =
           (λ k below q shaped. row_keeps_shape laws p.width p.height k (frame_of f ps 0 0).macroblock q shaped)
           c.requires.shaped within
           c.loop-row.invariant.picture
-          (row_of_frame f ps row state c.row.new.d c.loop-row.self c.row.new.self own here made
+          (row_of_frame f ps row c.row.new.d c.loop-row.self c.row.new.self here made
           ∙ ap (λ (n : ℕ). over n (λ column. rebuilt (macroblock_at f (place row column) (tokens_of f ps (place row column))) (place row column)) c.loop-row.self.picture) columns)
           c.filter_before.ensures.none
           (λ k e. c.filter_before.ensures.one k e
