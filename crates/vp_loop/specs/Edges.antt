@@ -17,7 +17,7 @@ use Rattle.vp_loop.specs.declared.limits.FilterKind.TheVariants as filter_is
 use Rattle.vp_loop.specs.declared.strength.Level.{Level}
 use Rattle.vp_loop.specs.LineSteps.{stepped}
 
--- a at a vertical edge, whose lines are in rows, and b at a horizontal one, whose lines are in columns
+-- by an edge's orientation: a if it is vertical, with lines in rows, and b if it is horizontal, with lines in columns
 abbrev pub pick : Orientation → ℕ → ℕ → ℕ
 pick Vertical a b = a
 pick Horizontal a b = b
@@ -28,7 +28,7 @@ line_from f = record { p3 = f 0; p2 = f 1; p1 = f 2; p0 = f 3; q0 = f 4; q1 = f 
 
 -- the line that begins with p3 at column x of row y
 unfoldable pub line_at : Orientation → Raster → ℕ → ℕ → Line
-line_at orientation p x y = line_from (λ k. pixel p (pick orientation (x + k) x) (pick orientation y (y + k)))
+line_at o p x y = line_from (λ k. pixel p (pick o (x + k) x) (pick o y (y + k)))
 
 -- pixel k of a line
 abbrev pub pixel_at : Line → ℕ → ℕ
@@ -36,14 +36,12 @@ pixel_at l k = slice_index (l.p3 ∷ l.p2 ∷ l.p1 ∷ l.p0 ∷ l.q0 ∷ l.q1 �
 
 -- one line step: the eight pixels of the line are replaced, from the one at column x of row y on
 abbrev pub line_step : Orientation → LineStep → ℕ → ℕ → Raster → Raster
-line_step orientation step x y p =
-    with_block p x y (pick orientation 8 1) (pick orientation 1 8)
-    (λ r c. pixel_at (stepped step (line_at orientation p x y)) (pick orientation c r))
+line_step o step x y p =
+    with_block p x y (pick o 8 1) (pick o 1 8) (λ r c. pixel_at (stepped step (line_at o p x y)) (pick o c r))
 
 -- the steps of the n lines of an edge, by increasing coordinate; the first line begins at column x of row y
 unfoldable pub edge_lines : Orientation → LineStep → ℕ → ℕ → ℕ → Raster → Raster
-edge_lines orientation step n x y p =
-    over n (λ k. line_step orientation step (pick orientation x (x + k)) (pick orientation (y + k) y)) p
+edge_lines o step n x y p = over n (λ k. line_step o step (pick o x (x + k)) (pick o (y + k) y)) p
 
 -- The limits of a macroblock's edges. Here alone a 0 among the numbers of a level has a meaning of its own: as an edge
 -- limit, that the macroblock isn't filtered; as an interior limit, the simple filter; as an inner limit, that the edges
@@ -80,26 +78,23 @@ inner_step limits limit = record (outer_step limits) {
 
 -- the left or top edge of a macroblock, unless the plane begins there
 abbrev pub own_edge : Orientation → LineStep → ℕ → ℕ → ℕ → Raster → Raster
-own_edge orientation step size x y p =
-    if nat_lt 0 (pick orientation x y)
-    then edge_lines orientation step size (pick orientation (x - 4) x) (pick orientation y (y - 4)) p
-    else p
+own_edge o step size x y p =
+    if nat_lt 0 (pick o x y) then edge_lines o step size (pick o (x - 4) x) (pick o y (y - 4)) p else p
 
 -- the edges inside a macroblock of size by size pixels: at 4, 8 and 12 of 16, at 4 of 8
 unfoldable pub inner_edges : Orientation → LineStep → ℕ → ℕ → ℕ → Raster → Raster
-inner_edges orientation step size x y p =
-    over (size / 4 - 1) (λ i. edge_lines orientation step size (pick orientation (x + 4 * i) x)
-    (pick orientation y (y + 4 * i))) p
+inner_edges o step size x y p =
+    over (size / 4 - 1) (λ i. edge_lines o step size (pick o (x + 4 * i) x) (pick o y (y + 4 * i))) p
 
 -- the edges inside a macroblock, where they are filtered
 abbrev pub edges_inside : Orientation → EdgeLimits → ℕ → ℕ → ℕ → Raster → Raster
-edges_inside orientation limits size x y p =
-    elim limits.inner [ None ↦ p | Some limit ↦ inner_edges orientation (inner_step limits limit) size x y p ]
+edges_inside o limits size x y p =
+    elim limits.inner [ None ↦ p | Some limit ↦ inner_edges o (inner_step limits limit) size x y p ]
 
 -- the edges of a macroblock in one direction: its own one, then those inside
 unfoldable pub block_edges : Orientation → ℕ → EdgeLimits → ℕ → ℕ → Raster → Raster
-block_edges orientation size limits x y p =
-    edges_inside orientation limits size x y (own_edge orientation (outer_step limits) size x y p)
+block_edges o size limits x y p =
+    edges_inside o limits size x y (own_edge o (outer_step limits) size x y p)
 
 -- the macroblock whose first pixel is at column x of row y of a plane: vertical edges, then horizontal ones
 unfoldable pub block_filtered : ℕ → Option EdgeLimits → ℕ → ℕ → Raster → Raster
