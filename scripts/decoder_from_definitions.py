@@ -652,7 +652,7 @@ def updated(h, p, old):
              golden=p if h.key or h.updates.refresh_golden else refs.golden,
              alt=p if h.key or h.updates.refresh_alt else refs.alt, newest=p)
 
-# ---- vp_decode/specs/MacroblockInfo.antt
+# ---- vp_decode/specs/MacroblockMaps.antt
 def macroblock_read(h, p, m, s):
     modes = modes_at(h, m.modes, p, s)
     with_entry(m.modes, p, modes)

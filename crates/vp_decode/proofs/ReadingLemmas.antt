@@ -16,7 +16,7 @@ use Rattle.vp_tokens.proofs.Steps.{row_begins}
 use Rattle.vp_quant.specs.declared.factors.Factors.{Factors}
 use Rattle.vp_recon.specs.Predictor.{Predictor, macroblock_of, has_y2}
 use Rattle.vp_recon.specs.Rebuilt.{rebuilt}
-use Rattle.vp_decode.specs.MacroblockInfo.{modes_in, place}
+use Rattle.vp_decode.specs.MacroblockMaps.{modes_in, place}
 use Rattle.vp_decode.specs.Frame.{FrameInfo, predictor_at, tokens_of, factors_at, macroblock_at, level_at}
 use Rattle.vp_decode.specs.TokenRows.{tokens_at, seen_read, row_seen, row_tokens, row_partition, token_row, nothing_read, readings, tokens_when_read}
 use Rattle.vp_decode.proofs.MapLemmas.{rows-holds}

@@ -10,7 +10,7 @@ use Rattle.vp_modes.specs.Entry.{Modes, plain}
 use Rattle.vp_motion.specs.Map.{intra}
 use Rattle.vp_motion.specs.Vector.{MacroblockMotion}
 use Rattle.vp_decode.specs.declared.frame_info.MacroblockRow.{MacroblockRow}
-use Rattle.vp_decode.specs.MacroblockInfo.{MacroblockInfo, place}
+use Rattle.vp_decode.specs.MacroblockMaps.{MacroblockMaps, place}
 use Rattle.vp_decode.specs.FrameDecoder.{IsMacroblockRow}
 
 -- n entries of a list, from a row's first one on
@@ -43,16 +43,16 @@ part_entry {A} d g row n column xs all below inside =
     ∙ ap Some (sym (get_or-drop (row * n) xs column d) ∙ sym (get_or-take (row * n + n - row * n) (drop (row * n) xs) column d (omega (arith, inside))))
     ∙ sym (slice_get-get_or (part row n xs) column d (omega (arith, long, inside)))
 
-pub row_made : (m maps : MacroblockInfo) (row n : ℕ) (r : MacroblockRow) (xs : List Modes) (ys : List MacroblockMotion) → m ≡ maps
+pub row_made : (m maps : MacroblockMaps) (row n : ℕ) (r : MacroblockRow) (xs : List Modes) (ys : List MacroblockMotion) → m ≡ maps
     → n ≡ m.modes.columns → m.motion.columns ≡ m.modes.columns → m.motion.rows ≡ m.modes.rows → xs ≡ m.modes.entries → ys ≡ m.motion.entries
     → length xs ≡ m.modes.rows * m.modes.columns → length ys ≡ m.motion.rows * m.motion.columns → row < maps.modes.rows
     → r.modes.now ≡ part row n xs → r.motion.now ≡ part row n ys → IsMacroblockRow maps row r
 row_made m maps row n r xs ys same wide columns rows modes motion whole_modes whole_motion within here there =
-    let below : row < m.modes.rows = subst (λ (k : MacroblockInfo). row < k.modes.rows) (sym same) within in
+    let below : row < m.modes.rows = subst (λ (k : MacroblockMaps). row < k.modes.rows) (sym same) within in
     let first : IsGrid m.modes n xs = record { columns = wide; entries = modes; whole = whole_modes } in
     let second : IsGrid m.motion n ys = record { columns = wide ∙ sym columns; entries = motion; whole = whole_motion } in
     let below' : row < m.motion.rows = omega (arith, rows, below) in
-    subst (λ (k : MacroblockInfo). IsMacroblockRow k row r) same (record {
+    subst (λ (k : MacroblockMaps). IsMacroblockRow k row r) same (record {
       modes = λ column inside. part_entry plain m.modes row n column xs first below (omega (arith, wide, inside)) ∙ ap (λ (es : List Modes). slice_get es column) (sym here);
       motion = λ column inside.
           part_entry intra m.motion row n column ys second below' (omega (arith, wide, inside)) ∙ ap (λ (es : List MacroblockMotion). slice_get es column) (sym there);

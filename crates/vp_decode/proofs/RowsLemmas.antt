@@ -13,7 +13,7 @@ use Rattle.vp_loop.specs.Filtered.{filtered, row_filtered, level_in, macroblock_
 use Rattle.vp_recon.specs.Predictor.{Macroblock}
 use Rattle.vp_recon.specs.Rebuilt.{rebuilt, row_rebuilt, all_rebuilt}
 use Rattle.vp_recon.specs.Equation.{IsUnfiltered}
-use Rattle.vp_decode.specs.MacroblockInfo.{place}
+use Rattle.vp_decode.specs.MacroblockMaps.{place}
 use Rattle.vp_decode.specs.Frame.{FrameInfo, Frame, frame_of, level_at, tokens_of, unfiltered, picture_of}
 use Rattle.vp_decode.specs.Equation.{IsSolution}
 use Rattle.vp_decode.specs.RowBands.{IsShaped, IsBelow, IsAbove}

@@ -24,7 +24,7 @@ use Rattle.vp_tokens.specs.Levels.{Probabilities, bits, size, signed_level, toke
 use Rattle.vp_tokens.specs.Blocks.{Blocks, block_at, macroblock}
 use Rattle.vp_decode.specs.Frame.{FrameInfo}
 use Rattle.vp_decode.specs.TokenRows.{tokens_at, seen_read, row_seen}
-use Rattle.vp_decode.specs.MacroblockInfo.{MacroblockInfo, motion_read, macroblock_read, row_read, maps_read}
+use Rattle.vp_decode.specs.MacroblockMaps.{MacroblockMaps, motion_read, macroblock_read, row_read, maps_read}
 
 -- t is the state after bools that are read from s on
 pub record IsRun (s t : State) : Type 0 where
@@ -131,7 +131,7 @@ by_vectors probabilities g p c vector_is.Near = search by_parts
 by_vectors probabilities g p c vector_is.New = search (by_parts, by_vector)
 by_vectors probabilities g p c vector_is.Split = search (by_parts, by_part) depth 14
 
-pub by_maps_read : (h : Header) (m : MacroblockInfo) → ReadsBools (maps_read h m)
+pub by_maps_read : (h : Header) (m : MacroblockMaps) → ReadsBools (maps_read h m)
 unfolding maps_read row_read macroblock_read modes_at segment_of reference_of inter_reference intra_modes luma_mode sub_modes sub_row chroma_mode motion_read motion_at motion_by vector_mode
 by_maps_read h m = search (by_parts, by_skip, by_vectors) depth 60 fits 5000
 

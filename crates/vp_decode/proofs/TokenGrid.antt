@@ -11,7 +11,7 @@ use Rattle.vp_base.specs.Over.{over}
 use Rattle.vp_base.proofs.GridLemmas.{entry-here, entry-elsewhere}
 use Rattle.vp_tokens.specs.Blocks.{Blocks, blocks_of}
 use Rattle.vp_recon.specs.Predictor.{has_y2}
-use Rattle.vp_decode.specs.MacroblockInfo.{place}
+use Rattle.vp_decode.specs.MacroblockMaps.{place}
 use Rattle.vp_decode.specs.Frame.{FrameInfo, ReadTokens, no_tokens_read, predictor_at, tokens_read, token_row_read, all_tokens_read, tokens_of}
 use Rattle.vp_decode.specs.TokenRows.{tokens_at, seen_read, row_seen, row_tokens, Readings, row_partition, readings, tokens_when_read}
 use Rattle.vp_decode.proofs.MapLemmas.{rows-holds}

@@ -5,7 +5,7 @@ use Rattle.std.specs.List.{list_any}
 use Rattle.vp_bool.specs.Bools.{State, initial_state}
 use Rattle.vp_base.specs.declared.limits.Limits.{Limits}
 use Rattle.vp_head.specs.declared.fault.PacketFault.{PacketFault}
-use Rattle.vp_decode.specs.MacroblockInfo.{maps_read}
+use Rattle.vp_decode.specs.MacroblockMaps.{maps_read}
 use Rattle.vp_decode.specs.Frame.{FrameInfo, all_tokens_read}
 use Rattle.vp_decode.specs.Step.{DecoderState, ParsedPacket, parsed, maps_before, frame_info_of}
 use Rattle.vp_decode.specs.declared.decoder.OnFault.{OnFault}

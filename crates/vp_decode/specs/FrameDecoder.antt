@@ -13,7 +13,7 @@ use Rattle.vp_recon.specs.Rebuilt.{rebuilt}
 use Rattle.vp_loop.specs.declared.strength.Level.{Level}
 use Rattle.vp_decode.specs.declared.frame_info.Macroblock.{Macroblock}
 use Rattle.vp_decode.specs.declared.frame_info.MacroblockRow.{MacroblockRow}
-use Rattle.vp_decode.specs.MacroblockInfo.{MacroblockInfo, modes_in, place}
+use Rattle.vp_decode.specs.MacroblockMaps.{MacroblockMaps, modes_in, place}
 use Rattle.vp_decode.specs.Frame.{FrameInfo, predictor_at, tokens_of, macroblock_at, level_at}
 use Rattle.vp_decode.specs.TokenRows.{tokens_at, seen_read, row_seen, row_tokens, readings}
 
@@ -38,7 +38,7 @@ pub record IsMacroblockAt (f : FrameInfo) (p : Place) (m : Macroblock) : Type 0 
   pub predictor : predictor_of m.predictor ≡ predictor_at f p
 
 -- r has the modes and the motion of each macroblock of a row
-pub record IsMacroblockRow (m : MacroblockInfo) (row : ℕ) (r : MacroblockRow) : Type 0 where
+pub record IsMacroblockRow (m : MacroblockMaps) (row : ℕ) (r : MacroblockRow) : Type 0 where
   pub modes : (column : ℕ) → column < m.modes.columns
       → entry m.modes (place row column) ≡ slice_get r.modes.now column
   pub motion : (column : ℕ) → column < m.modes.columns

@@ -11,17 +11,17 @@ use Rattle.vp_modes.specs.Entry.{Modes}
 use Rattle.vp_modes.specs.Modes.{modes_at}
 use Rattle.vp_motion.specs.Vector.{MacroblockMotion, Motion}
 use Rattle.vp_motion.specs.Motion.{motion_at}
-use Rattle.vp_decode.specs.MacroblockInfo.{MacroblockInfo, modes_in, motion_in, row_read, maps_read}
+use Rattle.vp_decode.specs.MacroblockMaps.{MacroblockMaps, modes_in, motion_in, row_read, maps_read}
 
 -- modes and motion have one size, with an entry for each place
-pub record AreMaps (m : MacroblockInfo) : Type 0 where
+pub record AreMaps (m : MacroblockMaps) : Type 0 where
   pub columns : m.motion.columns ≡ m.modes.columns
   pub rows : m.motion.rows ≡ m.modes.rows
   pub modes : length m.modes.entries ≡ m.modes.rows * m.modes.columns
   pub motion : length m.motion.entries ≡ m.motion.rows * m.motion.columns
 
 -- reads the macroblocks before p: the rows above it, then those to its left
-unfoldable pub read_before : Header → Place → MacroblockInfo → Reader MacroblockInfo
+unfoldable pub read_before : Header → Place → MacroblockMaps → Reader MacroblockMaps
 read_before h p m = do
   above ← rows p.row (row_read h m.modes.columns) m
   row_read h p.column p.row above
@@ -31,12 +31,12 @@ abbrev pub moved : Reference → Motion → MacroblockMotion
 moved reference motion = record { reference = reference; mode = motion.mode; vectors = motion.vectors }
 
 -- reads the modes at p, after all macroblocks before it
-abbrev pub modes_when_read : Header → Place → MacroblockInfo → Reader Modes
+abbrev pub modes_when_read : Header → Place → MacroblockMaps → Reader Modes
 modes_when_read h p m s = modes_at h (read_before h p m s).0.modes p (read_before h p m s).1
 
 -- After all macroblocks are read, the macroblock at p has the modes that were read at its turn. An inter macroblock has
 -- the motion that was read after them; the motion of an intra macroblock is unchanged.
-pub record AreReadInOrder (h : Header) (m : MacroblockInfo) (s : State) (p : Place) : Type 0 where
+pub record AreReadInOrder (h : Header) (m : MacroblockMaps) (s : State) (p : Place) : Type 0 where
   pub modes : modes_in (maps_read h m s).0 p ≡ (modes_when_read h p m s).0
   pub motion : is_intra (modes_when_read h p m s).0.reference ≡ false
       → motion_in (maps_read h m s).0 p

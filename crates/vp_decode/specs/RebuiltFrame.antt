@@ -5,7 +5,7 @@ use Rattle.vp_base.specs.Grid.{Has}
 use Rattle.vp_base.specs.Image.{Image}
 use Rattle.vp_bool.specs.Bools.{initial_state}
 use Rattle.vp_tokens.specs.Blocks.{any_token}
-use Rattle.vp_decode.specs.MacroblockInfo.{modes_in}
+use Rattle.vp_decode.specs.MacroblockMaps.{modes_in}
 use Rattle.vp_decode.specs.Frame.{tokens_of, unfiltered}
 use Rattle.vp_decode.specs.Step.{ParsedPacket, frame_info_of, frame_of_packet}
 

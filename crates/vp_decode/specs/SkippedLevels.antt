@@ -5,7 +5,7 @@ use Rattle.vp_base.specs.Grid.{Grid, Has, entry}
 use Rattle.vp_tokens.specs.declared.contexts.Tokens.{Tokens}
 use Rattle.vp_tokens.specs.Blocks.{any_token}
 use Rattle.vp_loop.specs.declared.strength.Level.{Level}
-use Rattle.vp_decode.specs.MacroblockInfo.{modes_in, place}
+use Rattle.vp_decode.specs.MacroblockMaps.{modes_in, place}
 use Rattle.vp_decode.specs.Frame.{FrameInfo, level_at}
 
 -- the macroblock at p is skipped just if there is no token

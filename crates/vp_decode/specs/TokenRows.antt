@@ -9,7 +9,7 @@ use Rattle.vp_base.specs.Over.{over}
 use Rattle.vp_tokens.specs.declared.contexts.Tokens.{Tokens}
 use Rattle.vp_tokens.specs.Blocks.{Blocks, no_blocks_read, macroblock, blocks_of}
 use Rattle.vp_recon.specs.Predictor.{has_y2}
-use Rattle.vp_decode.specs.MacroblockInfo.{modes_in, place}
+use Rattle.vp_decode.specs.MacroblockMaps.{modes_in, place}
 use Rattle.vp_decode.specs.Frame.{FrameInfo, predictor_at}
 
 -- the tokens of the macroblock at p, given the blocks (`seen`) of the macroblocks before it in raster order

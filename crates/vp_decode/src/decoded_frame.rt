@@ -12,7 +12,7 @@ ghost use Rattle.vp_decode.specs.Step.{frame_info_of, frame_of_packet, shown_aft
 use crate::frame_buffers::FrameBuffers;
 use crate::frame_decoder::{DecodedPicture, decode_picture};
 use crate::frame_info::FrameInfo;
-use crate::macroblock_info::MacroblockInfo;
+use crate::macroblock_maps::MacroblockMaps;
 use crate::parsed_packet::ParsedPacket;
 use crate::rebuilt_frame::filter_rebuilt;
 use std::alloc::{AllocError, Global};
@@ -58,13 +58,13 @@ fn read_maps(
     alloc: Global,
     buffers: &mut FrameBuffers,
     parsed: &ParsedPacket,
-) -> Result<(MacroblockInfo, bool), AllocError>
+) -> Result<(MacroblockMaps, bool), AllocError>
     ensures maps { IfOk result (λ r. r.0 ≡ (frame_info_of parsed.now).maps) }
     ensures past { IfOk result (λ r. r.1 ≡ (first_after parsed.now).past) }
     ensures columns { IfOk result (λ r. r.0.modes.columns ≡ parsed.now.context.modes.columns) }
     ensures rows { IfOk result (λ r. r.0.modes.rows ≡ parsed.now.context.modes.rows) }
 {
-    let kept = mem::replace(&mut buffers.maps, MacroblockInfo::empty(alloc));
+    let kept = mem::replace(&mut buffers.maps, MacroblockMaps::empty(alloc));
     let mut first = parsed.first.copy();
     let context = &parsed.context;
     let mut maps = context.maps_before(kept)?;

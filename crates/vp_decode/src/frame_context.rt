@@ -7,7 +7,7 @@ ghost use Rattle.vp_head.specs.declared.fault.PacketFault.TheVariants.{NoReferen
 ghost use Rattle.vp_decode.specs.Step.{context_of, maps_before};
 
 use crate::decoder::DecoderState;
-use crate::macroblock_info::MacroblockInfo;
+use crate::macroblock_maps::MacroblockMaps;
 use std::alloc::AllocError;
 use std::marker::Model;
 use std::rc::Rc;
@@ -107,12 +107,12 @@ impl<'a> FrameContext<'a> {
     }
 
     /// Returns the macroblock info before the frame, in the memory of `buffers`.
-    pub(crate) fn maps_before(&self, buffers: MacroblockInfo) -> Result<MacroblockInfo, AllocError>
+    pub(crate) fn maps_before(&self, buffers: MacroblockMaps) -> Result<MacroblockMaps, AllocError>
         ensures { IfOk result (λ m. m ≡ maps_before self.now.modes) }
     {
         let modes = self.modes(buffers.modes)?;
         let motion = buffers.motion.refill(self.dim)?;
-        Ok(MacroblockInfo { modes, motion })
+        Ok(MacroblockMaps { modes, motion })
     }
 
     /// Returns the modes before the frame, in the memory of `buffers`.

@@ -7,7 +7,7 @@ ghost use Rattle.vp_bool.specs.Bools.{initial_state};
 ghost use Rattle.vp_loop.specs.Filtered.{row_filtered, level_in};
 ghost use Rattle.vp_tokens.specs.Blocks.{Blocks, no_blocks_read};
 ghost use Rattle.vp_tokens.specs.Contexts.{AreContextsAt};
-ghost use Rattle.vp_decode.specs.MacroblockInfo.{place};
+ghost use Rattle.vp_decode.specs.MacroblockMaps.{place};
 ghost use Rattle.vp_decode.specs.Frame.{frame_of, picture_of};
 ghost use Rattle.vp_decode.specs.FrameDecoder.{IsMacroblockAt, IsMacroblockStep, IsRow};
 ghost use Rattle.vp_decode.specs.RowBands.{IsShaped};

@@ -11,7 +11,7 @@ ghost use Rattle.vp_decode.specs.Frame.{predictor_by, predictor_at, factors_of, 
 ghost use Rattle.vp_decode.specs.Frame.{inter_mode_class, mode_class_of, level_at};
 ghost use Rattle.vp_decode.specs.FrameDecoder.{IsMacroblockAt, IsMacroblockRow};
 
-use crate::macroblock_info::MacroblockInfo;
+use crate::macroblock_maps::MacroblockMaps;
 use std::marker::Model;
 use vp_base::Place;
 use vp_head::Header;
@@ -31,7 +31,7 @@ pub(crate) struct FrameInfo<'a> {
     version: u8,
     /// None for a key frame.
     references: Option<&'a Refs>,
-    maps: &'a MacroblockInfo,
+    maps: &'a MacroblockMaps,
     /// The dequantisation factors of the four segments.
     factors: [Factors; 4],
     levels: LevelTable,
@@ -140,7 +140,7 @@ impl<'a> FrameInfo<'a> {
         header: &'a Header,
         version: u8,
         references: Option<&'a Refs>,
-        maps: &'a MacroblockInfo,
+        maps: &'a MacroblockMaps,
     ) -> FrameInfo<'a>
         ensures { result ≡ record {
           header = header.now;

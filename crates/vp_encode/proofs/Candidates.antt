@@ -30,7 +30,7 @@ use Rattle.vp_motion.specs.Motion.{motion_at, motion_by, vector_mode, vectors_by
 use Rattle.vp_motion.specs.Spelled.{CanBeWritten, GivesVector}
 use Rattle.vp_motion.specs.Map.{intra}
 use Rattle.vp_motion.specs.Near.{neighbours, weighted_neighbour, split_count, splits, clamped_vector, clamped, candidates, first_vector, from_two, weight_of, without}
-use Rattle.vp_decode.specs.MacroblockInfo.{place}
+use Rattle.vp_decode.specs.MacroblockMaps.{place}
 use Rattle.vp_choose.specs.declared.frame.Choice.{Choice}
 use Rattle.vp_encode.specs.CodedFrame.{nothing, choice_at, saved_motion, saved_motions}
 use Rattle.vp_choose.specs.Frame.{choice_motion}

@@ -15,7 +15,7 @@ use Rattle.vp_motion.specs.Vector.{MacroblockMotion, Candidates}
 use Rattle.vp_motion.specs.Motion.{motion_at}
 use Rattle.vp_motion.specs.Near.{candidates}
 use Rattle.vp_motion.specs.Spelled.{CanBeWritten}
-use Rattle.vp_decode.specs.MacroblockInfo.{place, macroblock_read, motion_read}
+use Rattle.vp_decode.specs.MacroblockMaps.{place, macroblock_read, motion_read}
 use Rattle.vp_choose.specs.declared.frame.Choice.{Choice}
 use Rattle.vp_choose.specs.Frame.{choice_motion}
 use Rattle.vp_encode.specs.declared.coded_frame.CodedFrame.{CodedFrame}

@@ -23,7 +23,7 @@ use Rattle.vp_recon.specs.Rebuilt.{all_rebuilt}
 use Rattle.vp_choose.specs.declared.frame.Choice.{Choice}
 use Rattle.vp_choose.specs.Frame.{FrameSearch, source_by, no_biases, choice_motion}
 use Rattle.vp_choose.specs.Choice.{IsChoice}
-use Rattle.vp_decode.specs.MacroblockInfo.{modes_in, motion_in}
+use Rattle.vp_decode.specs.MacroblockMaps.{modes_in, motion_in}
 use Rattle.vp_decode.specs.Frame.{FrameInfo, frame_of, unfiltered, picture_of, predictor_at, factors_at, predictor_by as source_read_by}
 use Rattle.vp_decode.specs.RebuiltFrame.{IsRebuiltFrame}
 use Rattle.vp_decode.specs.Step.{DecoderState, FrameContext, ParsedPacket, parsed, frame_info_of, frame_of_packet, state_after, Answer, answer, decoded, step, Decoder, after}

@@ -29,7 +29,7 @@ use Rattle.vp_head.specs.Spelled.{kept_before}
 use Rattle.vp_head.specs.Reference.{is_intra}
 use Rattle.vp_modes.specs.Map.{of_segments}
 use Rattle.vp_tokens.specs.Partitions.{cut_of}
-use Rattle.vp_decode.specs.MacroblockInfo.{MacroblockInfo, maps_read}
+use Rattle.vp_decode.specs.MacroblockMaps.{MacroblockMaps, maps_read}
 use Rattle.vp_decode.specs.Frame.{FrameInfo}
 use Rattle.vp_decode.specs.Step.{FrameContext, key_context, inter_context, ParsedPacket, parsed_in_context, frame_info_of, maps_before, tag_length, first_part, count_of}
 use Rattle.vp_decode.proofs.CutLemmas.{opened_ok, opened-by}
@@ -104,7 +104,7 @@ key_tag_read limits dim n rest k fits =
 
 -- ---- the first partition
 
-pub first_said : (kept : Saved) (tag : Tag) (before : MacroblockInfo) (c : CodedFrame) (maps : MacroblockInfo) (bytes : List ℕ) {old mid new : Interval} → old ≡ whole_interval
+pub first_said : (kept : Saved) (tag : Tag) (before : MacroblockMaps) (c : CodedFrame) (maps : MacroblockMaps) (bytes : List ℕ) {old mid new : Interval} → old ≡ whole_interval
     → Writes (header kept tag) old mid (c.header, kept_after (kept_before kept tag) c.header) → Writes (maps_read c.header before) mid new maps → bytes ≡ finished new
     → AreMapsOf c maps → IsFirst kept tag before c bytes
 unfolding first_read
@@ -123,7 +123,7 @@ first_said kept tag before c maps bytes {old = old} {mid = mid} {new = new} begi
     }
 
 -- the header and the maps are read of a first partition
-first_again : (kept : Saved) (tag : Tag) (before : MacroblockInfo) (c : CodedFrame) (bytes : List ℕ) → (x : IsFirst kept tag before c bytes) → let head = header kept tag (initial_state bytes) in
+first_again : (kept : Saved) (tag : Tag) (before : MacroblockMaps) (c : CodedFrame) (bytes : List ℕ) → (x : IsFirst kept tag before c bytes) → let head = header kept tag (initial_state bytes) in
     (head.0 ≡ (c.header, kept_after (kept_before kept tag) c.header)) × ((maps_read c.header before head.1).0 ≡ x.maps) × HasFinalZero bytes
 unfolding first_read bind
 first_again kept tag before c bytes x =
@@ -131,9 +131,9 @@ first_again kept tag before c bytes x =
     let s : State = initial_state bytes in
     let reads : Reads x.bools s r.0 = subst (λ (b : List ℕ). Reads x.bools (initial_state b) r.0) (sym x.bytes_are) r.1 in
     let said : first_read kept tag before s ≡ (((c.header, kept_after (kept_before kept tag) c.header), x.maps), r.0) = x.taken s r.0 reads in
-    let head : (header kept tag s).0 ≡ (c.header, kept_after (kept_before kept tag) c.header) = ap (λ (z : ((Header × Saved) × MacroblockInfo) × State). z.0.0) said in (
+    let head : (header kept tag s).0 ≡ (c.header, kept_after (kept_before kept tag) c.header) = ap (λ (z : ((Header × Saved) × MacroblockMaps) × State). z.0.0) said in (
       head,
-      ap (λ (z : Header × Saved). (maps_read z.0 before (header kept tag s).1).0) (sym head) ∙ ap (λ (z : ((Header × Saved) × MacroblockInfo) × State). z.0.1) said,
+      ap (λ (z : Header × Saved). (maps_read z.0 before (header kept tag s).1).0) (sym head) ∙ ap (λ (z : ((Header × Saved) × MacroblockMaps) × State). z.0.1) said,
       subst HasFinalZero (sym x.bytes_are) (closed_by (partition_of x.bools)),
     )
 

@@ -26,7 +26,7 @@ use Rattle.vp_tokens.specs.Blocks.{Blocks, blocks_of, macroblock}
 use Rattle.vp_tokens.specs.Spelled.{AreSpelled}
 use Rattle.vp_tokens.specs.Contexts.{Contexts, AreContextsAt, right}
 use Rattle.vp_tokens.proofs.Steps.{row_begins}
-use Rattle.vp_decode.specs.MacroblockInfo.{place}
+use Rattle.vp_decode.specs.MacroblockMaps.{place}
 use Rattle.vp_decode.specs.Frame.{FrameInfo, predictor_by, predictor_at, tokens_of}
 use Rattle.vp_decode.specs.TokenRows.{tokens_at, seen_read, row_seen, row_tokens, Readings, row_partition, token_row, nothing_read, readings, tokens_when_read}
 use Rattle.vp_decode.proofs.TokenGrid.{tokens_in_turn, rests_in_turn}

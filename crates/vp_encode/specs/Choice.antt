@@ -11,7 +11,7 @@ use Rattle.vp_recon.specs.Rebuilt.{row_rebuilt}
 use Rattle.vp_search.specs.Differences.{sum_of_squares}
 use Rattle.vp_choose.specs.declared.frame.Choice.{Choice}
 use Rattle.vp_choose.specs.Choice.{IsChoice}
-use Rattle.vp_decode.specs.MacroblockInfo.{modes_in, motion_in}
+use Rattle.vp_decode.specs.MacroblockMaps.{modes_in, motion_in}
 use Rattle.vp_decode.specs.Frame.{FrameInfo, frame_of, tokens_of}
 use Rattle.vp_decode.specs.Step.{ParsedPacket, first_part, parsed, frame_info_of}
 use Rattle.vp_encode.specs.Encoder.{EncoderState, kept_for, tag_key, header_of, frame_for}

@@ -16,7 +16,7 @@ use Rattle.vp_recon.specs.Rebuilt.{all_rebuilt}
 use Rattle.vp_choose.specs.declared.frame.Choice.{Choice}
 use Rattle.vp_choose.specs.Frame.{FrameSearch, source_by, no_biases, choice_motion}
 use Rattle.vp_choose.specs.Choice.{IsChoice}
-use Rattle.vp_decode.specs.MacroblockInfo.{place}
+use Rattle.vp_decode.specs.MacroblockMaps.{place}
 use Rattle.vp_encode.specs.declared.frame_choices.FrameChoices.{FrameChoices}
 use Rattle.vp_encode.specs.CodedFrame.{choice_at, saved_motion, saved_motions}
 use Rattle.vp_encode.specs.Choice.{rebuilt_before}

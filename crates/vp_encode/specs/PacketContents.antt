@@ -10,7 +10,7 @@ use Rattle.vp_base.specs.Grid.{Grid, Has}
 use Rattle.vp_head.specs.declared.fields.KeyTag.{KeyTag}
 use Rattle.vp_head.specs.declared.fields.Saved.{Saved}
 use Rattle.vp_head.specs.Saved.{kept_after}
-use Rattle.vp_decode.specs.MacroblockInfo.{MacroblockInfo, modes_in, motion_in}
+use Rattle.vp_decode.specs.MacroblockMaps.{MacroblockMaps, modes_in, motion_in}
 use Rattle.vp_decode.specs.Frame.{tokens_of}
 use Rattle.vp_decode.specs.Step.{DecoderState, FrameContext, key_context, inter_context, context_of, ParsedPacket}
 use Rattle.vp_decode.specs.Step.{parsed, frame_info_of, first_part}
@@ -27,7 +27,7 @@ pub record HasFinalZero (bytes : List ℕ) : Type 0 where
   pub last : slice_index bytes (length bytes - 1) ≡ 0
 
 -- the maps have the frame's size, and its modes and motion at each place
-pub record AreMapsOf (c : CodedFrame) (m : MacroblockInfo) : Type 0 where
+pub record AreMapsOf (c : CodedFrame) (m : MacroblockMaps) : Type 0 where
   pub columns : m.modes.columns ≡ c.macroblocks.columns
   pub rows : m.modes.rows ≡ c.macroblocks.rows
   pub motion_columns : m.motion.columns ≡ c.macroblocks.columns

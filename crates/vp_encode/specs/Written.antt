@@ -24,7 +24,7 @@ use Rattle.vp_motion.specs.Map.{intra}
 use Rattle.vp_tokens.specs.Blocks.{Blocks, no_blocks_read}
 use Rattle.vp_tokens.specs.Contexts.{Contexts, AreContextsAt}
 use Rattle.vp_tokens.specs.Partitions.{cut_of}
-use Rattle.vp_decode.specs.MacroblockInfo.{MacroblockInfo, place, maps_read}
+use Rattle.vp_decode.specs.MacroblockMaps.{MacroblockMaps, place, maps_read}
 use Rattle.vp_decode.specs.Frame.{FrameInfo, all_tokens_read, tokens_of}
 use Rattle.vp_decode.specs.TokenRows.{row_seen, row_tokens, readings, tokens_when_read}
 use Rattle.vp_decode.specs.Step.{count_of}
@@ -52,7 +52,7 @@ motion_before g p =
     with_row g p.column p.row (over p.row (with_row g g.columns) (everywhere g.columns g.rows intra))
 
 -- these modes, and the motion of the macroblocks before p
-abbrev pub maps_at : CodedFrame → Place → Grid Modes → MacroblockInfo
+abbrev pub maps_at : CodedFrame → Place → Grid Modes → MacroblockMaps
 maps_at c p m = record { modes = m; motion = motion_before c.macroblocks p }
 
 -- k has the motion of the macroblocks before p, and no other
@@ -81,18 +81,18 @@ abbrev pub partition_of_bools : List (Bool × ℕ) → List ℕ
 partition_of_bools bools = finished (write_all bools whole_interval)
 
 -- how a first partition is read: the header, then the modes and the motion
-unfoldable pub first_read : Saved → Tag → MacroblockInfo → Reader ((Header × Saved) × MacroblockInfo)
+unfoldable pub first_read : Saved → Tag → MacroblockMaps → Reader ((Header × Saved) × MacroblockMaps)
 first_read kept tag before = do
   head ← header kept tag
   maps ← maps_read head.0 before
   give (head, maps)
 
 -- the partition of bools from which exactly the header, these modes and this motion are read
-pub record IsFirst (kept : Saved) (tag : Tag) (before : MacroblockInfo) (c : CodedFrame) (bytes : List ℕ) : Type 0 where
+pub record IsFirst (kept : Saved) (tag : Tag) (before : MacroblockMaps) (c : CodedFrame) (bytes : List ℕ) : Type 0 where
   pub bools : List (Bool × ℕ)
   pub probabilities : AreProbabilities bools
   pub bytes_are : bytes ≡ partition_of_bools bools
-  pub maps : MacroblockInfo
+  pub maps : MacroblockMaps
   pub taken : TakesBools bools (first_read kept tag before) (give
       ((c.header, kept_after (kept_before kept tag) c.header), maps))
   pub are : AreMapsOf c maps
@@ -188,7 +188,7 @@ pub record IsPutTogether (key : Option KeyTag) (first : List ℕ) (parts : List 
   pub bytes_are : bytes ≡ tag_bytes key (length first) ++ (first ++ rest)
 
 -- the bytes are a packet of the frame
-pub record IsPacket (key : Option KeyTag) (saved : Saved) (before : MacroblockInfo) (c : CodedFrame) (bytes : List ℕ)
+pub record IsPacket (key : Option KeyTag) (saved : Saved) (before : MacroblockMaps) (c : CodedFrame) (bytes : List ℕ)
     : Type 0 where
   pub first : List ℕ
   pub parts : List (List ℕ)
@@ -204,7 +204,7 @@ abbrev pub HasLongTokenPart : List (List ℕ) → Type 0
 HasLongTokenPart parts = (i : ℕ) × (i < length parts - 1) × (2 ^ 24 ≤ length (slice_index_or parts i []))
 
 -- the first partition of the frame is too long for its size field of 19 bits (chapter 9.1), or a token partition is
-abbrev pub HasLongPartition : Option KeyTag → Saved → MacroblockInfo → CodedFrame → Type 0
+abbrev pub HasLongPartition : Option KeyTag → Saved → MacroblockMaps → CodedFrame → Type 0
 HasLongPartition key saved before c =
     ((first : List ℕ) × IsFirst saved (encoder_tag key 0) before c first × (2 ^ 19 ≤ length first))
     ⊎ ((parts : List (List ℕ)) × AreTokenPartitions c parts × HasLongTokenPart parts)

@@ -4,7 +4,7 @@ ghost use Rattle.std.specs.Prelude.{◌≡◌, ◌+◌, ◌<◌, ◌≤◌, IfOk
 ghost use Rattle.vp_base.specs.Grid.{Has};
 ghost use Rattle.vp_choose.specs.Frame.{lent_frame};
 ghost use Rattle.vp_choose.specs.Levels.{ArePositive};
-ghost use Rattle.vp_decode.specs.MacroblockInfo.{place};
+ghost use Rattle.vp_decode.specs.MacroblockMaps.{place};
 ghost use Rattle.vp_encode.specs.CodedFrame.{nothing};
 ghost use Rattle.vp_encode.specs.FrameChoices.{AreChosen, AreChosenBefore, IsMotionOf, picture_by};
 

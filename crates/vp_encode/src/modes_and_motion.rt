@@ -4,7 +4,7 @@ ghost use Rattle.std.specs.Prelude.{◌≡◌, ◌<◌, ◌+◌, IfOk, OnOk};
 ghost use Rattle.vp_base.specs.Grid.{Has};
 ghost use Rattle.vp_base.specs.Image.{macroblocks};
 ghost use Rattle.vp_bool.specs.Writing.{Writes};
-ghost use Rattle.vp_decode.specs.MacroblockInfo.{macroblock_read, row_read, maps_read, place};
+ghost use Rattle.vp_decode.specs.MacroblockMaps.{macroblock_read, row_read, maps_read, place};
 ghost use Rattle.vp_encode.specs.CodedFrame.{IsMotionSpelled};
 ghost use Rattle.vp_encode.specs.FrameChoices.{IsMotionOf};
 ghost use Rattle.vp_encode.specs.Written.{AreWrittenBefore, IsOnlyMotionBefore, maps_at, with_motion};

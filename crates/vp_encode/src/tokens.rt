@@ -6,7 +6,7 @@ ghost use Rattle.vp_bool.specs.Intervals.{whole_interval};
 ghost use Rattle.vp_tokens.specs.Blocks.{Blocks};
 ghost use Rattle.vp_tokens.specs.Contexts.{AreContextsAt};
 ghost use Rattle.vp_tokens.specs.Partitions.{lists};
-ghost use Rattle.vp_decode.specs.MacroblockInfo.{place};
+ghost use Rattle.vp_decode.specs.MacroblockMaps.{place};
 ghost use Rattle.vp_decode.specs.Frame.{FrameInfo};
 ghost use Rattle.vp_encode.specs.CodedFrame.{AreTokensSpelled, IsInterPlain};
 ghost use Rattle.vp_encode.specs.FrameChoices.{IsMotionOf};

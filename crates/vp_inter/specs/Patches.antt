@@ -4,7 +4,7 @@ use Rattle.vp_base.specs.Raster.{Raster}
 use Rattle.vp_inter.specs.declared.patch.Patch.{Patch}
 use Rattle.vp_inter.specs.declared.vector.PlaneVector.{PlaneVector}
 use Rattle.vp_inter.specs.declared.weights.PairWeights.{PairWeights}
-use Rattle.vp_inter.specs.declared.weights.RowFilter.{RowFilter}
+use Rattle.vp_inter.specs.declared.weights.HorizontalFilter.{HorizontalFilter}
 use Rattle.vp_inter.specs.Inter.{nearest, reference_pixel, horizontal_pass}
 use Rattle.vp_inter.specs.Turns.{first_weights}
 use Rattle.vp_inter.specs.Vectors.{first_tap}
@@ -39,7 +39,7 @@ weights_of far = first_weights far.first far.second far.third
 
 -- A row filter selects pixels beside those three to the right, from each of the first three of six on. The first of
 -- them is column `from` of the place.
-abbrev pub Selects : RowFilter → Patch → ℕ → Type 0
+abbrev pub Selects : HorizontalFilter → Patch → ℕ → Type 0
 Selects filter p from =
     (i : ℕ) → i < 16
     → (filter.start + slice_index filter.first i ≡ nearest p.width (p.left +ℤ pos (from + (i / 2 + 3 * (i % 2)))))

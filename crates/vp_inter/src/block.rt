@@ -12,7 +12,8 @@ ghost use Rattle.vp_inter.specs.Vectors.{fraction, first_tap};
 use crate::filter::{Weights, ends_are_zero, has_two_taps, pass, taps};
 use crate::patch::Patch;
 use crate::reference::{plain_row, reference_line};
-use crate::short_rows::{row_filter, rows_by_filter};
+use crate::short_rows::rows_by_filter;
+use crate::six_tap_1d::horizontal_filter;
 use crate::six_tap_2d::{filter_columns_of_16, filter_wide_rows, six_tap_2d_block};
 use crate::strip::filter_columns_of_8;
 use crate::vector::PlaneVector;
@@ -318,7 +319,7 @@ fn pass_rows<const N: usize>(pixels: &mut [u8], patch: &Patch, weights: Weights,
         ≡ patch_pass weights.six.now patch.now i c }
 {
     if (N == 4 || N == 8) && patch.width >= 16 {
-        rows_by_filter::<N>(pixels, patch, &row_filter(patch, 0, weights), rows);
+        rows_by_filter::<N>(pixels, patch, &horizontal_filter(patch, 0, weights), rows);
     } else {
         other_rows::<N>(pixels, patch, weights, rows);
     }

@@ -10,7 +10,8 @@ ghost use Rattle.vp_inter.specs.Vectors.{fraction};
 use crate::block::{predict_into8, whole_place};
 use crate::filter::taps;
 use crate::patch::Patch;
-use crate::short_rows::{row_filter, rows_by_filter};
+use crate::short_rows::rows_by_filter;
+use crate::six_tap_1d::horizontal_filter;
 use crate::strip::{empty_strip, filter_strip, filter_to_strip, strip_filter};
 use crate::vector::PlaneVector;
 use vp_base::Picture;
@@ -98,7 +99,7 @@ fn across_into_chroma(
     let v = reference.plane(2);
     let from_u = Patch::at(u, x, y + 2, vector);
     let from_v = Patch::at(v, x, y + 2, vector);
-    let filter = row_filter(&from_u, 0, taps(version, vector.across()));
+    let filter = horizontal_filter(&from_u, 0, taps(version, vector.across()));
     let mut block = [0; 64];
     rows_by_filter::<8>(&mut block, &from_u, &filter, 8);
     picture.write_block::<8>(1, x, y, &block);
@@ -127,7 +128,7 @@ fn filter_into_chroma(
     let v = reference.plane(2);
     let from_u = Patch::at(u, x, y, vector);
     let from_v = Patch::at(v, x, y, vector);
-    let filter = row_filter(&from_u, 0, taps(version, vector.across()));
+    let filter = horizontal_filter(&from_u, 0, taps(version, vector.across()));
     let down = strip_filter(taps(version, vector.down()));
     let mut strip = empty_strip();
     let mut block = [0; 64];

@@ -4,55 +4,10 @@ ghost use Rattle.std.specs.Prelude.{◌≡◌, ℕ, ◌+◌, ◌*◌, ◌<◌, �
 ghost use Rattle.vp_inter.specs.Patches.{patch_pass, weights_of, HasRows, Selects};
 
 use crate::block::put_lanes;
-use crate::filter::{Weights, load};
 use crate::patch::Patch;
-use crate::reference::{Span, shuffle, span_of};
-use crate::six_tap_1d::{filtered_pairs, joined, paired_weights};
-use crate::weights::{PairWeights, RowFilter};
+use crate::six_tap_1d::{filtered_row, joined};
+use crate::weights::HorizontalFilter;
 use std::simd::prelude::*;
-
-/// The filter for the eight pixels of a row from column `from` on, 0 or 8. The plane has at least sixteen columns.
-pub(crate) fn row_filter(patch: &Patch, from: usize, weights: Weights) -> RowFilter
-    requires some { 16 ≤ patch.now.width }
-    requires near { from ≤ 8 }
-    ensures room { result.start + 16 ≤ patch.now.width }
-    ensures places { Selects result patch.now from }
-    ensures weights { weights_of result.far ≡ weights.six.now }
-{
-    let Span { first, places } = span_of(patch.width, patch.left + from as i32);
-    RowFilter {
-        start: first,
-        first: places.swizzle::<16>([0, 3, 1, 4, 2, 5, 3, 6, 4, 7, 5, 8, 6, 9, 7, 10]),
-        second: places.swizzle::<16>([1, 4, 2, 5, 3, 6, 4, 7, 5, 8, 6, 9, 7, 10, 8, 11]),
-        third: places.swizzle::<16>([2, 5, 3, 6, 4, 7, 5, 8, 6, 9, 7, 10, 8, 11, 9, 12]),
-        far: paired_weights(weights),
-    }
-}
-
-/// Filters eight pixels of row `i`, those that `filter` selects. If `INSIDE`, the row is inside the plane. `far` are
-/// the weights of `filter`, which the loop around this reloads from memory: with weights in registers the compiler
-/// doesn't select the multiply-add instruction.
-#[inline(always)]
-pub(crate) fn filtered_row<const INSIDE: bool>(
-    patch: &Patch,
-    i: usize,
-    filter: &RowFilter,
-    far: &PairWeights,
-) -> u8x8
-    requires near { i ≤ 21 }
-    requires inside { IsTrue INSIDE → HasRows patch.now (i + 1) }
-    requires room { filter.now.start + 16 ≤ patch.now.width }
-    ensures { (from : ℕ) → Selects filter.now patch.now from → (j : ℕ) → j < 8
-        → slice_index result j ≡ patch_pass (weights_of far.now) patch.now i (from + j) }
-{
-    let pixels = load::<16>(patch.row::<INSIDE>(i), filter.start);
-    filtered_pairs(
-        shuffle(pixels, filter.first),
-        shuffle(pixels, filter.second),
-        shuffle(pixels, filter.third),
-        far,
-    )
-}
 
 /// The first four pixels of each half.
 fn four_of_each(pair: u8x16) -> u8x8
@@ -106,7 +61,7 @@ fn put_short<const N: usize>(pixels: &mut [u8], r: usize, row: u8x8)
 fn filtered_rows<const N: usize, const INSIDE: bool>(
     pixels: &mut [u8],
     patch: &Patch,
-    filter: &RowFilter,
+    filter: &HorizontalFilter,
     rows: usize,
 )
     requires size { (N ≡ 4) ⊎ (N ≡ 8) }
@@ -138,7 +93,7 @@ fn filtered_rows<const N: usize, const INSIDE: bool>(
 pub(crate) fn rows_by_filter<const N: usize>(
     pixels: &mut [u8],
     patch: &Patch,
-    filter: &RowFilter,
+    filter: &HorizontalFilter,
     rows: usize,
 )
     requires size { (N ≡ 4) ⊎ (N ≡ 8) }

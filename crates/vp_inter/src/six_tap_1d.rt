@@ -1,16 +1,18 @@
 //! The six-tap filter on eight and sixteen pixels (RFC 6386, chapter 18.3), by multiply-add of bytes.
 
-ghost use Rattle.std.specs.Prelude.{◌≡◌, ℕ, pos, ◌+◌, ◌*◌, ◌/◌, ◌%◌, ◌<◌, ◌≤◌, ◌+ℤ◌, ◌-ℤ◌, length, slice_index};
+ghost use Rattle.std.specs.Prelude.{◌≡◌, ℕ, pos, ◌+◌, ◌*◌, ◌/◌, ◌%◌, ◌<◌, ◌≤◌, ◌+ℤ◌, ◌-ℤ◌, length, slice_index, IsTrue};
 ghost use Rattle.vp_lanes.specs.Lane.{lane};
 ghost use Rattle.vp_inter.specs.Filter.{filter_six};
 ghost use Rattle.vp_inter.specs.Narrow.{IsShort, SumsFitI16, sum_of_six, weight};
-ghost use Rattle.vp_inter.specs.Patches.{weights_of};
+ghost use Rattle.vp_inter.specs.Patches.{patch_pass, weights_of, HasRows, Selects};
 ghost use Rattle.vp_inter.specs.Turns.{one_of_three};
 
 use crate::block::put_lanes;
 use crate::filter::{Weights, load, rounded_pixels};
 use crate::madd::pair_sums;
-use crate::weights::PairWeights;
+use crate::patch::Patch;
+use crate::reference::{Span, shuffle, span_of};
+use crate::weights::{HorizontalFilter, PairWeights};
 use std::simd::prelude::*;
 
 /// The weights in bytes, in the order 0 1 2 3 2 3 4 5, which takes two loads. The middle two are there twice.
@@ -134,4 +136,47 @@ pub(crate) fn wide_columns<const ROWS: usize>(pixels: &mut [u8], pairs: &[u8], f
         let row = vertical_sixteen(pairs, 32 * i, far);
         put_lanes::<16>(pixels, i, row);
     }
+}
+
+/// The filter for the eight pixels of a row from column `from` on, 0 or 8. The plane has at least sixteen columns.
+pub(crate) fn horizontal_filter(patch: &Patch, from: usize, weights: Weights) -> HorizontalFilter
+    requires some { 16 ≤ patch.now.width }
+    requires near { from ≤ 8 }
+    ensures room { result.start + 16 ≤ patch.now.width }
+    ensures places { Selects result patch.now from }
+    ensures weights { weights_of result.far ≡ weights.six.now }
+{
+    let Span { first, places } = span_of(patch.width, patch.left + from as i32);
+    HorizontalFilter {
+        start: first,
+        first: places.swizzle::<16>([0, 3, 1, 4, 2, 5, 3, 6, 4, 7, 5, 8, 6, 9, 7, 10]),
+        second: places.swizzle::<16>([1, 4, 2, 5, 3, 6, 4, 7, 5, 8, 6, 9, 7, 10, 8, 11]),
+        third: places.swizzle::<16>([2, 5, 3, 6, 4, 7, 5, 8, 6, 9, 7, 10, 8, 11, 9, 12]),
+        far: paired_weights(weights),
+    }
+}
+
+/// Filters eight pixels of row `i`, those that `filter` selects. If `INSIDE`, the row is inside the plane. `far` are
+/// the weights of `filter`, which the loop around this reloads from memory: with weights in registers the compiler
+/// doesn't select the multiply-add instruction.
+#[inline(always)]
+pub(crate) fn filtered_row<const INSIDE: bool>(
+    patch: &Patch,
+    i: usize,
+    filter: &HorizontalFilter,
+    far: &PairWeights,
+) -> u8x8
+    requires near { i ≤ 21 }
+    requires inside { IsTrue INSIDE → HasRows patch.now (i + 1) }
+    requires room { filter.now.start + 16 ≤ patch.now.width }
+    ensures { (from : ℕ) → Selects filter.now patch.now from → (j : ℕ) → j < 8
+        → slice_index result j ≡ patch_pass (weights_of far.now) patch.now i (from + j) }
+{
+    let pixels = load::<16>(patch.row::<INSIDE>(i), filter.start);
+    filtered_pairs(
+        shuffle(pixels, filter.first),
+        shuffle(pixels, filter.second),
+        shuffle(pixels, filter.third),
+        far,
+    )
 }

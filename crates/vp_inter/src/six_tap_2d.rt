@@ -10,12 +10,11 @@ use crate::block::put_lanes;
 use crate::filter::Weights;
 use crate::patch::Patch;
 use crate::reference::plain_row;
-use crate::short_rows::{filtered_row, row_filter};
-use crate::six_tap_1d::{filtered_pairs, joined};
+use crate::six_tap_1d::{filtered_pairs, filtered_row, horizontal_filter, joined};
 use crate::strip::{
     Strip, StripFilter, empty_strip, filter_to_strip, pair_of, put_halves, strip_filter,
 };
-use crate::weights::{PairWeights, RowFilter};
+use crate::weights::{HorizontalFilter, PairWeights};
 use std::simd::prelude::*;
 
 /// A row interleaved with the row three below: the left eight columns, and the right eight.
@@ -48,8 +47,8 @@ fn copy_strips(left: &mut Strip, right: &mut Strip, patch: &Patch)
 fn rows_to_block<const INSIDE: bool>(
     pixels: &mut [u8],
     patch: &Patch,
-    left: &RowFilter,
-    right: &RowFilter,
+    left: &HorizontalFilter,
+    right: &HorizontalFilter,
     rows: usize,
 )
     requires rows { rows ≤ 22 }
@@ -82,8 +81,8 @@ pub(crate) fn filter_wide_rows(pixels: &mut [u8], patch: &Patch, weights: Weight
     ensures { (i c : ℕ) → i < rows → c < 16 → slice_index pixels.new (i * 16 + c)
         ≡ patch_pass weights.six.now patch.now i c }
 {
-    let left = row_filter(patch, 0, weights);
-    let right = row_filter(patch, 8, weights);
+    let left = horizontal_filter(patch, 0, weights);
+    let right = horizontal_filter(patch, 8, weights);
     if patch.has_rows(rows) {
         rows_to_block::<true>(pixels, patch, &left, &right, rows);
     } else {
@@ -170,7 +169,7 @@ pub(crate) fn six_tap_2d_block(pixels: &mut [u8], patch: &Patch, rows: Weights, 
 {
     let mut left = empty_strip();
     let mut right = empty_strip();
-    filter_to_strip::<21>(&mut left, patch, &row_filter(patch, 0, rows));
-    filter_to_strip::<21>(&mut right, patch, &row_filter(patch, 8, rows));
+    filter_to_strip::<21>(&mut left, patch, &horizontal_filter(patch, 0, rows));
+    filter_to_strip::<21>(&mut right, patch, &horizontal_filter(patch, 8, rows));
     filter_strips(pixels, &left, &right, &strip_filter(columns));
 }

@@ -10,9 +10,9 @@ use crate::block::put_lanes;
 use crate::filter::{Weights, load};
 use crate::patch::Patch;
 use crate::reference::{plain_row, shuffle};
-use crate::short_rows::{filtered_row, put_two};
-use crate::six_tap_1d::{filtered_pairs, joined, paired_weights};
-use crate::weights::{PairWeights, RowFilter};
+use crate::short_rows::put_two;
+use crate::six_tap_1d::{filtered_pairs, filtered_row, joined, paired_weights};
+use crate::weights::{HorizontalFilter, PairWeights};
 use std::simd::prelude::*;
 
 /// Up to 21 rows of eight pixels. Rows 0, 3, 6 and so on are in the first chain, 1, 4, 7 and so on in the second, and
@@ -171,7 +171,7 @@ pub(crate) fn put_halves(left: &mut [u8], right: &mut [u8], e: usize, row: u8x16
 fn three_apart<const INSIDE: bool>(
     patch: &Patch,
     i: usize,
-    filter: &RowFilter,
+    filter: &HorizontalFilter,
     far: &PairWeights,
 ) -> u8x16
     requires near { i ≤ 18 }
@@ -195,7 +195,7 @@ fn put_six_rows<const INSIDE: bool>(
     strip: &mut Strip,
     patch: &Patch,
     e: usize,
-    filter: &RowFilter,
+    filter: &HorizontalFilter,
     far: &PairWeights,
 )
     requires place { e < 3 }
@@ -219,7 +219,7 @@ fn put_six_rows<const INSIDE: bool>(
 fn put_rows<const INSIDE: bool, const ROWS: usize>(
     strip: &mut Strip,
     patch: &Patch,
-    filter: &RowFilter,
+    filter: &HorizontalFilter,
 )
     requires rows { (ROWS ≡ 13) ⊎ (ROWS ≡ 21) }
     requires inside { IsTrue INSIDE → HasRows patch.now ROWS }
@@ -251,7 +251,7 @@ fn put_rows<const INSIDE: bool, const ROWS: usize>(
 pub(crate) fn filter_to_strip<const ROWS: usize>(
     strip: &mut Strip,
     patch: &Patch,
-    filter: &RowFilter,
+    filter: &HorizontalFilter,
 )
     requires rows { (ROWS ≡ 13) ⊎ (ROWS ≡ 21) }
     requires room { filter.now.start + 16 ≤ patch.now.width }

@@ -21,7 +21,7 @@ pub(crate) struct PairWeights {
 /// the six pixels on. The places come from memory: the compiler would see through constant ones, and then doesn't
 /// select the multiply-add instruction.
 #[derive(Clone, Copy)]
-pub(crate) struct RowFilter {
+pub(crate) struct HorizontalFilter {
     pub(crate) start: usize,
     pub(crate) first: u8x16,
     pub(crate) second: u8x16,

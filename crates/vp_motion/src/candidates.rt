@@ -9,7 +9,7 @@ ghost use Rattle.vp_motion.specs.Near.{negated, same, splits, split_count, weigh
 ghost use Rattle.vp_motion.specs.Counting.{candidates_by, weighted_vector, AreLight};
 
 use crate::map::VectorMap;
-use crate::nearby::count;
+use crate::counting::count;
 use crate::packed::PackedVector;
 use crate::vector::{Candidates, MacroblockMotion, Nearby, Vector};
 use vp_base::Place;

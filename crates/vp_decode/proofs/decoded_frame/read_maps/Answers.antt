@@ -1,6 +1,6 @@
 use Rattle.std.proofs.Common.{◌∙◌, ap}
 use Rattle.vp_bool.specs.Bools.{State}
-use Rattle.vp_decode.specs.MacroblockInfo.{MacroblockInfo, maps_read}
+use Rattle.vp_decode.specs.MacroblockMaps.{MacroblockMaps, maps_read}
 use Rattle.vp_decode.specs.Step.{frame_info_of}
 use Rattle.vp_decode.proofs.decoded_frame.read_maps.Goals as goal
 
@@ -12,4 +12,4 @@ pub returns-clause-past : goal.returns-clause-past
 returns-clause-past c =
     rw (← c.parsed.view_is, ← c.copy-first.ensures)
     (c.is_past_end.ensures ∙ ap (λ (s : State). s.past) c.read.ensures.rest
-    ∙ ap (λ (m : MacroblockInfo). (maps_read c.parsed.inside.header.now m c.copy-first.result).1.past) c.in_ok-maps.ensures)
+    ∙ ap (λ (m : MacroblockMaps). (maps_read c.parsed.inside.header.now m c.copy-first.result).1.past) c.in_ok-maps.ensures)

@@ -1,4 +1,4 @@
-use Rattle.vp_decode.specs.MacroblockInfo.{place}
+use Rattle.vp_decode.specs.MacroblockMaps.{place}
 use Rattle.vp_encode.specs.Written.{IsOnlyMotionBefore}
 use Rattle.vp_encode.proofs.modes_and_motion.motion_of.Given as goal
 

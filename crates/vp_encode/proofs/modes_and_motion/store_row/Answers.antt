@@ -1,5 +1,5 @@
 use Rattle.std.proofs.Common.{◌≡◌, ◌+◌, arith, sym, subst}
-use Rattle.vp_decode.specs.MacroblockInfo.{place}
+use Rattle.vp_decode.specs.MacroblockMaps.{place}
 use Rattle.vp_encode.specs.Written.{IsOnlyMotionBefore}
 use Rattle.vp_encode.proofs.Candidates.{only_next, only_row}
 use Rattle.vp_encode.proofs.modes_and_motion.store_row.Goals as goal

@@ -4,7 +4,7 @@ use Rattle.vp_bool.specs.Reader.{Reader, rows}
 use Rattle.vp_bool.specs.Writing.{Writes}
 use Rattle.vp_motion.specs.Vector.{MacroblockMotion}
 use Rattle.vp_bool.proofs.WritingLemmas.{rows-written, rows-unwritten}
-use Rattle.vp_decode.specs.MacroblockInfo.{MacroblockInfo, macroblock_read, row_read, place}
+use Rattle.vp_decode.specs.MacroblockMaps.{MacroblockMaps, macroblock_read, row_read, place}
 use Rattle.vp_encode.specs.Written.{maps_at, motion_before}
 use Rattle.vp_encode.proofs.Candidates.{motion_before-row}
 use Rattle.vp_encode.proofs.ContentLemmas.{written_row}
@@ -26,7 +26,7 @@ returns c =
     let g = c.args.coded.now.macroblocks in
     let over_row : motion_before g (place c.args.row c.loop-column.column) ≡ motion_before g (place (c.args.row + 1) 0) =
     ap (λ (n : ℕ). motion_before g (place c.args.row n)) all ∙ sym (motion_before-row g c.args.row) in
-    let read : Reader MacroblockInfo = rows g.columns (λ column. macroblock_read c.args.coded.now.header (place c.args.row column)) (maps_at c.args.coded.now (place c.args.row 0) c.args.modes.now) in
+    let read : Reader MacroblockMaps = rows g.columns (λ column. macroblock_read c.args.coded.now.header (place c.args.row column)) (maps_at c.args.coded.now (place c.args.row 0) c.args.modes.now) in
     let so_far = subst (λ (n : ℕ). Writes (rows n (λ column. macroblock_read c.args.coded.now.header (place c.args.row column)) (maps_at c.args.coded.now (place c.args.row 0) c.args.modes.now))
     c.args.e.now c.loop-column.e (maps_at c.args.coded.now (place c.args.row c.loop-column.column) c.loop-column.modes)) all c.loop-column.invariant.so_far in
     record {

@@ -1,6 +1,6 @@
 use Rattle.vp_bool.specs.Reader.{rows}
 use Rattle.vp_bool.specs.Writing.{Writes}
-use Rattle.vp_decode.specs.MacroblockInfo.{macroblock_read, place}
+use Rattle.vp_decode.specs.MacroblockMaps.{macroblock_read, place}
 use Rattle.vp_encode.specs.Written.{AreWrittenBefore, maps_at}
 use Rattle.vp_encode.proofs.modes_and_motion.write_row_of_modes.Given as goal
 

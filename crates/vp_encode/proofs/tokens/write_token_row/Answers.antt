@@ -2,7 +2,7 @@ use Rattle.std.proofs.Common.{◌≡◌, ◌∙◌, ◌||◌, not, refl, ap, ari
 use Rattle.vp_base.specs.Grid.{Has}
 use Rattle.vp_tables.specs.Modes.{is_by_subblocks, is_split}
 use Rattle.vp_modes.specs.Entry.{Modes}
-use Rattle.vp_decode.specs.MacroblockInfo.{place}
+use Rattle.vp_decode.specs.MacroblockMaps.{place}
 use Rattle.vp_encode.specs.CodedFrame.{choice_has_y2}
 use Rattle.vp_encode.proofs.TokenLemmas.{token_row_none, token_row_next, spelled_at, y2_at}
 use Rattle.vp_encode.proofs.tokens.write_token_row.Goals.{After-has_y2}

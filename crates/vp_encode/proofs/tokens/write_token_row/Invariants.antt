@@ -2,7 +2,7 @@ use Rattle.std.proofs.Common.{◌≡◌, length}
 use Rattle.vp_base.specs.Grid.{Grid}
 use Rattle.vp_tokens.specs.Blocks.{Blocks}
 use Rattle.vp_tokens.specs.Contexts.{AreContextsAt}
-use Rattle.vp_decode.specs.MacroblockInfo.{place}
+use Rattle.vp_decode.specs.MacroblockMaps.{place}
 use Rattle.vp_decode.specs.Frame.{FrameInfo}
 use Rattle.vp_encode.specs.Written.{IsPlanOf, IsTokenRow}
 use Rattle.vp_encode.proofs.tokens.write_token_row.Given as goal

@@ -25,9 +25,9 @@ returns c =
     let at_u = subst (λ (s : Raster). IsAt from_u s x (y + 2) v) c.plane-u.ensures c.at-from_u.ensures.place in
     let at_v = subst (λ (s : Raster). IsAt from_v s x (y + 2) v) c.plane-v.ensures c.at-from_v.ensures.place in
     let aligned = c.dim-known.ensures.aligned in
-    let selects = c.row_filter-filter.ensures.places in
-    let also = other_plane c.row_filter-filter.result from_u from_v ref.u ref.v x (y + 2) v at_u at_v (omega (arith, aligned)) selects in
-    let rows = c.row_filter-filter.ensures.weights ∙ c.taps.ensures ∙ ap (taps version) c.across.ensures.value in
+    let selects = c.horizontal_filter-filter.ensures.places in
+    let also = other_plane c.horizontal_filter-filter.result from_u from_v ref.u ref.v x (y + 2) v at_u at_v (omega (arith, aligned)) selects in
+    let rows = c.horizontal_filter-filter.ensures.weights ∙ c.taps.ensures ∙ ap (taps version) c.across.ensures.value in
     let first = c.write_block.ensures
     ∙ ap (with_plane p 1) (with_block_same p.u x y 8 8 (λ i j. get_or c.rows_by_filter.new.pixels (i * 8 + j) 0) (inter_pixel version ref.u x y v)
     (λ i j iin jin. c.rows_by_filter.ensures selects i j iin jin ∙ patch_level version ref.u x y v i j from_u _ at_u rows c.requires.level)) in

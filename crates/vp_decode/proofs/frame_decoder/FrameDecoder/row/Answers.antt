@@ -3,7 +3,7 @@ use Rattle.vp_base.specs.Grid.{Grid}
 use Rattle.vp_tokens.specs.Blocks.{Blocks}
 use Rattle.vp_decode.specs.Frame.{FrameInfo}
 use Rattle.vp_decode.specs.TokenRows.{row_seen}
-use Rattle.vp_decode.specs.MacroblockInfo.{place}
+use Rattle.vp_decode.specs.MacroblockMaps.{place}
 use Rattle.vp_decode.specs.FrameDecoder.{FrameDecoder, IsMacroblockStep, IsRow}
 use Rattle.vp_decode.proofs.ReadingLemmas.{row_none, row_next, row_has}
 use Rattle.vp_decode.proofs.frame_decoder.FrameDecoder.row.Goals as goal

@@ -2,7 +2,7 @@ use Rattle.std.proofs.Common.{◌≡◌, ◌<◌}
 use Rattle.vp_base.specs.Grid.{Grid}
 use Rattle.vp_tokens.specs.Blocks.{Blocks}
 use Rattle.vp_tokens.specs.Contexts.{AreContextsAt}
-use Rattle.vp_decode.specs.MacroblockInfo.{place}
+use Rattle.vp_decode.specs.MacroblockMaps.{place}
 use Rattle.vp_decode.specs.FrameDecoder.{IsRow}
 use Rattle.vp_decode.proofs.frame_decoder.FrameDecoder.row.Given as goal
 

@@ -7,7 +7,7 @@ use Rattle.vp_base.specs.Over.{over}
 use Rattle.vp_base.proofs.OverLemmas.{over-none}
 use Rattle.vp_recon.specs.Rebuilt.{rebuilt}
 use Rattle.vp_tokens.specs.Blocks.{Blocks}
-use Rattle.vp_decode.specs.MacroblockInfo.{place}
+use Rattle.vp_decode.specs.MacroblockMaps.{place}
 use Rattle.vp_decode.specs.Frame.{FrameInfo, frame_of, tokens_of, macroblock_at}
 use Rattle.vp_decode.specs.TokenRows.{readings, row_partition}
 use Rattle.vp_decode.specs.FrameDecoder.{FrameDecoder, IsRow, IsOneFrame, IsAfterRows}

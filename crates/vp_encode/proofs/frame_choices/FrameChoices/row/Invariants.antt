@@ -1,5 +1,5 @@
 use Rattle.std.proofs.Common.{◌≡◌}
-use Rattle.vp_decode.specs.MacroblockInfo.{place}
+use Rattle.vp_decode.specs.MacroblockMaps.{place}
 use Rattle.vp_encode.specs.FrameChoices.{AreChosenBefore}
 use Rattle.vp_encode.proofs.frame_choices.FrameChoices.row.Given as goal
 
