@@ -11,7 +11,7 @@ ghost use Rattle.vp_decode.specs.Step.{frame_info_of, frame_of_packet, shown_aft
 
 use crate::frame_buffers::FrameBuffers;
 use crate::frame_decoder::{DecodedPicture, decode_picture};
-use crate::frame_info::FrameInfo;
+use crate::frame_info::{FrameInfo, all_factors};
 use crate::macroblock_maps::MacroblockMaps;
 use crate::parsed_packet::ParsedPacket;
 use crate::rebuilt_frame::filter_rebuilt;
@@ -155,7 +155,8 @@ pub(crate) fn decode_frame<F: RowFilter>(
     let segments = maps.modes.segments_in(kept)?;
     let context = &parsed.context;
     let version = parsed.tag.version;
-    let info = FrameInfo::new(parsed.header, version, context.references, &maps);
+    let factors = all_factors(parsed.header);
+    let info = FrameInfo::new(parsed.header, version, context.references, &maps, &factors);
     let decoded = picture_of_packet(alloc, buffers, parsed, filter, rebuilt, &info)?;
     buffers.maps = maps;
     let corrupt = past | decoded.corrupt;

@@ -23,7 +23,7 @@ use vp_base::{Dim, Grid, Picture, Place};
 use vp_bool::BoolDecoder;
 use vp_loop::{Level, RowFilter};
 use vp_recon::{
-    predict_macroblock, rebuild_macroblock, rebuilding_keeps_rows_above, rebuilding_keeps_shape,
+    predict_macroblock, rebuild_macroblock_by, rebuilding_keeps_rows_above, rebuilding_keeps_shape,
     rebuilding_reads_one_row_above, unfiltered_picture_solves_its_equation,
 };
 use vp_tokens::{Contexts, Partitions, Tokens, pass_macroblock, read_macroblock};
@@ -97,12 +97,12 @@ impl<'a> FrameDecoder<'a> {
             );
             // A copy is lent, so that the predictor itself stays in registers.
             let lent = *predictor;
-            rebuild_macroblock(
+            rebuild_macroblock_by(
                 &mut self.picture,
                 place,
                 &lent,
                 self.tokens,
-                &info.factors(macroblock),
+                info.factors(macroblock),
             );
             self.tokens.any()
         };

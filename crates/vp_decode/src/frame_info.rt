@@ -1,7 +1,7 @@
 //! What is known of a frame once its first partition is read: header, version, references, modes and motion; and what
 //! follows from its header: the factors and the filter levels.
 
-ghost use Rattle.std.specs.Prelude.{◌≡◌, ◌<◌, ◌≤◌, Some, length, option_map, slice_get};
+ghost use Rattle.std.specs.Prelude.{◌≡◌, ◌<◌, ◌≤◌, Some, [], ◌∷◌, length, option_map, slice_get};
 ghost use Rattle.vp_base.specs.declared.place.Place.{Place};
 ghost use Rattle.vp_base.specs.Grid.{Has};
 ghost use Rattle.vp_tokens.specs.declared.contexts.Tokens.{Tokens};
@@ -19,7 +19,7 @@ use vp_loop::{Level, LevelTable, MacroblockKind, ModeClass};
 use vp_modes::Modes;
 use vp_motion::MacroblockMotion;
 use vp_quant::{Factors, segment_index};
-use vp_recon::Predictor;
+use vp_recon::{Predictor, SegmentFactors};
 use vp_refs::Refs;
 use vp_tables::VectorMode;
 
@@ -32,8 +32,8 @@ pub(crate) struct FrameInfo<'a> {
     /// None for a key frame.
     references: Option<&'a Refs>,
     maps: &'a MacroblockMaps,
-    /// The dequantisation factors of the four segments.
-    factors: [Factors; 4],
+    /// The dequantisation factors of the four segments, made ready.
+    factors: &'a [SegmentFactors; 4],
     levels: LevelTable,
 }
 
@@ -51,7 +51,7 @@ impl<'a> Model for FrameInfo<'a> {
       maps = f.maps.now;
     } };
 
-    ghost invariant = { λ f. (f.factors ≡ factors_of f.header.now 0 ∷ factors_of f.header.now 1
+    ghost invariant = { λ f. (f.factors.now ≡ factors_of f.header.now 0 ∷ factors_of f.header.now 1
         ∷ factors_of f.header.now 2 ∷ factors_of f.header.now 3 ∷ []) × AreFrameLevels f.header.now f.levels };
 }
 
@@ -118,12 +118,31 @@ fn predictor_by<'a>(
     }
 }
 
-/// Returns the dequantisation factors of a segment.
-fn factors_of(header: &Header, segment: u8) -> Factors
+/// Returns the dequantisation factors of a segment, made ready.
+fn factors_of(header: &Header, segment: u8) -> SegmentFactors
     requires { segment < 4 }
     ensures { result ≡ factors_of header.now segment }
 {
-    Factors::of(segment_index(header, segment), &header.quantiser)
+    let factors = Factors::of(segment_index(header, segment), &header.quantiser);
+    SegmentFactors::of(&factors)
+}
+
+/// Returns the dequantisation factors of the four segments. Without segmentation these are all the frame's.
+pub(crate) fn all_factors(header: &Header) -> [SegmentFactors; 4]
+    ensures { result ≡ factors_of header.now 0 ∷ factors_of header.now 1 ∷ factors_of header.now 2
+        ∷ factors_of header.now 3 ∷ [] }
+{
+    let first = factors_of(header, 0);
+    let segmentation = &header.segmentation;
+    if !segmentation.enabled {
+        return [first.copy(), first.copy(), first.copy(), first];
+    }
+    [
+        first,
+        factors_of(header, 1),
+        factors_of(header, 2),
+        factors_of(header, 3),
+    ]
 }
 
 /// Returns an item of a row.
@@ -141,7 +160,10 @@ impl<'a> FrameInfo<'a> {
         version: u8,
         references: Option<&'a Refs>,
         maps: &'a MacroblockMaps,
+        factors: &'a [SegmentFactors; 4],
     ) -> FrameInfo<'a>
+        requires { factors.now ≡ factors_of header.now 0 ∷ factors_of header.now 1 ∷ factors_of header.now 2
+            ∷ factors_of header.now 3 ∷ [] }
         ensures { result ≡ record {
           header = header.now;
           version = version;
@@ -154,12 +176,7 @@ impl<'a> FrameInfo<'a> {
             version,
             references,
             maps,
-            factors: [
-                factors_of(header, 0),
-                factors_of(header, 1),
-                factors_of(header, 2),
-                factors_of(header, 3),
-            ],
+            factors,
             levels: LevelTable::of(header),
         }
     }
@@ -222,11 +239,13 @@ impl<'a> FrameInfo<'a> {
 
     /// Returns the dequantisation factors of a macroblock.
     #[tactic(auto, unfolding(crate::specs::Frame::factors_at))]
-    pub(crate) fn factors(&self, macroblock: &Macroblock) -> Factors
-        ensures { (place : Place) → IsMacroblockAt self.now place macroblock.now → result ≡ factors_at self.now place }
+    pub(crate) fn factors(&self, macroblock: &Macroblock) -> &'a SegmentFactors
+        ensures { (place : Place) → IsMacroblockAt self.now place macroblock.now
+            → result.now ≡ factors_at self.now place }
     {
         let modes = macroblock.modes;
-        self.factors[usize::from(modes.segment)]
+        let factors = self.factors;
+        &factors[usize::from(modes.segment)]
     }
 
     /// Returns the loop filter level of a macroblock. `coded` says whether it has any token.

@@ -8,8 +8,8 @@ ghost use Rattle.vp_motion.specs.Near.{bias_corrected, bias_of, candidates, clam
 ghost use Rattle.vp_motion.specs.Near.{negated, same, splits, split_count, weighted_neighbour};
 ghost use Rattle.vp_motion.specs.Counting.{candidates_by, weighted_vector, AreLight};
 
-use crate::map::VectorMap;
 use crate::counting::count;
+use crate::map::VectorMap;
 use crate::packed::PackedVector;
 use crate::vector::{Candidates, MacroblockMotion, Nearby, Vector};
 use vp_base::Place;

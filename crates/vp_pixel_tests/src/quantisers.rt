@@ -1,9 +1,11 @@
 //! Tests of vp_quant: factors by quantiser indices, and dequantised and quantised levels.
 
 use crate::check::equal;
+use crate::transforms::rows_of;
+use std::simd::prelude::*;
 use vp_bool::BoolDecoder;
 use vp_head::{Header, QuantiserIndices, Saved, Tag};
-use vp_quant::{Factors, dequant, dequant_short, quantise, quantise_block, segment_index};
+use vp_quant::{Factors, ShortFactor, dequant, quantise, quantise_block, segment_index};
 
 /// The first and the last entries of the tables in RFC 6386, chapter 14.1, and the clamped factors.
 #[test]
@@ -125,10 +127,56 @@ fn short_coefficients(rt: HostRuntime) {
     wanted[8] = -140;
     wanted[15] = 220;
     let found = [
-        dequant_short(levels, 10, 20),
-        dequant_short([-2200; 16], 1, 1),
-        dequant_short([2201; 16], 1, 1),
-        dequant_short([0, 0, 0, 0, 0, 0, 0, 8, 0, 0, 0, 0, 0, 0, 0, 0], 276, 4),
+        ShortFactor::of(20, 2200).coefficients(levels, -30),
+        ShortFactor::of(1, 2200).coefficients([-2200; 16], -2200),
+        ShortFactor::of(1, 2200).coefficients([2201; 16], 0),
+        ShortFactor::of(276, 2200).coefficients(
+            [0, 0, 0, 0, 0, 0, 0, 8, 0, 0, 0, 0, 0, 0, 0, 0],
+            0,
+        ),
     ];
     equal!(&rt; found, [Some(wanted), Some([-2200; 16]), None, None]);
+}
+
+/// Products of one level and of eight.
+#[test]
+fn short_products(rt: HostRuntime) {
+    let tens = ShortFactor::of(10, 2200);
+    let found = [tens.product(-3), ShortFactor::of(276, 2200).product(8)];
+    equal!(&rt; found, [Some(-30), None]);
+    let found = [
+        tens.products(i16x8::from_array([-3, 5, -7, 11, 0, 0, 220, -220])),
+        tens.products(i16x8::from_array([0, 0, 0, 0, 0, 0, 0, 221])),
+    ];
+    equal!(&rt; found, [Some([-30, 50, -70, 110, 0, 0, 2200, -2200]), None]);
+}
+
+/// Returns the rows as arrays, or zeros if there are none.
+fn rows_or_zeros(rows: Option<(i16x8, i16x8, i16x8, i16x8)>) -> [[i16; 8]; 4] {
+    match rows {
+        Some(rows) => rows_of(rows),
+        None => [[0; 8]; 4],
+    }
+}
+
+/// Two blocks, of which the first is in the even lanes. A large level of either is refused.
+#[test]
+fn coefficients_of_two_blocks(rt: HostRuntime) {
+    let left = [-3, 0, 5, -7, 0, 0, 0, 0, 0, 0, 0, 0, 0, 0, 0, 11];
+    let right = [0, 1, 0, 0, 0, 0, 0, -2, 0, 0, 0, 0, 0, 0, 3, 0];
+    let large = [0, 0, 0, 0, 0, 0, 0, 0, 0, 0, 0, 0, 0, 0, 0, 111];
+    let twenties = ShortFactor::of(20, 2200);
+    let found = rows_or_zeros(twenties.coefficients_of_two(left, right, [-30, 9]));
+    let wanted = [
+        [-30, 9, 0, 20, 0, 0, 0, 0],
+        [100, 0, 0, 0, 0, -40, 0, 0],
+        [-140, 0, 0, 0, 0, 0, 0, 0],
+        [0, 0, 0, 0, 0, 60, 220, 0],
+    ];
+    equal!(&rt; found, wanted);
+    let refused = [
+        twenties.coefficients_of_two(large, right, [0, 0]).is_none(),
+        twenties.coefficients_of_two(left, large, [0, 0]).is_none(),
+    ];
+    equal!(&rt; refused, [true, true]);
 }

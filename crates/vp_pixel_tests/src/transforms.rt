@@ -5,9 +5,10 @@ ghost use Rattle.vp_transform.specs.Fits.{EachWithin, IdctFits, IwhtFits};
 
 use crate::check::equal;
 use std::process::Abort;
+use std::simd::prelude::*;
 use vp_transform::{
-    cut, differences, fdct, fdct_short, fwht, fwht_short, idct, idct_cut, idct_of_first, idct_pair,
-    idct_short, iwht, iwht_of_first, iwht_short,
+    cut, differences, fdct, fdct_short, fwht, fwht_short, idct, idct_cut, idct_interleaved,
+    idct_of_first, idct_short, iwht, iwht_of_first, iwht_short,
 };
 
 /// The expected numbers of the second block are those of RFC 6386's own program (chapters 14.3 and 14.4).
@@ -53,44 +54,46 @@ fn short_example(rt: HostRuntime) {
     equal!(&rt; (idct_short(&block), iwht_short(&block)), wanted);
 }
 
-/// Fails the test if the inverse transforms of a pair have other rows.
-fn check_pair(rt: &impl Abort, a: &[i16; 16], b: &[i16; 16], rows: &[[i16; 8]; 4])
-    requires first { EachWithin 2200 a.now }
-    requires second { EachWithin 2200 b.now }
-{
-    let (top, upper, lower, bottom) = idct_pair(a, b);
-    let found = [
+/// Returns the rows as arrays.
+pub(crate) fn rows_of((top, upper, lower, bottom): (i16x8, i16x8, i16x8, i16x8)) -> [[i16; 8]; 4] {
+    [
         top.to_array(),
         upper.to_array(),
         lower.to_array(),
         bottom.to_array(),
-    ];
-    equal!(rt; &found, rows);
+    ]
 }
 
-/// The inverse transform of that block and the first one as a pair, in either order.
+/// The inverse transform of that block and the first one as a pair, in either order. Their numbers alternate.
 #[test]
 fn pair_example(rt: HostRuntime) {
     let rt = &rt;
-    let block = [
-        -700, 123, -45, 6, 77, -888, 99, -10, 11, 12, -1313, 14, -15, 160, 17, -1818,
-    ];
-    let mut first = [0; 16];
-    first[0] = 8;
-    let after = [
+    let found = rows_of(idct_interleaved(
+        i16x8::from_array([-700, 8, 123, 0, -45, 0, 6, 0]),
+        i16x8::from_array([77, 0, -888, 0, 99, 0, -10, 0]),
+        i16x8::from_array([11, 0, 12, 0, -1313, 0, 14, 0]),
+        i16x8::from_array([-15, 0, 160, 0, 17, 0, -1818, 0]),
+    ));
+    let wanted = [
         [-447, 174, -18, -7, 1, 1, 1, 1],
         [146, -669, 181, 16, 1, 1, 1, 1],
         [28, 192, -694, 88, 1, 1, 1, 1],
         [-18, 5, 174, -551, 1, 1, 1, 1],
     ];
-    check_pair(rt, &block, &first, &after);
-    let before = [
+    equal!(rt; found, wanted);
+    let found = rows_of(idct_interleaved(
+        i16x8::from_array([8, -700, 0, 123, 0, -45, 0, 6]),
+        i16x8::from_array([0, 77, 0, -888, 0, 99, 0, -10]),
+        i16x8::from_array([0, 11, 0, 12, 0, -1313, 0, 14]),
+        i16x8::from_array([0, -15, 0, 160, 0, 17, 0, -1818]),
+    ));
+    let wanted = [
         [1, 1, 1, 1, -447, 174, -18, -7],
         [1, 1, 1, 1, 146, -669, 181, 16],
         [1, 1, 1, 1, 28, 192, -694, 88],
         [1, 1, 1, 1, -18, 5, 174, -551],
     ];
-    check_pair(rt, &first, &block, &before);
+    equal!(rt; found, wanted);
 }
 
 /// Two blocks of extreme numbers, and one of pseudo-random numbers. The expected results come from the formulas of RFC
@@ -98,28 +101,32 @@ fn pair_example(rt: HostRuntime) {
 #[test]
 fn scattered_pairs(rt: HostRuntime) {
     let rt = &rt;
-    let far = [
-        -2200, -2200, 2200, 2200, -2200, -2200, 2200, 2200, 2200, 2200, -2200, -2200, -2200, 2200,
-        -2200, 2200,
-    ];
-    let extreme = [
+    let found = rows_of(idct_interleaved(
+        i16x8::from_array([2200, -2200, 2200, -2200, 2200, 2200, 2200, 2200]),
+        i16x8::from_array([2200, -2200, 2200, -2200, 2200, 2200, 2200, 2200]),
+        i16x8::from_array([2200, 2200, 2200, 2200, 2200, -2200, 2200, -2200]),
+        i16x8::from_array([2200, -2200, 2200, 2200, 2200, -2200, 2200, 2200]),
+    ));
+    let wanted = [
         [4071, -810, 810, 161, -298, -1496, 59, -297],
         [-810, 161, -161, -32, -480, -2414, -381, 1918],
         [810, -161, 161, 32, -362, -1819, 214, -1075],
         [162, -32, 32, 7, 298, 1496, -59, 298],
     ];
-    check_pair(rt, &[2200; 16], &far, &extreme);
-    let scattered = [
-        -108, 737, 2142, -1963, 1614, -160, -1776, -916, -1273, 845, 1642, -181, 919, -1365, -158,
-        -2093,
-    ];
-    let mixed = [
+    equal!(rt; found, wanted);
+    let found = rows_of(idct_interleaved(
+        i16x8::from_array([-108, 2200, 737, 2200, 2142, 2200, -1963, 2200]),
+        i16x8::from_array([1614, 2200, -160, 2200, -1776, 2200, -916, 2200]),
+        i16x8::from_array([-1273, 2200, 845, 2200, 1642, 2200, -181, 2200]),
+        i16x8::from_array([919, 2200, -1365, 2200, -158, 2200, -2093, 2200]),
+    ));
+    let wanted = [
         [126, 754, -793, 525, 4071, -810, 810, 161],
         [363, 169, 104, -217, -810, 161, -161, -32],
         [-224, 564, -505, 910, 810, -161, 161, 32],
         [701, -1131, -1413, -150, 162, -32, 32, 7],
     ];
-    check_pair(rt, &scattered, &[2200; 16], &mixed);
+    equal!(rt; found, wanted);
 }
 
 /// The expected numbers of the second block come from the formulas, computed by an independent script.

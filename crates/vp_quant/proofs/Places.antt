@@ -68,7 +68,7 @@ set_within b (x ∷ xs) zero v h g (suc i) = h (suc i)
 set_within b (x ∷ xs) (suc k) v h g zero = h zero
 set_within b (x ∷ xs) (suc k) v h g (suc i) = set_within b xs k v (λ j. h (suc j)) g i
 
-map_within : (b : ℕ) (f : ℕ → ℤ) (xs : List ℕ) → ((x : ℕ) → unsigned_abs (f x) ≤ b) → (i : ℕ) → unsigned_abs (slice_index_or (map f xs) i (pos 0)) ≤ b
+pub map_within : (b : ℕ) (f : ℕ → ℤ) (xs : List ℕ) → ((x : ℕ) → unsigned_abs (f x) ≤ b) → (i : ℕ) → unsigned_abs (slice_index_or (map f xs) i (pos 0)) ≤ b
 map_within b f [] h i = omega arith
 map_within b f (x ∷ xs) h zero = h x
 map_within b f (x ∷ xs) h (suc i) = map_within b f xs h i

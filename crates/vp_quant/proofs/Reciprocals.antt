@@ -20,7 +20,7 @@ use borrow.Table.Row.{s_int}
 use Rattle.vp_lanes.specs.Lane.{lane}
 use Rattle.vp_lanes.proofs.Shape.{ByLane, lanes_of, lane_is, selected, mapped, zipped, splatted, each_lane, length-ByLane}
 use Rattle.vp_lanes.proofs.Signed.{Signed, Stands, stands_of, stands_pos, stands_pick, signed_splat, signed_sub, signed_out}
-use Rattle.vp_quant.proofs.Sixteen.{all_set, map_same}
+use Rattle.vp_quant.proofs.Sixteen.{all_set, map_same, short_fits}
 use Rattle.vp_quant.specs.Level.{quantised}
 use Rattle.vp_tables.specs.Tables.{zigzag}
 
@@ -107,16 +107,12 @@ magnitude_is (pos zero) = refl
 magnitude_is (pos (suc n)) = let e : pos 0 -ℤ pos (suc n) ≡ negsuc n = omega (arith, ints) in rw e refl
 magnitude_is (negsuc n) = let e : pos 0 -ℤ negsuc n ≡ pos (suc n) = omega (arith, ints) in rw e refl
 
-pub fits_16 : (z : ℤ) → unsigned_abs z ≤ 32767 → SFits w16 z
-fits_16 (pos n) l = record { sfits = omega arith }
-fits_16 (negsuc n) l = record { sfits = omega arith }
-
 pub signed_list : (x : List ℤ) → length x ≡ 16 → ((i : ℕ) → unsigned_abs (get_or x i (pos 0)) ≤ 32767) → Signed 16 (lane x) (map (of_z w16) x)
 signed_list x l w =
     let e = mapped (of_z w16) (lanes_of (pos 0) 16 x l) in
     record {
       long = length-ByLane e;
-      at = λ j h. subst (λ m. Stands m (lane x j)) (sym (lane_is 0 e j h)) (stands_of (lane x j) (fits_16 (lane x j) (w j)));
+      at = λ j h. subst (λ m. Stands m (lane x j)) (sym (lane_is 0 e j h)) (stands_of (lane x j) (short_fits (lane x j) (w j)));
     }
 
 module _ {n : ℕ} {Z : ℕ → ℤ} {xs : List ℕ} (p : Signed n Z xs) (small : (j : ℕ) → j < n → unsigned_abs (Z j) ≤ 32767) where
@@ -206,12 +202,12 @@ module _ {n : ℕ} {Z : ℕ → ℤ} {ys : List ℕ} (xs : List ℕ) (p : Signed
       ∙ ap (λ (z : ℤ). cond (int_lt (Z j) (pos 0)) z (pos (min (get_or xs j 0) 2047))) (let e : pos 0 -ℤ pos (min (get_or xs j 0) 2047) ≡ neg_ℤ (pos (min (get_or xs j 0) 2047)) = omega (arith, ints) in e)
 
 -- ---- all lanes of a mask
-pub all_true : {F : ℕ → Bool} {ms : List Bool} → ByLane 16 F ms → eqb (mask_l ms % 2 ^ 64) 65535 ≡ true → (j : ℕ) → j < 16 → F j ≡ true
+pub all_true : {F : ℕ → Bool} {ms : List Bool} → ByLane 8 F ms → eqb (mask_l ms % 2 ^ 64) 255 ≡ true → (j : ℕ) → j < 8 → F j ≡ true
 all_true {ms = ms} e full j h =
-    let long : length ms ≡ 16 = length-ByLane e in
+    let long : length ms ≡ 8 = length-ByLane e in
     let whole : mask_l ms % 2 ^ 64 ≡ mask_l ms = mask_l-mod ms 64 (omega arith) in
-    let all : mask_l ms ≡ 65535 = sym whole ∙ eqb-true _ _ full in
-    let p : 2 ^ length ms ≡ 65536 = ap (λ k. 2 ^ k) long in
+    let all : mask_l ms ≡ 255 = sym whole ∙ eqb-true _ _ full in
+    let p : 2 ^ length ms ≡ 256 = ap (λ k. 2 ^ k) long in
     sym (lane_is false e j h) ∙ all_set ms (omega (arith, all, p)) j (omega arith)
 
 pub less_from : (n b : ℕ) → top 15 (cond (ltb n b) 65535 0) ≡ true → n < b
@@ -272,7 +268,7 @@ magnitude-small (pos k) f = omega (arith, ints)
 magnitude-small (negsuc k) f = omega (arith, ints)
 
 pub read_short : (z : ℤ) → unsigned_abs z ≤ 32767 → to_z w16 (of_z w16 z) ≡ z
-read_short z l = to_z-of_z w16 z (fits_16 z l)
+read_short z l = to_z-of_z w16 z (short_fits z l)
 
 wide : (z : ℤ) → unsigned_abs z ≤ 32767 → SFits w64 z
 wide (pos n) l = record { sfits = omega arith }

@@ -5,6 +5,7 @@
 mod block;
 mod factors;
 mod level;
+mod magnitudes;
 mod quantised_block;
 mod short;
 
@@ -12,4 +13,4 @@ pub use block::dequant;
 pub use factors::{Factors, segment_index};
 pub use level::quantise;
 pub use quantised_block::quantise_block;
-pub use short::{ShortFactors, dequant_short};
+pub use short::ShortFactor;

@@ -1,6 +1,6 @@
 //! Quantisation of a block, in 16-bit lanes, with one division for all AC coefficients.
 
-ghost use Rattle.std.specs.Prelude.{◌≡◌, ◌≢◌, ℕ, ◌+◌, ◌*◌, ◌/◌, ◌<◌, ◌≤◌, ◌==◌, if◌then◌else◌, pos, map, true};
+ghost use Rattle.std.specs.Prelude.{◌≡◌, ◌≢◌, ℕ, ◌+◌, ◌*◌, ◌/◌, ◌<◌, ◌≤◌, ◌==◌, if◌then◌else◌, pos, map};
 ghost use Rattle.std.specs.Prelude.{slice_index, slice_index_or, unsigned_abs, cond, int_lt, min, neg_ℤ};
 ghost use Rattle.std.specs.List.{range_with_len};
 ghost use Rattle.vp_lanes.specs.Lane.{lane};
@@ -8,6 +8,7 @@ ghost use Rattle.vp_tables.specs.Tables.{zigzag};
 ghost use Rattle.vp_quant.specs.Level.{quantised};
 
 use crate::level::quantise;
+use crate::magnitudes::are_below;
 use std::simd::prelude::*;
 
 /// Quantises a block of coefficients in raster order; the levels are in zigzag order. The DC coefficient is quantised
@@ -56,13 +57,6 @@ fn rounded_sizes(v: i16x16, factor: u16) -> u16x16
     ensures { (j : ℕ) → j < 16 → slice_index result j ≡ unsigned_abs (lane v j) + factor / 2 }
 {
     v.abs().cast::<u16>() + u16x16::splat(factor / 2)
-}
-
-/// Whether each lane is less than the bound.
-pub(crate) fn are_below(v: u16x16, bound: u16) -> bool
-    ensures { result ≡ true → (j : ℕ) → j < 16 → slice_index v j < bound }
-{
-    v.simd_lt(u16x16::splat(bound)).all()
 }
 
 /// Divides each lane by the same number. The product with the number's reciprocal is the quotient or one less.

@@ -1,134 +1,182 @@
-//! Dequantisation in i16 lanes, for coefficients from -2,200 to 2,200 (RFC 6386, chapter 14.1).
+//! Products of levels and a factor in 16 bits, and coefficients from them (RFC 6386, chapters 13 and 14.1).
 
-ghost use Rattle.std.specs.Prelude.{◌≡◌, ◌≢◌, ℕ, ◌*◌, ◌/◌, ◌<◌, ◌≤◌, pos, ◌*ℤ◌, ℤ, List, Some, None, true, max, min};
-ghost use Rattle.std.specs.Prelude.{unsigned_abs, slice_index, slice_index_or, ◌==◌, if◌then◌else◌};
+ghost use Rattle.std.specs.Prelude.{◌≡◌, ℕ, ◌+◌, ◌*◌, ◌<◌, ◌≤◌, pos, ◌*ℤ◌, ℤ, List, [], ◌∷◌, ◌++◌, Some};
+ghost use Rattle.std.specs.Prelude.{unsigned_abs, slice_index_or};
 ghost use Rattle.vp_lanes.specs.Lane.{lane};
-ghost use Rattle.vp_quant.specs.Quant.{position_at, dequantised};
-ghost use Rattle.vp_quant.specs.Short.{largest, AreFactors, AreShort};
+ghost use Rattle.vp_quant.specs.Short.{IsShortFactor, HasBlock, Four, coefficients_after};
+ghost use Rattle.vp_quant.specs.Short.{in_raster, after_firsts, by_turns};
 
-use crate::quantised_block::are_below;
+use crate::magnitudes::{are_below, eight_are_below, larger, sizes};
 use std::simd::prelude::*;
-use vp_lanes::clamp_i16;
 
-/// The greatest magnitude of a coefficient on the 16-bit path.
-const COEFFICIENT_BOUND: u16 = 2200;
-
-/// Dequantises in 16 bits: the result of `dequant` if each level, and its product with the larger factor, is from
-/// -2,200 to 2,200. Else None.
-pub fn dequant_short(levels: [i16; 16], dc: u16, ac: u16) -> Option<[i16; 16]>
-    ensures value { (block : List ℤ) → result ≡ Some block → block ≡ dequantised levels dc ac }
-    ensures small { (block : List ℤ) → result ≡ Some block → (i : ℕ)
-        → unsigned_abs (slice_index_or block i (pos 0)) ≤ 2200 }
-    ensures some { AreShort levels dc ac → result ≢ None }
-{
-    let read = i16x16::from_array(levels);
-    let most = greatest_level(dc, ac);
-    let held = clamp_i16(read, -most, most);
-    if are_same(held, read) {
-        Some(ShortFactors::of(dc, ac).dequant(levels))
-    } else {
-        None
-    }
-}
-
-/// A DC and an AC factor, made ready once to dequantise many blocks in 16 bits (RFC 6386, chapter 14.1).
+/// A factor, made ready once to multiply many levels in 16 bits (RFC 6386, chapter 14.1).
 #[derive(Clone, Copy)]
-pub struct ShortFactors {
-    /// One more than the greatest magnitude of a level whose product with the larger factor is at most 2,200.
+pub struct ShortFactor {
+    /// One more than the greatest magnitude of a level whose product is small enough.
     bound: u16,
-    /// The factor of each position in zigzag order.
-    factors: i16x16,
+    /// The factor, but at most the greatest product: with a larger one all levels are 0.
+    factor: i16,
 }
 
-impl ShortFactors {
-    /// The factors of blocks whose first level is multiplied by `dc`, the others by `ac`, both of any size.
-    pub fn of(dc: u16, ac: u16) -> ShortFactors
-        ensures { AreFactors result dc ac }
+impl ShortFactor {
+    /// A factor of any size, for products from -`most` to `most`.
+    pub fn of(factor: u16, most: u16) -> ShortFactor
+        requires { most ≤ 32767 }
+        ensures { IsShortFactor result factor most }
     {
-        ShortFactors {
-            bound: COEFFICIENT_BOUND / dc.max(ac).max(1) + 1,
-            factors: factor_lanes(dc, ac),
+        ShortFactor {
+            bound: most / factor.max(1) + 1,
+            factor: factor.min(most) as i16,
         }
     }
 
-    /// Whether each level of two blocks, and its product with the larger factor, is from -2,200 to 2,200. No level may
-    /// be -32,768.
-    pub fn are_small(&self, left: [i16; 16], right: [i16; 16]) -> bool
+    /// The products of eight levels, if each is from -`most` to `most`. No level may be -32,768.
+    #[inline(always)]
+    pub fn products(&self, levels: i16x8) -> Option<[i16; 8]>
+        requires { (j : ℕ) → j < 8 → unsigned_abs (lane levels j) ≤ 32767 }
+        ensures value { (v : List ℤ) (factor most : ℕ) → result ≡ Some v → IsShortFactor self.now factor most
+            → (j : ℕ) → j < 8 → lane v j ≡ lane levels j *ℤ pos factor }
+        ensures small { (v : List ℤ) (factor most : ℕ) → result ≡ Some v → IsShortFactor self.now factor most
+            → (j : ℕ) → j < 8 → unsigned_abs (lane v j) ≤ most }
+    {
+        if eight_are_below(sizes(levels), self.bound) {
+            Some(times(levels, self.factor).to_array())
+        } else {
+            None
+        }
+    }
+
+    /// The product of a level, if it is from -`most` to `most`. The level may not be -32,768.
+    #[inline(always)]
+    pub fn product(&self, level: i16) -> Option<i16>
+        requires { unsigned_abs level ≤ 32767 }
+        ensures value { (z : ℤ) (factor most : ℕ) → result ≡ Some z → IsShortFactor self.now factor most
+            → z ≡ level *ℤ pos factor }
+        ensures small { (z : ℤ) (factor most : ℕ) → result ≡ Some z → IsShortFactor self.now factor most
+            → unsigned_abs z ≤ most }
+    {
+        if level.unsigned_abs() < self.bound {
+            Some(level.wrapping_mul(self.factor))
+        } else {
+            None
+        }
+    }
+
+    /// The coefficients of a block in raster order: `first`, then the AC levels times the factor, if the product of
+    /// each level is from -`most` to `most`. The levels are in zigzag order, and none is -32,768.
+    #[inline(always)]
+    pub fn coefficients(&self, levels: [i16; 16], first: i16) -> Option<[i16; 16]>
+        requires { (i : ℕ) → unsigned_abs (slice_index_or levels i (pos 0)) ≤ 32767 }
+        ensures value { (block : List ℤ) (factor most : ℕ) → result ≡ Some block → IsShortFactor self.now factor most
+            → block ≡ coefficients_after first levels factor }
+        ensures small { (block : List ℤ) (factor most : ℕ) → result ≡ Some block → IsShortFactor self.now factor most
+            → unsigned_abs first ≤ most → (i : ℕ) → unsigned_abs (slice_index_or block i (pos 0)) ≤ most }
+    {
+        let levels = i16x16::from_array(levels);
+        if are_below(sizes(levels), self.bound) {
+            Some(placed(with_first(times(levels, self.factor), first)).to_array())
+        } else {
+            None
+        }
+    }
+
+    /// The coefficients of two blocks, in four rows of eight numbers, those of `left` in the even lanes: their
+    /// `firsts`, then their AC levels times the factor, if the product of each level is from -`most` to `most`. The
+    /// levels are in zigzag order, and none is -32,768.
+    #[inline(always)]
+    pub fn coefficients_of_two(
+        &self,
+        left: [i16; 16],
+        right: [i16; 16],
+        firsts: [i16; 2],
+    ) -> Option<(i16x8, i16x8, i16x8, i16x8)>
         requires left { (i : ℕ) → unsigned_abs (slice_index_or left i (pos 0)) ≤ 32767 }
         requires right { (i : ℕ) → unsigned_abs (slice_index_or right i (pos 0)) ≤ 32767 }
-        ensures left { result ≡ true → (dc ac : ℕ) → AreFactors self.now dc ac → AreShort left dc ac }
-        ensures right { result ≡ true → (dc ac : ℕ) → AreFactors self.now dc ac → AreShort right dc ac }
+        ensures left { (v : Four) (factor most : ℕ) → result ≡ Some v → IsShortFactor self.now factor most
+            → HasBlock v 0 (coefficients_after (slice_index_or firsts 0 (pos 0)) left factor) }
+        ensures right { (v : Four) (factor most : ℕ) → result ≡ Some v → IsShortFactor self.now factor most
+            → HasBlock v 1 (coefficients_after (slice_index_or firsts 1 (pos 0)) right factor) }
+        ensures small { (v : Four) (factor most : ℕ) → result ≡ Some v → IsShortFactor self.now factor most
+            → ((i : ℕ) → i < 2 → unsigned_abs (slice_index_or firsts i (pos 0)) ≤ most)
+            → (r j : ℕ) → r < 4 → j < 8
+            → unsigned_abs (lane (slice_index_or (v.0 ∷ v.1 ∷ v.2 ∷ v.3 ∷ []) r []) j) ≤ most }
     {
-        let left = sizes(i16x16::from_array(left));
-        let right = sizes(i16x16::from_array(right));
-        are_below(larger(left, right), self.bound)
-    }
-
-    /// Dequantises sixteen levels in zigzag order that are small enough for `are_small`: the coefficients are in raster
-    /// order, each from -2,200 to 2,200. Of other levels the result is unspecified.
-    pub fn dequant(&self, levels: [i16; 16]) -> [i16; 16]
-        ensures value { (dc ac : ℕ) → AreFactors self.now dc ac → AreShort levels dc ac
-            → result ≡ dequantised levels dc ac }
-        ensures small { (dc ac : ℕ) → AreFactors self.now dc ac → AreShort levels dc ac → (i : ℕ)
-            → unsigned_abs (slice_index_or result i (pos 0)) ≤ 2200 }
-    {
-        placed(scaled(i16x16::from_array(levels), self.factors)).to_array()
+        let (upper, lower) = alternated(left, right);
+        let first_sizes = sizes(upper);
+        let last_sizes = sizes(lower);
+        if are_below(larger(first_sizes, last_sizes), self.bound) {
+            let upper = with_firsts(times(upper, self.factor), firsts);
+            let lower = times(lower, self.factor);
+            Some(placed_rows(upper, lower))
+        } else {
+            None
+        }
     }
 }
 
-/// The magnitude of each lane.
-fn sizes(v: i16x16) -> u16x16
-    requires { (j : ℕ) → j < 16 → unsigned_abs (lane v j) ≤ 32767 }
-    ensures { (j : ℕ) → j < 16 → slice_index result j ≡ unsigned_abs (lane v j) }
+/// The lanes times the factor, if the products fit in 16 bits.
+fn times<const N: usize>(v: Simd<i16, N>, factor: i16) -> Simd<i16, N>
+    ensures { ((j : ℕ) → j < N → unsigned_abs (lane v.entry j *ℤ factor) ≤ 32767)
+        → (j : ℕ) → j < N → lane result j ≡ lane v.entry j *ℤ factor }
 {
-    v.abs().cast::<u16>()
+    v * Simd::splat(factor)
 }
 
-/// The larger of two lanes.
-fn larger(a: u16x16, b: u16x16) -> u16x16
-    ensures { (j : ℕ) → j < 16 → slice_index result j ≡ max (slice_index a j) (slice_index b j) }
+/// The numbers of two blocks by turns: those of `left` are in the even lanes.
+fn alternated(left: [i16; 16], right: [i16; 16]) -> (i16x16, i16x16)
+    ensures upper { result.0 ≡ by_turns left right 0 }
+    ensures lower { result.1 ≡ by_turns left right 8 }
 {
-    a.simd_max(b)
+    i16x16::from_array(left).interleave(i16x16::from_array(right))
 }
 
-/// The greatest magnitude of a level for these factors.
-fn greatest_level(dc: u16, ac: u16) -> i16
-    ensures { result ≡ pos (2200 / largest dc ac) }
+/// The lanes with another number in the first.
+fn with_first(v: i16x16, first: i16) -> i16x16
+    ensures { result ≡ after_firsts 1 (first ∷ []) v }
 {
-    (COEFFICIENT_BOUND / dc.max(ac).max(1)) as i16
-}
-
-/// Whether all lanes are equal.
-fn are_same(a: i16x16, b: i16x16) -> bool
-    ensures same { result ≡ true → (j : ℕ) → j < 16 → lane a j ≡ lane b j }
-    ensures other { ((j : ℕ) → j < 16 → lane a j ≡ lane b j) → result ≡ true }
-{
-    a.simd_eq(b).all()
-}
-
-/// The levels times their factors, if each product is from -2,200 to 2,200.
-fn scaled(levels: i16x16, factors: i16x16) -> i16x16
-    ensures { ((j : ℕ) → j < 16 → unsigned_abs (lane levels j *ℤ lane factors j) ≤ 2200)
-        → (j : ℕ) → j < 16 → lane result j ≡ lane levels j *ℤ lane factors j }
-{
-    levels * factors
-}
-
-/// The factor of each position in zigzag order, but at most 2,200: with a larger one all levels are 0.
-fn factor_lanes(dc: u16, ac: u16) -> i16x16
-    ensures { (j : ℕ) → j < 16 → lane result j ≡ pos (min (if j == 0 then dc else ac) 2200) }
-{
-    let first = i16x16::splat(dc.min(COEFFICIENT_BOUND) as i16);
-    let others = i16x16::splat(ac.min(COEFFICIENT_BOUND) as i16);
-    others.shuffle::<16>(
-        first,
+    v.shuffle::<16>(
+        i16x16::splat(first),
         [16, 1, 2, 3, 4, 5, 6, 7, 8, 9, 10, 11, 12, 13, 14, 15],
+    )
+}
+
+/// The lanes with other numbers in the first two.
+fn with_firsts(v: i16x16, firsts: [i16; 2]) -> i16x16
+    ensures { result ≡ after_firsts 2 firsts v }
+{
+    let firsts = i16x2::from_array(firsts).swizzle::<16>([
+        0, 1, 0, 1, 0, 1, 0, 1, 0, 1, 0, 1, 0, 1, 0, 1,
+    ]);
+    v.shuffle::<16>(
+        firsts,
+        [16, 17, 2, 3, 4, 5, 6, 7, 8, 9, 10, 11, 12, 13, 14, 15],
     )
 }
 
 /// Moves each lane from its zigzag position to its raster index.
 fn placed(v: i16x16) -> i16x16
-    ensures { (place : ℕ) → place < 16 → lane result place ≡ lane v (position_at place) }
+    ensures { result ≡ in_raster (lane v) }
 {
     v.swizzle::<16>([0, 1, 5, 6, 2, 4, 7, 12, 3, 8, 11, 13, 9, 10, 14, 15])
+}
+
+/// Moves each lane of two blocks that alternate from its zigzag position to its raster index; the vectors are rows.
+fn placed_rows(upper: i16x16, lower: i16x16) -> (i16x8, i16x8, i16x8, i16x8)
+    ensures left { HasBlock result 0 (in_raster (λ p. lane (upper ++ lower) (2 * p))) }
+    ensures right { HasBlock result 1 (in_raster (λ p. lane (upper ++ lower) (2 * p + 1))) }
+{
+    let first = upper.shuffle::<16>(
+        lower,
+        [0, 1, 2, 3, 10, 11, 12, 13, 4, 5, 8, 9, 14, 15, 24, 25],
+    );
+    let second = upper.shuffle::<16>(
+        lower,
+        [6, 7, 16, 17, 22, 23, 26, 27, 18, 19, 20, 21, 28, 29, 30, 31],
+    );
+    (
+        first.extract::<0, 8>(),
+        first.extract::<8, 8>(),
+        second.extract::<0, 8>(),
+        second.extract::<8, 8>(),
+    )
 }

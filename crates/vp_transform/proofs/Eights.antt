@@ -1,5 +1,5 @@
 -- Vectors of eight lanes of i16: read, passed, widened, and times a factor.
-use Rattle.std.proofs.Common.{◌≡◌, ℕ, zero, suc, ◌+◌, ◌-◌, ◌*◌, ◌<◌, ◌≤◌, ◌++◌, ℤ, pos, negsuc, ◌*ℤ◌, List, [], ◌∷◌, map, length, get_or, refl, ap, sym, subst, ◌∙◌, arith, to_z, of_z, w32, unsigned_abs}
+use Rattle.std.proofs.Common.{◌≡◌, ℕ, zero, suc, ◌+◌, ◌-◌, ◌*◌, ◌<◌, ◌≤◌, ◌++◌, ℤ, pos, negsuc, ◌*ℤ◌, List, [], ◌∷◌, map, get_or, refl, ap, sym, subst, ◌∙◌, arith, to_z, of_z, w32, unsigned_abs}
 use Rattle.std.proofs.lemmas.Int.{ints, to_z-of_z, unsigned_abs-mul}
 use Rattle.std.proofs.lemmas.List.{get_or_append_left, get_or-append_right}
 use Rattle.std.proofs.Math.Nat.{mul-le-mul}
@@ -15,8 +15,7 @@ use borrow.Rule.Simd.Lanes.{act1, Asks1}
 use borrow.Table.Row.{s_int}
 use Rattle.vp_lanes.specs.Lane.{lane}
 use Rattle.vp_lanes.proofs.Shape.{lanes_of, lane_is, lane_fits, mapped, length-ByLane, signed_lanes, each_lane}
-use Rattle.vp_lanes.proofs.Signed.{Signed, Stands, stands_of}
-use Rattle.vp_transform.specs.Fits.{EachWithin}
+use Rattle.vp_lanes.proofs.Signed.{Signed, Stands}
 use Rattle.vp_lanes.proofs.Signed32 as long
 use Rattle.vp_transform.proofs.Vectors.{short16_fits}
 
@@ -28,7 +27,7 @@ pub sfits16 : {m : ℕ} {z : ℤ} → Stands m z → SFits w16 z
 sfits16 {m} p = subst (SFits w16) p.is (to_z-Fits w16 m (record { fits = p.small }))
 
 module _ {m : ℕ} {z : ℤ} (p : Stands m z) where
-  pub once : coded16 (to_z w16 m) ≡ z
+  once : coded16 (to_z w16 m) ≡ z
   once = ap (λ v. coded16 v) p.is ∙ to_z-of_z w16 z (sfits16 p)
 
   pub thrice : coded16 (coded16 (to_z w16 m)) ≡ z
@@ -42,15 +41,6 @@ module _ {n : ℕ} {X Y : ℕ → ℤ} {xs ys : List ℕ} (p : Signed n X xs) (q
   in_second i k e h =
       let f : i - n ≡ k = omega arith in
       subst (λ m. Stands m (Y k)) (sym (get_or-append_right xs ys n i 0 p.long (omega arith) ∙ ap (λ j. get_or ys j 0) f)) (q.at k h)
-
--- a block of small numbers
-pub signed_block : (x : List ℤ) → length x ≡ 16 → EachWithin 2200 x → Signed 16 (lane x) (map (of_z w16) x)
-signed_block x l w =
-    let e = mapped (of_z w16) (lanes_of (pos 0) 16 x l) in
-    record {
-      long = length-ByLane e;
-      at = λ j h. subst (λ m. Stands m (lane x j)) (sym (lane_is 0 e j h)) (stands_of (lane x j) (let k = w j in short16_fits (lane x j) (omega arith)));
-    }
 
 -- the same numbers, said otherwise
 pub resigned : {n : ℕ} {X Y : ℕ → ℤ} {xs : List ℕ} → Signed n X xs → ((j : ℕ) → j < n → X j ≡ Y j) → Signed n Y xs

@@ -181,9 +181,6 @@ all_rounded x = block_from (λ r c. rounded (element_at x r c))
 rounded-within : (n : ℕ) (x : List ℤ) → EachWithin (8 * n) x → EachWithin n (all_rounded x)
 rounded-within n x w = each-block_of n (λ r c. rounded (element_at x r c)) (λ r c. rounded-at_most (element_at x r c) 4 n (omega arith) (at_most (8 * n) x w _))
 
-pub read-within : (n : ℕ) (x : List ℤ) → EachWithin n x → EachWithin n (block_from (element_at x))
-read-within n x w = each-block_of n (λ r c. element_at x r c) (λ r c. at_most n x w _)
-
 module _ {n : ℕ} {x y a b c d : List ℤ} (p : Pair n x y a b c d) (v0 v1 v2 v3 : List ℤ) where
   pub turned_pair : (s o : ℕ) → n * 35468 ≤ 65536 * s → n * 20091 ≤ 65536 * o → n + n + (n + o + s) < 32768
       → even_block v0 v1 v2 v3 ≡ vertical (even_block (handed16 a) (handed16 b) (handed16 c) (handed16 d))
@@ -217,10 +214,10 @@ row_of_both r {x} {y} {a} {b} {c} {d} p =
     ∙ ap (λ u. row_in (transposed x) (transposed u) r) p.odd
 
 -- all of them
-pub idct_in_steps : (x : List ℤ) → transposed (all_rounded (vertical (transposed (vertical (block_from (element_at x)))))) ≡ idct x
+pub idct_in_steps : (x : List ℤ) → transposed (all_rounded (vertical (transposed (vertical x)))) ≡ idct x
 unfolding idct horizontal vertical
 idct_in_steps x = refl
 
-pub rows_are : (r : ℕ) (x y : List ℤ) → row_in (transposed (all_rounded (vertical (transposed (vertical (block_from (element_at x))))))) (transposed (all_rounded (vertical (transposed (vertical (block_from (element_at y))))))) r ≡ row_in (idct x) (idct y) r
+pub rows_are : (r : ℕ) (x y : List ℤ) → row_in (transposed (all_rounded (vertical (transposed (vertical x))))) (transposed (all_rounded (vertical (transposed (vertical y))))) r ≡ row_in (idct x) (idct y) r
 rows_are r x y =
-    ap (λ u. row_in u (transposed (all_rounded (vertical (transposed (vertical (block_from (element_at y))))))) r) (idct_in_steps x) ∙ ap (λ u. row_in (idct x) u r) (idct_in_steps y)
+    ap (λ u. row_in u (transposed (all_rounded (vertical (transposed (vertical y))))) r) (idct_in_steps x) ∙ ap (λ u. row_in (idct x) u r) (idct_in_steps y)

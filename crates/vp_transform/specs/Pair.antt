@@ -1,15 +1,8 @@
--- Two blocks side by side: a row of one block, followed by the same row of the other. Pinned by the test
--- `pair_example`.
+-- Two blocks by turns in four rows of eight numbers, and side by side: a row of one block, followed by the same row of
+-- the other. Pinned by the test `pair_example`.
 use Rattle.std.specs.Prelude.{ℕ, ℤ, List, [], ◌∷◌}
 use Rattle.vp_lanes.specs.Lane.{lane}
 use Rattle.vp_transform.specs.Transform.{element_at, block_from}
-
--- row r of the first block, followed by row r of the second
-abbrev pub row_in : List ℤ → List ℤ → ℕ → List ℤ
-row_in a b r = element_at a r 0 ∷ element_at a r 1 ∷ element_at a r 2 ∷ element_at a r 3 ∷ element_at b r 0
-    ∷ element_at b r 1 ∷ element_at b r 2 ∷ element_at b r 3 ∷ []
-
--- ---- Private to the crate: two interleaved blocks, as four vectors of eight numbers, their rows
 
 -- the block in the even lanes
 abbrev pub even_block : List ℤ → List ℤ → List ℤ → List ℤ → List ℤ
@@ -22,6 +15,13 @@ abbrev pub odd_block : List ℤ → List ℤ → List ℤ → List ℤ → List 
 odd_block a b c d =
     lane a 1 ∷ lane a 3 ∷ lane a 5 ∷ lane a 7 ∷ lane b 1 ∷ lane b 3 ∷ lane b 5 ∷ lane b 7 ∷
     lane c 1 ∷ lane c 3 ∷ lane c 5 ∷ lane c 7 ∷ lane d 1 ∷ lane d 3 ∷ lane d 5 ∷ lane d 7 ∷ []
+
+-- row r of the first block, followed by row r of the second
+abbrev pub row_in : List ℤ → List ℤ → ℕ → List ℤ
+row_in a b r = element_at a r 0 ∷ element_at a r 1 ∷ element_at a r 2 ∷ element_at a r 3 ∷ element_at b r 0
+    ∷ element_at b r 1 ∷ element_at b r 2 ∷ element_at b r 3 ∷ []
+
+-- ---- Private to the crate
 
 -- the block transposed
 abbrev pub transposed : List ℤ → List ℤ

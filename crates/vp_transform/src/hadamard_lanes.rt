@@ -50,9 +50,9 @@ pub(crate) fn narrow_iwht(block: &[i64; 16]) -> [i64; 16]
     joined(a, b, c, d)
 }
 
-/// The inverse Walsh-Hadamard transform of a block of numbers from -8,191 to 8,191 (RFC 6386, chapter 14.3). It gives the
-/// result of `iwht`, without a test of the block.
-pub fn iwht_short(block: &[i16; 16]) -> [i64; 16]
+/// The inverse Walsh-Hadamard transform of a block of numbers from -8,191 to 8,191 (RFC 6386, chapter 14.3). It gives
+/// the result of `iwht`, in lanes and without a test of the block.
+pub fn iwht_short(block: &[i16; 16]) -> [i16; 16]
     requires { EachWithin 8191 block.now }
     ensures value { result ≡ iwht block.now }
     ensures within { (b : ℕ) → EachWithin b block.now → EachWithin (2 * b) result }
@@ -67,7 +67,7 @@ pub fn iwht_short(block: &[i16; 16]) -> [i64; 16]
     let (a, b, c, d) = mix(a, b, c, d);
     let (a, b, c, d) = rounded(a, b, c, d);
     let (a, b, c, d) = transpose(a, b, c, d);
-    joined(a, b, c, d)
+    short_joined(a, b, c, d)
 }
 
 /// `(z + 1) / 2` in each lane, rounded down.

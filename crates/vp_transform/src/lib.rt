@@ -15,6 +15,6 @@ pub use forward_short::{differences, fdct_short};
 pub use hadamard::{iwht, iwht_of_first};
 pub use hadamard_lanes::{fwht_short, iwht_short};
 pub use lanes::idct_short;
-pub use pair::idct_pair;
+pub use pair::idct_interleaved;
 pub use reference::{fdct, fwht, idct};
 pub use short::{cut, idct_cut};

@@ -5,7 +5,7 @@ ghost use Rattle.std.specs.Prelude.{◌≡◌, ℕ, ◌<◌, ◌≤◌, pos, ◌
 ghost use Rattle.vp_lanes.specs.Lane.{lane};
 ghost use Rattle.vp_transform.specs.Fits.{EachWithin};
 ghost use Rattle.vp_transform.specs.Pair.{row_in, even_block, odd_block, transposed};
-ghost use Rattle.vp_transform.specs.Transform.{element_at, block_from, scaled, rounded, vertical, idct};
+ghost use Rattle.vp_transform.specs.Transform.{scaled, rounded, vertical, idct};
 ghost use lib.Signed.{shr_z as floor_div};
 
 use std::simd::prelude::*;
@@ -15,38 +15,23 @@ const HALF_SINE: u16 = 17734;
 /// sqrt 2 * cos (pi / 8) - 1, times 2^16.
 const COSINE: u16 = 20091;
 
-/// The inverse DCTs of two blocks of numbers from -2,200 to 2,200 (RFC 6386, chapter 14.4). Each vector is a row of
-/// the first result, followed by the same row of the second.
-pub fn idct_pair(a: &[i16; 16], b: &[i16; 16]) -> (i16x8, i16x8, i16x8, i16x8)
-    requires first { EachWithin 2200 a.now }
-    requires second { EachWithin 2200 b.now }
-    ensures top { result.0 ≡ row_in (idct a.now) (idct b.now) 0 }
-    ensures upper { result.1 ≡ row_in (idct a.now) (idct b.now) 1 }
-    ensures lower { result.2 ≡ row_in (idct a.now) (idct b.now) 2 }
-    ensures bottom { result.3 ≡ row_in (idct a.now) (idct b.now) 3 }
+/// The inverse DCTs of two blocks of numbers from -2,200 to 2,200, given as four rows in which the numbers of both
+/// alternate (RFC 6386, chapter 14.4). Each vector is a row of the first result, followed by the same row of the
+/// second.
+#[inline(always)]
+pub fn idct_interleaved(i0: i16x8, i1: i16x8, i2: i16x8, i3: i16x8) -> (i16x8, i16x8, i16x8, i16x8)
+    requires even { EachWithin 2200 (even_block i0 i1 i2 i3) }
+    requires odd { EachWithin 2200 (odd_block i0 i1 i2 i3) }
+    ensures top { result.0 ≡ row_in (idct (even_block i0 i1 i2 i3)) (idct (odd_block i0 i1 i2 i3)) 0 }
+    ensures upper { result.1 ≡ row_in (idct (even_block i0 i1 i2 i3)) (idct (odd_block i0 i1 i2 i3)) 1 }
+    ensures lower { result.2 ≡ row_in (idct (even_block i0 i1 i2 i3)) (idct (odd_block i0 i1 i2 i3)) 2 }
+    ensures bottom { result.3 ≡ row_in (idct (even_block i0 i1 i2 i3)) (idct (odd_block i0 i1 i2 i3)) 3 }
 {
-    let (i0, i1, i2, i3) = interleaved_pairs(a, b);
     let (i0, i1, i2, i3) = idct_1d(i0, i1, i2, i3);
     let (i0, i1, i2, i3) = transpose(i0, i1, i2, i3);
     let (i0, i1, i2, i3) = idct_1d(i0, i1, i2, i3);
     let (i0, i1, i2, i3) = round(i0, i1, i2, i3);
     side_by_side(i0, i1, i2, i3)
-}
-
-/// Interleaves the rows of two blocks: the first block is in the even lanes.
-fn interleaved_pairs(a: &[i16; 16], b: &[i16; 16]) -> (i16x8, i16x8, i16x8, i16x8)
-    requires first { EachWithin 2200 a.now }
-    requires second { EachWithin 2200 b.now }
-    ensures even { even_block result.0 result.1 result.2 result.3 ≡ block_from (element_at a.now) }
-    ensures odd { odd_block result.0 result.1 result.2 result.3 ≡ block_from (element_at b.now) }
-{
-    let (upper, lower) = i16x16::from_array(*a).interleave(i16x16::from_array(*b));
-    (
-        upper.extract::<0, 8>(),
-        upper.extract::<8, 8>(),
-        lower.extract::<0, 8>(),
-        lower.extract::<8, 8>(),
-    )
 }
 
 /// The high halves of the lanes times `k`.

@@ -1,5 +1,5 @@
 //! The plain transforms, which only tests call: the encoder's forward transforms are `fdct_short` and `fwht_short`, and
-//! decoding has `idct_short`, `idct_pair` and `idct_cut`. They give the same results, in lanes.
+//! decoding has `idct_short`, `idct_interleaved` and `idct_cut`. They give the same results, in lanes.
 
 ghost use Rattle.std.specs.Prelude.{◌≡◌, ℕ, ◌+◌, ◌*◌, ◌^◌, ◌<◌, pos, ◌+ℤ◌, map, slice_index_or, unsigned_abs};
 ghost use Rattle.vp_transform.specs.Fits.{Fits, IwhtFits, IdctFits, EachWithin};
@@ -20,7 +20,7 @@ const COSINE: i64 = 5352;
 const NARROW: u64 = 1 << 13;
 
 /// The inverse DCT of a block of sixteen numbers in raster order (RFC 6386, chapter 14.4). Decoding calls
-/// `idct_short`, `idct_pair` and `idct_cut`, which give its results.
+/// `idct_short`, `idct_interleaved` and `idct_cut`, which give its results.
 pub fn idct(block: &[i64; 16]) -> [i64; 16]
     requires { IdctFits block.now }
     ensures value { result ≡ idct block.now }

@@ -45,8 +45,8 @@ kept c = elim c.if-modes.branch [
         info = refl;
         levels = refl;
         contexts = w.read_macroblock.ensures.columns;
-        width = ap (λ (p : Image). p.width) w.rebuild_macroblock.ensures;
-        height = ap (λ (p : Image). p.height) w.rebuild_macroblock.ensures;
+        width = ap (λ (p : Image). p.width) w.rebuild_macroblock_by.ensures;
+        height = ap (λ (p : Image). p.height) w.rebuild_macroblock_by.ensures;
       })
 ]
 
@@ -70,9 +70,9 @@ step c g levels has stands here elsewhere =
       | else-modes w ↦
           let read = w.read_macroblock in
           rw (w.self-inside-is, w.d-is)
-          (step_made f c.args.place g c.args.d.now read.new.d (before c) _ (predictor_of c.args.macroblock.now.predictor) _ _ _ read.new.tokens w.factors.result
+          (step_made f c.args.place g c.args.d.now read.new.d (before c) _ (predictor_of c.args.macroblock.now.predictor) _ _ _ read.new.tokens w.factors.result.now
           at.predictor (ap (λ (h : Header). h.probabilities.coefficients) w.header-header.ensures) c.has_y2-has_y2.ensures skips
-          (w.factors.ensures c.args.place at) (read.ensures.value g stands) (read.ensures.rest g stands) (read.ensures.stands g has stands) w.rebuild_macroblock.ensures
+          (w.factors.ensures c.args.place at) (read.ensures.value g stands) (read.ensures.rest g stands) (read.ensures.stands g has stands) w.rebuild_macroblock_by.ensures
           (here read.new.tokens (w.coded-is ∙ w.any-coded.ensures)) elsewhere)
     ]
 
