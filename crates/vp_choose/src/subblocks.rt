@@ -4,7 +4,7 @@ ghost use Rattle.std.specs.Prelude.{◌≡◌, ℕ, ◌+◌, ◌*◌, ◌<◌, �
 ghost use Rattle.std.specs.Prelude.{false, IfSome, MatchOption};
 ghost use Rattle.vp_base.specs.Image.{with_plane};
 ghost use Rattle.vp_intra.specs.Edges.{block as listed};
-ghost use Rattle.vp_quant.specs.Short.{AreFactors};
+ghost use Rattle.vp_quant.specs.Short.{IsShortFactor};
 ghost use Rattle.vp_recon.specs.Rebuilt.{with_sub};
 ghost use Rattle.vp_recon.specs.Residue.{residue};
 ghost use Rattle.vp_search.specs.Differences.{sum_of_differences, block_from_rows};
@@ -17,7 +17,7 @@ ghost use Rattle.vp_choose.specs.Below.{AreSubblocksOver, IsPartlyRebuilt};
 use crate::levels::{coefficients, part_of, quantised};
 use vp_base::{Picture, Place};
 use vp_intra::predict_sub_modes;
-use vp_quant::{Factors, ShortFactors};
+use vp_quant::{Factors, ShortFactor};
 use vp_recon::rebuild_subblock_from;
 use vp_search::{cut_luma, first_least, sad4};
 use vp_tables::SubMode;
@@ -74,19 +74,19 @@ fn costs_of(block: &[u8; 16], predictions: &[[u8; 16]; 10]) -> [u32; 10]
     costs
 }
 
-/// Chooses the mode of one subblock, and rebuilds it. `place` is its own, in columns and rows of subblocks. `short` are
-/// the factors of luma, made ready.
+/// Chooses the mode of one subblock, and rebuilds it. `place` is its own, in columns and rows of subblocks. `short` is
+/// the AC factor of luma, made ready.
 fn choose_subblock(
     source: &[u8; 16],
     factors: &Factors,
-    short: &ShortFactors,
+    short: &ShortFactor,
     picture: &mut Picture,
     place: Place,
 ) -> Subblock
     requires columns { 4 * place.column + 4 ≤ picture.old.luma.width }
     requires rows { 4 * place.row + 4 ≤ picture.old.luma.height }
     requires factors { ArePositive factors.now }
-    requires short { AreFactors short.now factors.now.y_dc factors.now.y_ac }
+    requires short { IsShortFactor short.now factors.now.y_ac 2200 }
     ensures mode { (f : ℕ → ℕ → ℕ) → source.now ≡ listed 4 f → IsBestMode f picture.old.luma place result.mode }
     ensures levels { (f : ℕ → ℕ → ℕ) → source.now ≡ listed 4 f
         → result.block.levels ≡ sub_levels f picture.old.luma place result.mode factors.now }
@@ -133,7 +133,7 @@ fn choose_all(
     ensures writable { IfSome result (λ s. AreWritable false s.blocks) }
 {
     let _known = [picture.plane(0).width(), picture.plane(0).height()];
-    let short = ShortFactors::of(factors.y_dc, factors.y_ac);
+    let short = ShortFactor::of(factors.y_ac, 2200);
     let mut modes = [SubMode::Dc; 16];
     let mut blocks = [Block::NONE; 25];
     let mut cost = 0;

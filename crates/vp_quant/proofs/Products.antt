@@ -1,12 +1,14 @@
 -- Products of levels and a factor that is made ready, and the coefficients of one block or of two by turns.
-use Rattle.std.proofs.Common.{◌≡◌, ◌∙◌, ℕ, zero, suc, ◌+◌, ◌*◌, ◌/◌, ◌%◌, ◌<◌, ◌≤◌, ◌==◌, min, max, Bool, true, false, if◌then◌else◌, ℤ, pos, negsuc, ◌*ℤ◌, List, [], ◌∷◌, ◌++◌, length, lit<, refl, sym, ap, subst, arith, unsigned_abs, slice_index_or, inl, inr, to_z, of_z, w16}
+use Rattle.std.proofs.Common.{◌≡◌, ◌∙◌, ℕ, zero, suc, ◌+◌, ◌*◌, ◌/◌, ◌%◌, ◌<◌, ◌≤◌, ◌==◌, min, max, Bool, true, false, if◌then◌else◌, ℤ, pos, negsuc, ◌*ℤ◌, List, [], ◌∷◌, ◌++◌, map, length, lit<, refl, sym, ap, subst, arith, unsigned_abs, slice_index_or, inl, inr, to_z, of_z, w16}
 use Rattle.std.proofs.lemmas.Int.{ints, unsigned_abs-mul, to_z-of_z}
 use Rattle.std.proofs.lemmas.List.{get_or_past}
 use Rattle.std.proofs.lemmas.Bool.{cases_lt}
+use Rattle.std.proofs.lemmas.Nat.{le-div}
 use Rattle.std.proofs.Math.Nat.{mul-le-mul, div-mul-le_self}
 use Rattle.std.specs.List.{range_with_len}
 use mir.Val.{SFits}
 use Rattle.vp_lanes.specs.Lane.{lane}
+use Rattle.vp_lanes.proofs.Shape.{ByLane, lane_is}
 use Rattle.vp_quant.specs.Quant.{position_at, coefficient, dequantised}
 use Rattle.vp_quant.specs.Short.{IsShortFactor, HasSmallProduct, HasBlock, Four, coefficients_after, in_raster, after_firsts, by_turns}
 use Rattle.vp_quant.specs.declared.short.ShortFactor.{ShortFactor}
@@ -18,6 +20,12 @@ below_bound : (z : ℤ) (bound factor most : ℕ) → bound ≡ most / max facto
 below_bound z bound factor most is below =
     let m : unsigned_abs z * max factor 1 ≤ most / max factor 1 * max factor 1 = mul-le-mul (omega arith) (omega arith) in
     omega (arith, m, div-mul-le_self most (max factor 1))
+
+-- .. and the other way round
+pub small_below : (f : ShortFactor) (factor most : ℕ) → IsShortFactor f factor most → (z : ℤ) → HasSmallProduct z factor most → unsigned_abs z < f.bound
+small_below f factor most is z near =
+    let l : unsigned_abs z ≤ most / max factor 1 = le-div (unsigned_abs z) most (max factor 1) (omega arith) near in
+    omega (arith, l, is.0)
 
 near_product : (z : ℤ) (factor most : ℕ) → HasSmallProduct z factor most → unsigned_abs (z *ℤ pos factor) ≤ most
 near_product z factor most near =
@@ -96,23 +104,39 @@ module _ (first : ℤ) (levels : List ℤ) (factor most : ℕ) (long : length le
   coefficients_within h = set_within most (dequantised levels 0 factor) 0 first dequantised_within h
 
 -- ---- the levels of two blocks by turns, u as they are handed on
-either_within : (b : Bool) (left right : List ℤ) (i most : ℕ) → unsigned_abs (lane left i) ≤ most → unsigned_abs (lane right i) ≤ most
-    → unsigned_abs (lane (if b then left else right) i) ≤ most
-either_within true left right i most x y = x
-either_within false left right i most x y = y
+of_either : (P : ℤ → Type 0) (b : Bool) (left right : List ℤ) (i : ℕ) → P (lane left i) → P (lane right i)
+    → P (lane (if b then left else right) i)
+of_either P true left right i x y = x
+of_either P false left right i x y = y
 
 module _ (left right : List ℤ) (short_left : (i : ℕ) → unsigned_abs (slice_index_or left i (pos 0)) ≤ 32767)
     (short_right : (i : ℕ) → unsigned_abs (slice_index_or right i (pos 0)) ≤ 32767) (start : ℕ) (u : List ℤ) (is : u ≡ by_turns left right start) where
   turns_short : (i : ℕ) → unsigned_abs (lane (by_turns left right start) i) ≤ 32767
   turns_short =
       map_within 32767 (λ j. lane (if j % 2 == 0 then left else right) (start + j / 2)) (range_with_len 0 16)
-      (λ j. either_within (j % 2 == 0) left right (start + j / 2) 32767 (short_left (start + j / 2)) (short_right (start + j / 2)))
+      (λ j. of_either (λ z. unsigned_abs z ≤ 32767) (j % 2 == 0) left right (start + j / 2) (short_left (start + j / 2)) (short_right (start + j / 2)))
 
   pub turns_handed : read u ≡ by_turns left right start
   turns_handed = ap (λ (v : List ℤ). read v) is ∙ short_whole (by_turns left right start) turns_short
 
   pub handed_short : (i : ℕ) → unsigned_abs (lane (read u) i) ≤ 32767
   handed_short i = subst (λ (v : List ℤ). unsigned_abs (lane v i) ≤ 32767) (sym turns_handed) (turns_short i)
+
+-- .. below a bound, where the levels of both blocks are
+lane_of_map : (f : ℕ → ℤ) (n j : ℕ) → j < n → lane (map f (range_with_len 0 n)) j ≡ f j
+lane_of_map f n j h =
+    let e : ByLane n f (map f (range_with_len 0 n)) = record { is = refl } in
+    lane_is (pos 0) e j h
+
+module _ (left right : List ℤ) (bound : ℕ) (below_left : (i : ℕ) → i < 16 → unsigned_abs (lane left i) < bound)
+    (below_right : (i : ℕ) → i < 16 → unsigned_abs (lane right i) < bound) where
+  pub turns_below : (start : ℕ) → start ≤ 8 → (j : ℕ) → j < 16 → unsigned_abs (lane (by_turns left right start) j) < bound
+  turns_below start early j h =
+      let i = start + j / 2 in
+      let k : i < 16 = omega arith in
+      let at = lane_of_map (λ p. lane (if p % 2 == 0 then left else right) (start + p / 2)) 16 j h in
+      subst (λ (z : ℤ). unsigned_abs z < bound) (sym at)
+      (of_either (λ z. unsigned_abs z < bound) (j % 2 == 0) left right i (below_left i k) (below_right i k))
 
 -- ---- the coefficients of two blocks: the levels by turns, times the factor, are tu and tl
 module _ (left right firsts tu tl : List ℤ) (factor : ℕ) (upper : (j : ℕ) → j < 16 → lane tu j ≡ lane (by_turns left right 0) j *ℤ pos factor)

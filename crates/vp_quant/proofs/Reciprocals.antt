@@ -1,7 +1,7 @@
 -- Quantisation in lanes: division by a reciprocal, magnitudes, and signs.
 use Rattle.std.proofs.Common.{w64, inl, inr, set, length-set, get_or-set_same, get_or-set_other, T, Fits, ◌^◌, replicate, ◌≡◌, ◌≢◌, ◌∙◌, ℕ, zero, suc, ◌+◌, ◌-◌, ◌*◌, ◌/◌, ◌%◌, ◌<◌, ◌≤◌, ◌==◌, min, ℤ, pos, negsuc, neg_ℤ, ◌-ℤ◌, Bool, true, false, cond, if◌then◌else◌, List, [], ◌∷◌, length, map, get_or, refl, ap, sym, subst, to_z, of_z, w16, unsigned_abs, arith}
 use Rattle.std.proofs.Math.Nat.{mul-le-mul, mul-le-mul_left, mul-le-mul_right, div-le_self}
-use Rattle.std.proofs.lemmas.Bool.{eqb-true}
+use Rattle.std.proofs.lemmas.Bool.{eqb-true, eq-eqb}
 use Rattle.std.proofs.lemmas.Simd.{mask_l-mod}
 use Rattle.std.proofs.lemmas.Bool.{cases_lt}
 use Rattle.std.proofs.lemmas.List.{get_or_past}
@@ -15,12 +15,13 @@ use lib.Lanes.{sel_l, top, zip2, mask_l, Each1}
 use lib.Signed.{lt_z, non_neg}
 use mir.Syntax.{signed, unsigned, cast, lt, mask, wrap_add, wrap_sub}
 use mir.Val.{SFits}
+use borrow.Author.Tests.{lt-ltb}
 use borrow.Rule.Simd.Lanes.{act1, act2, Asks1}
 use borrow.Table.Row.{s_int}
 use Rattle.vp_lanes.specs.Lane.{lane}
 use Rattle.vp_lanes.proofs.Shape.{ByLane, lanes_of, lane_is, selected, mapped, zipped, splatted, each_lane, length-ByLane}
 use Rattle.vp_lanes.proofs.Signed.{Signed, Stands, stands_of, stands_pos, stands_pick, signed_splat, signed_sub, signed_out}
-use Rattle.vp_quant.proofs.Sixteen.{all_set, map_same, short_fits}
+use Rattle.vp_quant.proofs.Sixteen.{all_set, set_all, map_same, short_fits}
 use Rattle.vp_quant.specs.Level.{quantised}
 use Rattle.vp_tables.specs.Tables.{zigzag}
 
@@ -210,8 +211,20 @@ all_true {ms = ms} e full j h =
     let p : 2 ^ length ms ≡ 256 = ap (λ k. 2 ^ k) long in
     sym (lane_is false e j h) ∙ all_set ms (omega (arith, all, p)) j (omega arith)
 
+pub true_all : {F : ℕ → Bool} {ms : List Bool} → ByLane 8 F ms → ((j : ℕ) → j < 8 → F j ≡ true) → eqb (mask_l ms % 2 ^ 64) 255 ≡ true
+true_all {ms = ms} e all =
+    let long : length ms ≡ 8 = length-ByLane e in
+    let whole : mask_l ms % 2 ^ 64 ≡ mask_l ms = mask_l-mod ms 64 (omega arith) in
+    let full = set_all ms (λ j h. let k : j < 8 = omega arith in lane_is false e j k ∙ all j k) in
+    let p : 2 ^ length ms ≡ 256 = ap (λ k. 2 ^ k) long in
+    let is : mask_l ms ≡ 255 = omega (arith, full, p) in
+    eq-eqb _ _ (whole ∙ is)
+
 pub less_from : (n b : ℕ) → top 15 (cond (ltb n b) 65535 0) ≡ true → n < b
 less_from n b e = let f : ltb n b ≡ true = sym (one_top16 (ltb n b)) ∙ e in grind arith
+
+pub less_to : (n b : ℕ) → n < b → top 15 (cond (ltb n b) 65535 0) ≡ true
+less_to n b h = one_top16 (ltb n b) ∙ lt-ltb n b h
 
 -- ---- the zigzag order, with 0 in place of the first number
 module _ (f g : ℕ → ℤ) (same : (k : ℕ) → k < 16 → f k ≡ g k) where

@@ -1,6 +1,7 @@
 -- Lists of numbers and of bits: all set, handed on, shuffled, and the same number by number.
 use Rattle.std.proofs.Common.{◌≡◌, ◌∙◌, ℕ, zero, suc, ◌+◌, ◌-◌, ◌*◌, ◌/◌, ◌%◌, ◌^◌, ◌<◌, ◌≤◌, Bool, true, false, ℤ, pos, negsuc, List, [], ◌∷◌, ◌++◌, map, length, get_or, Option, Some, None, refl, ap, sym, subst, arith, to_z, of_z, w16, unsigned_abs}
 use Rattle.std.specs.List.{range_with_len}
+use Rattle.std.proofs.lemmas.Bool.{false≢true}
 use Rattle.std.proofs.lemmas.Int.{ints, to_z-of_z}
 use Rattle.std.proofs.lemmas.List.{get_or_append_left, get_or-append_right}
 use Rattle.std.proofs.lemmas.Simd.{mask_l-lt}
@@ -27,6 +28,14 @@ all_set (false ∷ ms) e j h =
     let l = mask_l-lt ms in
     let p : 2 ^ suc (length ms) ≡ 2 * 2 ^ length ms = pow-succ' 2 (length ms) in
     absurd (omega (arith, p, l, e))
+
+pub set_all : (ms : List Bool) → ((j : ℕ) → j < length ms → get_or ms j false ≡ true) → mask_l ms + 1 ≡ 2 ^ length ms
+set_all [] all = refl
+set_all (true ∷ ms) all =
+    let p : 2 ^ suc (length ms) ≡ 2 * 2 ^ length ms = pow-succ' 2 (length ms) in
+    let e = set_all ms (λ j h. all (suc j) (omega arith)) in
+    omega (arith, p, e)
+set_all (false ∷ ms) all = absurd (false≢true (all zero (omega arith)))
 
 -- ---- a vector as it is handed on
 module _ (v : List ℤ) (p : Signed 16 (lane v) (map (of_z w16) v)) where
@@ -100,6 +109,13 @@ below_four P a b c d (suc zero) h = b
 below_four P a b c d (suc (suc zero)) h = c
 below_four P a b c d (suc (suc (suc zero))) h = d
 below_four P a b c d (suc (suc (suc (suc j)))) h = absurd (omega arith)
+
+pub below_eight : (P : ℕ → Type 0) → P 0 → P 1 → P 2 → P 3 → P 4 → P 5 → P 6 → P 7 → (j : ℕ) → j < 8 → P j
+below_eight P a b c d p q r s zero h = a
+below_eight P a b c d p q r s (suc zero) h = b
+below_eight P a b c d p q r s (suc (suc zero)) h = c
+below_eight P a b c d p q r s (suc (suc (suc zero))) h = d
+below_eight P a b c d p q r s (suc (suc (suc (suc j)))) h = below_four (λ i. P (suc (suc (suc (suc i))))) p q r s j (omega arith)
 
 pub by_rows : (P : ℕ → ℕ → Type 0) → P 0 0 → P 0 1 → P 0 2 → P 0 3 → P 1 0 → P 1 1 → P 1 2 → P 1 3
     → P 2 0 → P 2 1 → P 2 2 → P 2 3 → P 3 0 → P 3 1 → P 3 2 → P 3 3 → (r c : ℕ) → r < 4 → c < 4 → P r c

@@ -22,14 +22,16 @@ pub(crate) fn larger<const N: usize>(a: Simd<u16, N>, b: Simd<u16, N>) -> Simd<u
 
 /// Whether each of eight lanes is less than the bound.
 pub(crate) fn eight_are_below(v: u16x8, bound: u16) -> bool
-    ensures { result ≡ true → (j : ℕ) → j < 8 → slice_index v j < bound }
+    ensures below { result ≡ true → (j : ℕ) → j < 8 → slice_index v j < bound }
+    ensures all { ((j : ℕ) → j < 8 → slice_index v j < bound) → result ≡ true }
 {
     v.simd_lt(u16x8::splat(bound)).all()
 }
 
 /// Whether each lane is less than the bound.
 pub(crate) fn are_below(v: u16x16, bound: u16) -> bool
-    ensures { result ≡ true → (j : ℕ) → j < 16 → slice_index v j < bound }
+    ensures below { result ≡ true → (j : ℕ) → j < 16 → slice_index v j < bound }
+    ensures all { ((j : ℕ) → j < 16 → slice_index v j < bound) → result ≡ true }
 {
     eight_are_below(larger(v.extract::<0, 8>(), v.extract::<8, 8>()), bound)
 }

@@ -1,9 +1,9 @@
 //! Products of levels and a factor in 16 bits, and coefficients from them (RFC 6386, chapters 13 and 14.1).
 
-ghost use Rattle.std.specs.Prelude.{◌≡◌, ℕ, ◌+◌, ◌*◌, ◌<◌, ◌≤◌, pos, ◌*ℤ◌, ℤ, List, [], ◌∷◌, ◌++◌, Some};
+ghost use Rattle.std.specs.Prelude.{◌≡◌, ◌≢◌, ℕ, ◌+◌, ◌*◌, ◌<◌, ◌≤◌, pos, ◌*ℤ◌, ℤ, List, [], ◌∷◌, ◌++◌, Some, None};
 ghost use Rattle.std.specs.Prelude.{unsigned_abs, slice_index_or};
 ghost use Rattle.vp_lanes.specs.Lane.{lane};
-ghost use Rattle.vp_quant.specs.Short.{IsShortFactor, HasBlock, Four, coefficients_after};
+ghost use Rattle.vp_quant.specs.Short.{IsShortFactor, HasSmallProduct, HasBlock, Four, coefficients_after};
 ghost use Rattle.vp_quant.specs.Short.{in_raster, after_firsts, by_turns};
 
 use crate::magnitudes::{are_below, eight_are_below, larger, sizes};
@@ -38,6 +38,8 @@ impl ShortFactor {
             → (j : ℕ) → j < 8 → lane v j ≡ lane levels j *ℤ pos factor }
         ensures small { (v : List ℤ) (factor most : ℕ) → result ≡ Some v → IsShortFactor self.now factor most
             → (j : ℕ) → j < 8 → unsigned_abs (lane v j) ≤ most }
+        ensures some { (factor most : ℕ) → IsShortFactor self.now factor most
+            → ((j : ℕ) → j < 8 → HasSmallProduct (lane levels j) factor most) → result ≢ None }
     {
         if eight_are_below(sizes(levels), self.bound) {
             Some(times(levels, self.factor).to_array())
@@ -54,6 +56,8 @@ impl ShortFactor {
             → z ≡ level *ℤ pos factor }
         ensures small { (z : ℤ) (factor most : ℕ) → result ≡ Some z → IsShortFactor self.now factor most
             → unsigned_abs z ≤ most }
+        ensures some { (factor most : ℕ) → IsShortFactor self.now factor most → HasSmallProduct level factor most
+            → result ≢ None }
     {
         if level.unsigned_abs() < self.bound {
             Some(level.wrapping_mul(self.factor))
@@ -71,6 +75,8 @@ impl ShortFactor {
             → block ≡ coefficients_after first levels factor }
         ensures small { (block : List ℤ) (factor most : ℕ) → result ≡ Some block → IsShortFactor self.now factor most
             → unsigned_abs first ≤ most → (i : ℕ) → unsigned_abs (slice_index_or block i (pos 0)) ≤ most }
+        ensures some { (factor most : ℕ) → IsShortFactor self.now factor most
+            → ((i : ℕ) → i < 16 → HasSmallProduct (slice_index_or levels i (pos 0)) factor most) → result ≢ None }
     {
         let levels = i16x16::from_array(levels);
         if are_below(sizes(levels), self.bound) {
@@ -100,6 +106,9 @@ impl ShortFactor {
             → ((i : ℕ) → i < 2 → unsigned_abs (slice_index_or firsts i (pos 0)) ≤ most)
             → (r j : ℕ) → r < 4 → j < 8
             → unsigned_abs (lane (slice_index_or (v.0 ∷ v.1 ∷ v.2 ∷ v.3 ∷ []) r []) j) ≤ most }
+        ensures some { (factor most : ℕ) → IsShortFactor self.now factor most
+            → ((i : ℕ) → i < 16 → HasSmallProduct (slice_index_or left i (pos 0)) factor most)
+            → ((i : ℕ) → i < 16 → HasSmallProduct (slice_index_or right i (pos 0)) factor most) → result ≢ None }
     {
         let (upper, lower) = alternated(left, right);
         let first_sizes = sizes(upper);

@@ -6,7 +6,7 @@ use Rattle.vp_base.proofs.ImageLemmas.{plane_of-with_plane, with_plane-with_plan
 use Rattle.vp_base.specs.Block.{with_block}
 use Rattle.vp_base.proofs.BlockLemmas.{IsWhole-with_block, same_raster, with_block_same}
 use Rattle.vp_recon.specs.Rebuilt.{summed, residue_at, luma_rebuilt, chroma_rebuilt, rebuilt}
-use Rattle.vp_recon.specs.Sums.{AreBlockBytes}
+use Rattle.vp_recon.specs.Sums.{AreBlockBytes, block_sum, with_colours}
 use Rattle.vp_recon.proofs.Parts.{in_or_out, pixel_inside, pixel_outside, block_pixel}
 use Rattle.vp_intra.specs.Edges.{block}
 use Rattle.vp_intra.proofs.BlockLemmas.{read_block}
@@ -42,6 +42,29 @@ over_block p x y n f g h same =
     (λ l. same (v - y) (u - x) (omega arith) (omega arith) ∙ sym (pixel_inside p x y n n h u v uin vin l))
     (λ apart. pixel_outside p x y n n f u v uin vin apart ∙ sym (pixel_outside p x y n n h u v uin vin apart)))
 
+-- residues are added to a block that is written
+pub summed_block : (p : Raster) (x y n : ℕ) (f : ℕ → ℕ → ℕ) (residue : ℕ → ℕ → ℤ) → x + n ≤ p.width → y + n ≤ p.height → let q : Raster = with_block p x y n n f in
+    with_block q x y n n (λ r c. summed (pixel q (x + c) (y + r)) (residue r c)) ≡ with_block p x y n n (λ r c. summed (f r c) (residue r c))
+summed_block p x y n f residue columns rows =
+    let q : Raster = with_block p x y n n f in
+    over_block p x y n f (λ r c. summed (pixel q (x + c) (y + r)) (residue r c)) (λ r c. summed (f r c) (residue r c))
+    (λ r c rin cin. ap (λ (v : ℕ). summed v (residue r c)) (block_pixel p x y n n f r c columns rows rin cin))
+
+-- both chroma planes are changed
+pub both_colours : (p first next : Image) (f : ℕ → Raster → Raster) → first ≡ with_plane p 1 (f 1 p.u) → next ≡ with_plane first 2 (f 2 first.v) → next ≡ with_colours p f
+both_colours p first next f is_first is_next = is_next ∙ ap (λ (i : Image). with_plane i 2 (f 2 i.v)) is_first
+
+-- residues are added to chroma that is predicted
+pub colours_summed : (p half next : Image) (x y : ℕ) (u v : ℕ → ℕ → ℕ) (residue : ℕ → ℕ → ℕ → ℤ) → x + 8 ≤ p.u.width → y + 8 ≤ p.u.height → x + 8 ≤ p.v.width → y + 8 ≤ p.v.height
+    → half ≡ record p { u = with_block p.u x y 8 8 u; v = with_block p.v x y 8 8 v }
+    → next ≡ with_colours half (λ k q. with_block q x y 8 8 (λ r c. summed (pixel q (x + c) (y + r)) (residue k r c)))
+    → next ≡ record p { u = with_block p.u x y 8 8 (λ r c. summed (u r c) (residue 1 r c)); v = with_block p.v x y 8 8 (λ r c. summed (v r c) (residue 2 r c)) }
+colours_summed p half next x y u v residue u_columns u_rows v_columns v_rows predicted is =
+    let step : ℕ → Raster → Raster = λ k q. with_block q x y 8 8 (λ r c. summed (pixel q (x + c) (y + r)) (residue k r c)) in
+    is ∙ ap (λ (i : Image). with_colours i step) predicted
+    ∙ ap (λ (q : Raster). record p { u = q; v = step 2 (with_block p.v x y 8 8 v) }) (summed_block p.u x y 8 u (residue 1) u_columns u_rows)
+    ∙ ap (λ (q : Raster). record p { u = with_block p.u x y 8 8 (λ r c. summed (u r c) (residue 1 r c)); v = q }) (summed_block p.v x y 8 v (residue 2) v_columns v_rows)
+
 module _ (p now : Image) (n x y size : ℕ) (f : ℕ → ℕ → ℕ) (columns : x + size ≤ (plane_of p n).width) (rows : y + size ≤ (plane_of p n).height)
     (predicted : now ≡ with_plane p n (with_block (plane_of p n) x y size size f)) where
   plane_is : plane_of now n ≡ with_block (plane_of p n) x y size size f
@@ -60,9 +83,7 @@ module _ (p now : Image) (n x y size : ℕ) (f : ℕ → ℕ → ℕ) (columns :
   summed_onto next residue written =
       let q : Raster = with_block (plane_of p n) x y size size f in
       let step : Raster → Raster = λ s. with_block s x y size size (λ r c. summed (pixel s (x + c) (y + r)) (residue r c)) in
-      plane_next p now next n step written q predicted
-      ∙ ap (with_plane p n) (over_block (plane_of p n) x y size f (λ r c. summed (pixel q (x + c) (y + r)) (residue r c)) (λ r c. summed (f r c) (residue r c))
-      (λ r c rin cin. ap (λ (v : ℕ). summed v (residue r c)) (block_pixel (plane_of p n) x y size size f r c columns rows rin cin)))
+      plane_next p now next n step written q predicted ∙ ap (with_plane p n) (summed_block (plane_of p n) x y size f residue columns rows)
 
 -- the sums with a prediction that is listed
 pub sums_listed : (p : Raster) (x y n : ℕ) (ps : List ℕ) (g : ℕ → ℕ → ℕ) (residue : ℕ → ℕ → ℤ) → ps ≡ block n g
@@ -76,15 +97,27 @@ abbrev pub given_chroma : Macroblock → Place → ℕ → List ℕ → Raster �
 given_chroma m place k ps q =
     with_block q (8 * place.column) (8 * place.row) 8 8 (λ r c. summed (get_or ps (r * 8 + c) 0) (residue_at 2 (chroma_residue m.tokens m.factors k) r c))
 
+-- both chroma planes are written, and residues are added to them
+pub given_half : (m : Macroblock) (place : Place) (p one two half : Image) (b : MacroblockPixels) → let x : ℕ = 8 * place.column in let y : ℕ = 8 * place.row in
+    x + 8 ≤ p.u.width → y + 8 ≤ p.u.height → x + 8 ≤ p.v.width → y + 8 ≤ p.v.height
+    → one ≡ with_plane p 1 (with_block p.u x y 8 8 (λ r c. get_or b.u (r * 8 + c) 0)) → two ≡ with_plane one 2 (with_block one.v x y 8 8 (λ r c. get_or b.v (r * 8 + c) 0))
+    → half ≡ with_colours two (λ k q. with_block q x y 8 8 (block_sum 2 q x y (chroma_residue m.tokens m.factors k)))
+    → half ≡ record p { u = given_chroma m place 1 b.u p.u; v = given_chroma m place 2 b.v p.v }
+given_half m place p one two half b u_columns u_rows v_columns v_rows is_one is_two is_half =
+    let x : ℕ = 8 * place.column in
+    let y : ℕ = 8 * place.row in
+    colours_summed p two half x y (λ r c. get_or b.u (r * 8 + c) 0) (λ r c. get_or b.v (r * 8 + c) 0) (λ k. residue_at 2 (chroma_residue m.tokens m.factors k)) u_columns u_rows v_columns v_rows
+    (is_two ∙ ap (λ (i : Image). with_plane i 2 (with_block i.v x y 8 8 (λ r c. get_or b.v (r * 8 + c) 0))) is_one) is_half
+
 -- both chroma planes, and then luma
-pub given_rebuilt : (m : Macroblock) (place : Place) (p first second third : Image) (b : MacroblockPixels) (luma : Raster → Raster) → IsGiven m place p b
-    → first ≡ with_plane p 1 (given_chroma m place 1 b.u p.u) → second ≡ with_plane first 2 (given_chroma m place 2 b.v first.v)
-    → third ≡ with_plane second 0 (luma second.luma) → luma p.luma ≡ luma_rebuilt m place p.luma → third ≡ rebuilt m place p
-given_rebuilt m place p first second third b luma given is_first is_second is_third is_luma =
+pub given_rebuilt : (m : Macroblock) (place : Place) (p half next : Image) (b : MacroblockPixels) (luma : Raster → Raster) → IsGiven m place p b
+    → half ≡ record p { u = given_chroma m place 1 b.u p.u; v = given_chroma m place 2 b.v p.v }
+    → next ≡ with_plane half 0 (luma half.luma) → luma p.luma ≡ luma_rebuilt m place p.luma → next ≡ rebuilt m place p
+given_rebuilt m place p half next b luma given is_half is_next is_luma =
     let listed = λ (k : ℕ) (q : Raster) (ps : List ℕ).
     sums_listed q (8 * place.column) (8 * place.row) 8 ps (chroma_prediction m.source k place q) (residue_at 2 (chroma_residue m.tokens m.factors k)) in
-    is_third
-    ∙ ap (λ (i : Image). with_plane i 0 (luma i.luma)) (is_second ∙ ap (λ (i : Image). with_plane i 2 (given_chroma m place 2 b.v i.v)) is_first)
+    is_next
+    ∙ ap (λ (i : Image). with_plane i 0 (luma i.luma)) is_half
     ∙ ap (λ (q : Raster). record p { luma = q; u = given_chroma m place 1 b.u p.u; v = given_chroma m place 2 b.v p.v }) is_luma
     ∙ ap (λ (q : Raster). record p { luma = luma_rebuilt m place p.luma; u = q; v = given_chroma m place 2 b.v p.v }) (listed 1 p.u b.u given.u)
     ∙ ap (λ (q : Raster). record p { luma = luma_rebuilt m place p.luma; u = chroma_rebuilt m 1 place p.u; v = q }) (listed 2 p.v b.v given.v)

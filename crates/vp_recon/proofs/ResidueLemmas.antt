@@ -1,26 +1,34 @@
 -- The coefficients of blocks with few tokens or with none, and of blocks whose first one stands apart.
-use Rattle.std.proofs.Common.{◌≡◌, ◌∙◌, refl, ◌*ℤ◌, ℕ, zero, suc, ◌-◌, ◌≤◌, ℤ, pos, List, [], ◌∷◌, get_or, set, length, replicate, unsigned_abs, sym, ap, arith, inl, inr, nat_lt, false, true, Bool, ◌<◌, ◌+◌, ◌^◌, subst, Option, Some, None, ◌*◌, ◌/◌, ◌%◌}
+use Rattle.std.proofs.Common.{◌≡◌, ◌∙◌, refl, ◌*ℤ◌, ◌+ℤ◌, ℕ, zero, suc, ◌-◌, ◌≤◌, ℤ, pos, List, [], ◌∷◌, get_or, set, take, drop, length, replicate, unsigned_abs, sym, ap, arith, inl, inr, false, true, Bool, ◌<◌, ◌+◌, ◌^◌, subst, ◌*◌, ◌/◌, ◌%◌}
+use lib.Signed.{shr_z as floor_div}
 use Rattle.std.proofs.lemmas.Bool.{cases_lt}
-use Rattle.std.proofs.lemmas.Bool.Decides.{nat_tests}
-use Rattle.std.proofs.lemmas.Int.{ints}
-use Rattle.std.proofs.lemmas.List.{ext_get_or, get_or-replicate, get_or_past}
+use Rattle.std.proofs.lemmas.List.{ext_get_or, get_or-replicate, get_or_past, get_or-take, get_or-drop, length-take}
 use Rattle.std.proofs.Math.IntN.{zero-*ℤ}
-use Rattle.std.specs.Borrow.{Bor}
-use Rattle.std.specs.Option.{is_some}
 use Rattle.vp_tokens.specs.Block.{Block, IsBlock, no_tokens}
 use Rattle.vp_transform.specs.Fits.{EachWithin}
-use Rattle.vp_transform.specs.Transform.{idct, vertical, horizontal, iwht, hadamard_times, times_hadamard_rounded}
+use Rattle.vp_transform.specs.Transform.{idct, iwht, rounded}
+use Rattle.vp_transform.proofs.Bounds.{idct-first_alone, iwht-first_alone}
 use Rattle.vp_quant.specs.Quant.{dequantised}
 use Rattle.vp_tokens.specs.Blocks.{block_of, no_blocks}
 use Rattle.vp_tokens.specs.declared.contexts.Tokens.{Tokens}
 use Rattle.vp_quant.specs.declared.factors.Factors.{Factors}
 use Rattle.vp_recon.specs.Residue.{residue, luma_firsts, luma_coefficients, luma_residue, chroma_residue}
+use Rattle.vp_quant.specs.Short.{HasBlock, coefficients_after}
 use Rattle.vp_recon.specs.declared.residues.Residues.{Residues}
-use Rattle.vp_recon.specs.Parts.{IsAlone, with_first, coefficients_in, residue_in}
+use Rattle.std.proofs.lemmas.Simd.{get_or-chunk}
+use lib.Lanes.{chunk}
+use Rattle.vp_lanes.specs.Lane.{lane}
+use Rattle.vp_transform.proofs.Eights.{coded16, handed16, passed16}
+use Rattle.vp_recon.specs.Sums.{AreRows, Four, row_lane}
+use Rattle.vp_transform.specs.Pair.{even_block, odd_block}
+use Rattle.vp_recon.proofs.SumLemmas.{rows_handed, even_rows, short_coded, passed_block, block_small, even_is, odd_is}
+use Rattle.vp_recon.specs.Parts.{HasBlocks, HasTokens, coefficients_in, residue_in, HasUpTo, AreFirsts, HasResidues, luma_first, own_first, residue_by}
 use Rattle.vp_recon.specs.Rebuilt.{summed, residue_at, luma_made, chroma_made, luma_rebuilt, chroma_rebuilt, rebuilt}
 use Rattle.vp_transform.proofs.Words.{coded, read}
-use Rattle.vp_transform.proofs.Sizes.{fits-below}
-use Rattle.vp_recon.specs.Sums.{IsNothing, AreBlockBytes, with_colours}
+use Rattle.vp_transform.proofs.Sizes.{fits-below, rounded-at_most}
+use Rattle.vp_recon.specs.Sums.{IsNothing, AreBlockBytes, block_sum, with_colours}
+use Rattle.vp_recon.proofs.Parts.{was, sub_below, with_block_of}
+use Rattle.vp_base.specs.Block.{IsWhole, with_block}
 use Rattle.vp_base.specs.declared.place.Place.{Place}
 use Rattle.vp_base.specs.Raster.{Raster}
 use Rattle.vp_base.proofs.BlockLemmas.{with_block_same}
@@ -35,23 +43,12 @@ use Rattle.vp_recon.proofs.SumLemmas.{summed-zero}
 pub exact : (z : ℤ) → unsigned_abs z ≤ 2 ^ 40 → coded z ≡ z
 exact z small = read z (fits-below z (omega (arith, small)))
 
-pub within_set : (b : ℕ) (zs : List ℤ) (z : ℤ) → EachWithin b zs → unsigned_abs z ≤ b → EachWithin b (set zs 0 z)
-within_set b [] z small fits i = small i
-within_set b (y ∷ zs) z small fits zero = fits
-within_set b (y ∷ zs) z small fits (suc i) = small (suc i)
-
--- a block with another first number
-pub set_long : (n : ℕ) (zs : List ℤ) (z : ℤ) → length zs ≡ n → length (set zs 0 z) ≡ n
-set_long n [] z l = l
-set_long n (y ∷ zs) z l = l
-
-pub set_first : (zs : List ℤ) (z : ℤ) → length zs ≡ 16 → z ≡ get_or (set zs 0 z) 0 (pos 0)
-set_first [] z l = absurd (omega arith)
-set_first (y ∷ zs) z l = refl
-
-pub set_behind : (zs : List ℤ) (z : ℤ) (k : ℕ) → get_or zs (suc k) (pos 0) ≡ get_or (set zs 0 z) (suc k) (pos 0)
-set_behind [] z k = refl
-set_behind (y ∷ zs) z k = refl
+pub within_set : (b : ℕ) (zs : List ℤ) (k : ℕ) (z : ℤ) → EachWithin b zs → unsigned_abs z ≤ b → EachWithin b (set zs k z)
+within_set b [] k z small fits i = small i
+within_set b (y ∷ zs) zero z small fits zero = fits
+within_set b (y ∷ zs) zero z small fits (suc i) = small (suc i)
+within_set b (y ∷ zs) (suc k) z small fits zero = small zero
+within_set b (y ∷ zs) (suc k) z small fits (suc i) = within_set b zs k z (λ j. small (suc j)) fits i
 
 module _ (b : Block) (is : IsBlock b) where
   -- with at most one token there is no level but the first
@@ -81,81 +78,163 @@ module _ (b : Block) (is : IsBlock b) where
       ∙ ap (λ (w : ℤ). pos 0 ∷ replicate 15 w) (zero-*ℤ (pos ac))
 
   pub no_residue : (dc ac : ℕ) → b.tokens ≡ 0 → residue b.levels dc ac ≡ replicate 16 (pos 0)
-  unfolding idct vertical horizontal
-  no_residue dc ac none = ap idct (no_coefficients dc ac none)
+  no_residue dc ac none = ap idct (no_coefficients dc ac none) ∙ idct-first_alone (pos 0)
 
   pub no_firsts : (dc ac : ℕ) → b.tokens ≡ 0 → iwht (dequantised b.levels dc ac) ≡ replicate 16 (pos 0)
-  unfolding iwht hadamard_times times_hadamard_rounded
-  no_firsts dc ac none = ap iwht (no_coefficients dc ac none)
+  no_firsts dc ac none = ap iwht (no_coefficients dc ac none) ∙ iwht-first_alone (pos 0)
 
--- the factor of a first coefficient that is replaced is of no account
-pub any_first : (levels : List ℤ) (first : ℤ) (dc ac : ℕ) → set (dequantised levels 0 ac) 0 first ≡ set (dequantised levels dc ac) 0 first
+-- a first coefficient from its own level
+pub from_level : (levels : List ℤ) (dc ac : ℕ) (first : ℤ) → first ≡ get_or levels 0 (pos 0) *ℤ pos dc → coefficients_after first levels ac ≡ dequantised levels dc ac
 unfolding dequantised
-any_first levels first dc ac = refl
+from_level levels dc ac first is = ap (λ (z : ℤ). coefficients_after z levels ac) is
 
-own_first : (levels : List ℤ) (dc ac : ℕ) → set (dequantised levels 0 ac) 0 (get_or levels 0 (pos 0) *ℤ pos dc) ≡ dequantised levels dc ac
+-- the residue of a block with at most one token
+pub even_residue : (b : Block) → HasUpTo 1 b → (first : ℤ) (ac : ℕ) → idct (coefficients_after first b.levels ac) ≡ replicate 16 (rounded first)
+even_residue b few first ac = ap idct (sym (first_alone b few.0 first ac few.1)) ∙ idct-first_alone first
+
+pub coefficients_long : (first : ℤ) (levels : List ℤ) (ac : ℕ) → length (coefficients_after first levels ac) ≡ 16
 unfolding dequantised
-own_first levels dc ac = refl
+coefficients_long first levels ac = refl
 
--- as the code has it
-pub own_scaled : (levels : List ℤ) (dc ac : ℕ) (first : ℤ) → first ≡ get_or levels 0 (pos 0) *ℤ pos dc → unsigned_abs first ≤ 2 ^ 31 → set (dequantised levels 0 ac) 0 (coded first) ≡ dequantised levels dc ac
-own_scaled levels dc ac first is small = ap (λ (z : ℤ). set (dequantised levels 0 ac) 0 z) (exact first (omega (arith, small)) ∙ is) ∙ own_first levels dc ac
+-- a row of residues of subblocks with DC coefficients only
+pub alone_rows : (r : Residues) (k m : ℕ) (row : List ℤ) → HasBlocks r (k + m) → ((i : ℕ) → i < m → HasTokens 1 r (k + i))
+    → ((i j : ℕ) → i < m → j < 4 → lane row (4 * i + j) ≡ rounded (get_or r.firsts.now (k + i) (pos 0)))
+    → AreRows (4 * m) (handed16 row) (handed16 row) (handed16 row) (handed16 row) (λ i. residue_in r (k + i))
+alone_rows r k m row has alone lanes =
+    rows_handed (4 * m) row row row row (λ i. residue_in r (k + i))
+    (even_rows (4 * m) row (λ i. get_or r.firsts.now (k + i) (pos 0)) (λ i. residue_in r (k + i)) (λ i j iin jin. lanes i j (omega arith) jin) (λ i iin. r.small (k + i) (omega (arith, has.0)))
+    (λ i iin. even_residue (block_of r.tokens.now (r.start + (k + i))) (alone i (omega arith)) (get_or r.firsts.now (k + i) (pos 0)) r.ac))
 
--- a first coefficient that is 0 is a level times 0
-pub no_first : (levels : List ℤ) (dc ac : ℕ) → set (dequantised levels dc ac) 0 (pos 0) ≡ dequantised levels 0 ac
-no_first levels dc ac =
-    sym (any_first levels (pos 0) dc ac)
-    ∙ ap (λ (z : ℤ). set (dequantised levels 0 ac) 0 z) (let e : pos 0 ≡ get_or levels 0 (pos 0) *ℤ pos 0 = omega (arith, ints) in e)
-    ∙ own_first levels 0 ac
+-- four DC coefficients that are loaded
+pub loaded : (firsts : List ℤ) (k j : ℕ) → j < 4 → k + j < length firsts → unsigned_abs (get_or firsts (k + j) (pos 0)) ≤ 2200
+    → lane (handed16 (chunk 0 4 (take (length firsts - k) (drop k firsts)))) j ≡ get_or firsts (k + j) (pos 0)
+loaded firsts k j four below small =
+    let xs : List ℤ = take (length firsts - k) (drop k firsts) in
+    let is : get_or (chunk 0 4 xs) j (pos 0) ≡ get_or firsts (k + j) (pos 0) =
+    get_or-chunk 0 4 xs j (pos 0) four ∙ ap (λ (i : ℕ). get_or xs i (pos 0)) (let e : 0 + j ≡ j = omega arith in e) ∙ get_or-take (length firsts - k) (drop k firsts) j (pos 0) (omega arith) ∙ get_or-drop k firsts j (pos 0) in
+    passed16 (chunk 0 4 xs) j 2200 (omega arith) (subst (λ (z : ℤ). unsigned_abs z ≤ 2200) (sym is) small) ∙ is
 
-pub not_above : (n : ℕ) → nat_lt 0 n ≡ false → n ≡ 0
-not_above n e = grind (arith, nat_tests)
+-- the coefficients of two subblocks, as they are passed in four rows
+pub record AreTwo (r : Residues) (k : ℕ) (v : Four) : Type 0 where
+  pub even : even_block (handed16 v.0) (handed16 v.1) (handed16 v.2) (handed16 v.3) ≡ coefficients_in r k
+  pub odd : odd_block (handed16 v.0) (handed16 v.1) (handed16 v.2) (handed16 v.3) ≡ coefficients_in r (k + 1)
+  pub even_small : EachWithin 2200 (even_block (handed16 v.0) (handed16 v.1) (handed16 v.2) (handed16 v.3))
+  pub odd_small : EachWithin 2200 (odd_block (handed16 v.0) (handed16 v.1) (handed16 v.2) (handed16 v.3))
 
-pub not_some : (o : Option (Bor (List ℤ))) → is_some o ≡ false → o ≡ None
-not_some None e = refl
-not_some (Some dc_from_y2) e = cc
+pub are_two : (r : Residues) (k : ℕ) (v : Four) (left right : List ℤ) → HasBlocks r (k + 2) → left ≡ (block_of r.tokens.now (r.start + k)).levels → right ≡ (block_of r.tokens.now (r.start + (k + 1))).levels
+    → HasBlock v 0 (coefficients_after (coded16 (get_or r.firsts.now k (pos 0))) left r.ac) → HasBlock v 1 (coefficients_after (coded16 (get_or r.firsts.now (k + 1) (pos 0))) right r.ac)
+    → (((i : ℕ) → i < 2 → unsigned_abs (get_or (coded16 (get_or r.firsts.now k (pos 0)) ∷ coded16 (get_or r.firsts.now (k + 1) (pos 0)) ∷ []) i (pos 0)) ≤ 2200)
+    → (s j : ℕ) → s < 4 → j < 8 → unsigned_abs (row_lane v.0 v.1 v.2 v.3 s j) ≤ 2200) → AreTwo r k v
+are_two r k v left right has is_left is_right has_left has_right small =
+    let first : (n : ℕ) → n < length r.firsts.now → coded16 (get_or r.firsts.now n (pos 0)) ≡ get_or r.firsts.now n (pos 0) =
+    λ n below. short_coded (get_or r.firsts.now n (pos 0)) (let s = r.small n below in omega arith) in
+    let same : (n : ℕ) (levels : List ℤ) → n < length r.firsts.now → levels ≡ (block_of r.tokens.now (r.start + n)).levels
+    → coefficients_after (coded16 (get_or r.firsts.now n (pos 0))) levels r.ac ≡ coefficients_in r n =
+    λ n levels below is. ap (λ (z : ℤ). coefficients_after z levels r.ac) (first n below) ∙ ap (λ (zs : List ℤ). coefficients_after (get_or r.firsts.now n (pos 0)) zs r.ac) is in
+    let has_k = has.0 in
+    let small_first : (n : ℕ) → n < length r.firsts.now → unsigned_abs (coded16 (get_or r.firsts.now n (pos 0))) ≤ 2200 = λ n below. subst (λ (z : ℤ). unsigned_abs z ≤ 2200) (sym (first n below)) (r.small n below) in
+    let all = small (two_first small_first has_k) in
+    let long = λ (n : ℕ). coefficients_long (get_or r.firsts.now n (pos 0)) (block_of r.tokens.now (r.start + n)).levels r.ac in
+    let l : HasBlock v 0 (coefficients_in r k) = subst (HasBlock v 0) (same k left (omega arith) is_left) has_left in
+    let o : HasBlock v 1 (coefficients_in r (k + 1)) = subst (HasBlock v 1) (same (k + 1) right (omega arith) is_right) has_right in
+    let passed : Four = (handed16 v.0, handed16 v.1, handed16 v.2, handed16 v.3) in
+    let even = even_is passed (coefficients_in r k) (long k) (passed_block v all 0 (omega arith) (coefficients_in r k) (long k) l) in
+    let odd = odd_is passed (coefficients_in r (k + 1)) (long (k + 1)) (passed_block v all 1 (omega arith) (coefficients_in r (k + 1)) (long (k + 1)) o) in
+    record {
+      even = even;
+      odd = odd;
+      even_small = subst (EachWithin 2200) (sym even) (block_small v all 0 (omega arith) (coefficients_in r k) (long k) l);
+      odd_small = subst (EachWithin 2200) (sym odd) (block_small v all 1 (omega arith) (coefficients_in r (k + 1)) (long (k + 1)) o);
+    }
+  where
+    two_first : ((n : ℕ) → n < length r.firsts.now → unsigned_abs (coded16 (get_or r.firsts.now n (pos 0))) ≤ 2200) → k + 2 ≤ length r.firsts.now → (i : ℕ) → i < 2
+        → unsigned_abs (get_or (coded16 (get_or r.firsts.now k (pos 0)) ∷ coded16 (get_or r.firsts.now (k + 1) (pos 0)) ∷ []) i (pos 0)) ≤ 2200
+    two_first all room zero below = all k (omega arith)
+    two_first all room (suc zero) below = all (k + 1) (omega arith)
+    two_first all room (suc (suc i)) below = absurd (omega arith)
+
+-- the DC coefficients of luma from the Y2 block, whose own is made from the level that the code has
+module _ (t : Tokens) (f g : Factors) (b : Block) (first : ℤ) (same : g ≡ f) (here : b ≡ block_of t 0) (is : IsBlock b) (made : first ≡ coded16 (get_or b.levels 0 (pos 0)) *ℤ pos g.y2_dc) where
+  pub y2_values : luma_firsts t f ≡ iwht (coefficients_after first b.levels g.y2_ac)
+  unfolding luma_firsts
+  y2_values =
+      ap iwht (ap (λ (a : Block). dequantised a.levels f.y2_dc f.y2_ac) (sym here) ∙ ap (λ (h : Factors). dequantised b.levels h.y2_dc h.y2_ac) (sym same)
+      ∙ sym (from_level b.levels g.y2_dc g.y2_ac first (made ∙ ap (λ (z : ℤ). z *ℤ pos g.y2_dc) (short_coded (get_or b.levels 0 (pos 0)) (let w = is.within 0 in omega (arith, w))))))
+
+  -- the first alone
+  pub y2_even : (z : ℤ) → b.tokens ≤ 1 → iwht (first ∷ replicate 15 (pos 0)) ≡ replicate 16 z → luma_firsts t f ≡ replicate 16 z
+  y2_even z few even = y2_values ∙ ap iwht (sym (first_alone b is first g.y2_ac few)) ∙ even
+
+pub y2_small : (first z : ℤ) → unsigned_abs first ≤ 8191 → iwht (first ∷ replicate 15 (pos 0)) ≡ replicate 16 z → unsigned_abs z ≤ 1024
+y2_small first z small even =
+    let is : floor_div (first +ℤ pos 3) 8 ≡ z = ap (λ (zs : List ℤ). get_or zs 0 (pos 0)) (sym (iwht-first_alone first) ∙ even) in
+    subst (λ (y : ℤ). unsigned_abs y ≤ 1024) is (rounded-at_most first 3 1024 (omega arith) (record { size = omega arith })).size
 
 pub nothing_of : (zs : List ℤ) → zs ≡ replicate 16 (pos 0) → IsNothing zs
 nothing_of zs is i below = ap (λ (ys : List ℤ). get_or ys i (pos 0)) is ∙ get_or-replicate 16 i (pos 0) (pos 0) below
 
--- a subblock without tokens, whose first coefficient doesn't stand apart
-pub nothing_in : (r : Residues) (k : ℕ) (b : Block) → IsBlock b → b ≡ block_of r.tokens.now (r.first + k) → r.dc_from_y2 ≡ None → b.tokens ≡ 0 → IsNothing (residue_in r k)
-nothing_in r k b is same apart none = nothing_of (residue_in r k)
-    (ap (λ (o : Option (Bor (List ℤ))). idct (with_first o k (dequantised (block_of r.tokens.now (r.first + k)).levels r.dc r.ac))) apart
-    ∙ ap (λ (a : Block). residue a.levels r.dc r.ac) (sym same) ∙ no_residue b is r.dc r.ac none)
-
--- ---- a subblock whose first coefficient is its only one
-pub alone_sum : (r : Residues) (k : ℕ) (l first : ℤ) → IsAlone r k → unsigned_abs first ≤ 2 ^ 40
-    → set (dequantised (block_of r.tokens.now (r.first + k)).levels 0 r.ac) 0 first ≡ coefficients_in r k
-    → ((i pixel : ℕ) → i < 16 → pixel ≤ 255 → summed pixel l ≡ summed pixel (get_or (idct (coded first ∷ replicate 15 (pos 0))) i (pos 0)))
-    → (i pixel : ℕ) → i < 16 → pixel ≤ 255 → summed pixel l ≡ summed pixel (get_or (residue_in r k) i (pos 0))
-alone_sum r k l first alone within is even =
-    let all : coded first ∷ replicate 15 (pos 0) ≡ coefficients_in r k =
-    sym (alone (coded first)) ∙ ap (λ (z : ℤ). set (dequantised (block_of r.tokens.now (r.first + k)).levels 0 r.ac) 0 z) (exact first within) ∙ is in
-    subst (λ (zs : List ℤ). (i pixel : ℕ) → i < 16 → pixel ≤ 255 → summed pixel l ≡ summed pixel (get_or (idct zs) i (pos 0))) all even
-
--- ---- the luma of a macroblock
+-- ---- the planes of a macroblock
 module _ (t : Tokens) (f : Factors) where
-  -- without a Y2 block
-  pub luma_plain : (y2 : Bool) → y2 ≡ false → (k : ℕ) → k < 16 → idct (dequantised (block_of t (1 + k)).levels f.y_dc f.y_ac) ≡ luma_residue y2 t f k
-  unfolding luma_residue luma_coefficients
-  luma_plain y2 e k below = rw e
-
-  -- with one, which gives the first coefficients
-  pub luma_after : (y2 : Bool) → y2 ≡ true → (dc_from_y2 : List ℤ) → dc_from_y2 ≡ luma_firsts t f → (k : ℕ) → k < 16
-      → idct (set (dequantised (block_of t (1 + k)).levels 0 f.y_ac) 0 (get_or dc_from_y2 k (pos 0))) ≡ luma_residue y2 t f k
+  pub luma_values : (y2 : Bool) (firsts : List ℤ) → AreFirsts 16 firsts (luma_first y2 t f) → HasResidues 16 (residue_by t 1 firsts f.y_ac) (luma_residue y2 t f)
   unfolding luma_residue luma_coefficients dequantised
-  luma_after y2 e dc_from_y2 are k below = rw (e, are)
+  luma_values true firsts are k below = ap (λ (z : ℤ). idct (coefficients_after z (block_of t (1 + k)).levels f.y_ac)) (are k below)
+  luma_values false firsts are k below = ap idct (from_level (block_of t (1 + k)).levels f.y_dc f.y_ac (get_or firsts k (pos 0)) (are k below))
 
-  -- with one that has no tokens
-  pub luma_without : (y2 : Bool) → y2 ≡ true → (b : Block) → IsBlock b → b ≡ block_of t 0 → b.tokens ≡ 0 → (k : ℕ) → k < 16
-      → idct (dequantised (block_of t (1 + k)).levels 0 f.y_ac) ≡ luma_residue y2 t f k
-  unfolding luma_firsts
-  luma_without y2 e b is same none k below =
-      let zeros : luma_firsts t f ≡ replicate 16 (pos 0) = ap (λ (a : Block). iwht (dequantised a.levels f.y2_dc f.y2_ac)) (sym same) ∙ no_firsts b is f.y2_dc f.y2_ac none in
-      ap idct (sym (no_first (block_of t (1 + k)).levels 0 f.y_ac))
-      ∙ ap (λ (z : ℤ). idct (set (dequantised (block_of t (1 + k)).levels 0 f.y_ac) 0 z)) (sym (get_or-replicate 16 k (pos 0) (pos 0) below))
-      ∙ luma_after y2 e (replicate 16 (pos 0)) (sym zeros) k below
+  pub chroma_values : (plane : ℕ) (firsts : List ℤ) → AreFirsts 4 firsts (own_first t (13 + 4 * plane) f.uv_dc)
+      → HasResidues 4 (residue_by t (13 + 4 * plane) firsts f.uv_ac) (chroma_residue t f plane)
+  unfolding chroma_residue
+  chroma_values plane firsts are k below = ap idct (from_level (block_of t (13 + 4 * plane + k)).levels f.uv_dc f.uv_ac (get_or firsts k (pos 0)) (are k below))
+
+  -- without tokens there is no residue
+  pub luma_nothing : (y2 : Bool) (k : ℕ) → k < 16 → HasUpTo 0 (block_of t (1 + k)) → (y2 ≡ true → HasUpTo 0 (block_of t 0)) → IsNothing (luma_residue y2 t f k)
+  unfolding luma_residue luma_coefficients luma_firsts
+  luma_nothing false k below none no_y2 = nothing_of _ (no_residue (block_of t (1 + k)) none.0 f.y_dc f.y_ac (omega (arith, none.1)))
+  luma_nothing true k below none no_y2 =
+      let y2 = no_y2 refl in
+      let levels : List ℤ = (block_of t (1 + k)).levels in
+      nothing_of _
+      (ap (λ (zs : List ℤ). idct (set (dequantised levels f.y_dc f.y_ac) 0 (get_or zs k (pos 0)))) (no_firsts (block_of t 0) y2.0 f.y2_dc f.y2_ac (omega (arith, y2.1)))
+      ∙ ap (λ (z : ℤ). idct (set (dequantised levels f.y_dc f.y_ac) 0 z)) (get_or-replicate 16 k (pos 0) (pos 0) below)
+      ∙ ap (λ (zs : List ℤ). idct (set zs 0 (pos 0))) (no_coefficients (block_of t (1 + k)) none.0 f.y_dc f.y_ac (omega (arith, none.1)))
+      ∙ idct-first_alone (pos 0))
+
+  pub chroma_nothing : (plane k : ℕ) → HasUpTo 0 (block_of t (13 + 4 * plane + k)) → IsNothing (chroma_residue t f plane k)
+  unfolding chroma_residue
+  chroma_nothing plane k none = nothing_of _ (no_residue (block_of t (13 + 4 * plane + k)) none.0 f.uv_dc f.uv_ac (omega (arith, none.1)))
+
+-- the DC coefficients of U, and then those of V
+module _ (t : Tokens) (f g : Factors) (same : g ≡ f) (firsts : List ℤ) (are : AreFirsts 8 firsts (own_first t 17 f.uv_dc)) where
+  pub u_values : HasResidues 4 (residue_by t 17 (take 4 firsts) g.uv_ac) (chroma_residue t f 1)
+  u_values =
+      subst (λ (h : Factors). HasResidues 4 (residue_by t 17 (take 4 firsts) h.uv_ac) (chroma_residue t f 1)) (sym same)
+      (chroma_values t f 1 (take 4 firsts) (λ k below. get_or-take 4 firsts k (pos 0) below ∙ are k (omega arith)))
+
+  pub v_values : HasResidues 4 (residue_by t 21 (take 4 (drop 4 firsts)) g.uv_ac) (chroma_residue t f 2)
+  v_values =
+      subst (λ (h : Factors). HasResidues 4 (residue_by t 21 (take 4 (drop 4 firsts)) h.uv_ac) (chroma_residue t f 2)) (sym same)
+      (chroma_values t f 2 (take 4 (drop 4 firsts))
+      (λ k below. get_or-take 4 (drop 4 firsts) k (pos 0) below ∙ get_or-drop 4 firsts k (pos 0) ∙ are (4 + k) (omega arith)
+      ∙ ap (λ (n : ℕ). get_or (block_of t n).levels 0 (pos 0) *ℤ pos f.uv_dc) (let e : 17 + (4 + k) ≡ 21 + k = omega arith in e)))
+
+-- four DC coefficients are small
+pub four_small : (firsts : List ℤ) → ((k : ℕ) → k < 4 → unsigned_abs (get_or firsts k (pos 0)) ≤ 2200) → (k : ℕ) → k < length (take 4 firsts) → unsigned_abs (get_or (take 4 firsts) k (pos 0)) ≤ 2200
+four_small firsts small k below =
+    let few : k < 4 = omega (arith, length-take 4 firsts) in
+    subst (λ (z : ℤ). unsigned_abs z ≤ 2200) (sym (get_or-take 4 firsts k (pos 0) few)) (small k few)
+
+-- two subblocks of which no coefficient is other than 0
+pub two_nothing : (r : Residues) (k n : ℕ) → ((i : ℕ) → i < 2 → HasUpTo n (block_of r.tokens.now (r.start + k + i))) → n ≤ 1 → get_or r.firsts.now k (pos 0) ≡ pos 0 → get_or r.firsts.now (k + 1) (pos 0) ≡ pos 0
+    → (i : ℕ) → 4 * i < 8 → IsNothing (residue_in r (k + i))
+two_nothing r k n has few first second i below =
+    let own = has i (omega arith) in
+    let one : HasUpTo 1 (block_of r.tokens.now (r.start + (k + i))) =
+    subst (λ (j : ℕ). HasUpTo 1 (block_of r.tokens.now j)) (let e : r.start + k + i ≡ r.start + (k + i) = omega arith in e) (own.0, omega (arith, own.1)) in
+    nothing_of _ (even_residue (block_of r.tokens.now (r.start + (k + i))) one (get_or r.firsts.now (k + i) (pos 0)) r.ac ∙ ap (λ (z : ℤ). replicate 16 (rounded z)) (zero_first i below))
+  where
+    zero_first : (j : ℕ) → 4 * j < 8 → get_or r.firsts.now (k + j) (pos 0) ≡ pos 0
+    zero_first zero under = ap (λ (m : ℕ). get_or r.firsts.now m (pos 0)) (let e : k + 0 ≡ k = omega arith in e) ∙ first
+    zero_first (suc zero) under = second
+    zero_first (suc (suc j)) under = absurd (omega arith)
 
 -- ---- a macroblock without tokens
 zero_at : (i : ℕ) → get_or (replicate 16 (pos 0)) i (pos 0) ≡ pos 0
@@ -172,28 +251,23 @@ no_tokens_is = record {
   count = omega arith;
 }
 
-module _ (t : Tokens) (none : t.blocks ≡ no_blocks) (f : Factors) where
-  block_none : (n : ℕ) → n < 25 → block_of t n ≡ no_tokens
-  block_none n below = ap (λ (bs : List Block). get_or bs n no_tokens) none ∙ get_or-replicate 25 n no_tokens no_tokens below
-
-  none_at : (n dc ac : ℕ) (zs : List ℤ) → n < 25 → residue (block_of t n).levels dc ac ≡ zs → IsNothing zs
-  none_at n dc ac zs below is =
-      nothing_of zs (sym is ∙ ap (λ (b : Block). residue b.levels dc ac) (block_none n below) ∙ no_residue no_tokens no_tokens_is dc ac refl)
-
-  pub luma_nothing : (y2 : Bool) (k : ℕ) → k < 16 → IsNothing (luma_residue y2 t f k)
-  luma_nothing false k below = none_at (1 + k) f.y_dc f.y_ac (luma_residue false t f k) (omega arith) (luma_plain t f false refl k below)
-  luma_nothing true k below =
-      none_at (1 + k) 0 f.y_ac (luma_residue true t f k) (omega arith) (luma_without t f true refl no_tokens no_tokens_is (sym (block_none 0 (omega arith))) refl k below)
-
-  pub chroma_nothing : (plane k : ℕ) → plane < 3 → k < 4 → IsNothing (chroma_residue t f plane k)
-  unfolding chroma_residue
-  chroma_nothing plane k colour below = none_at (13 + 4 * plane + k) f.uv_dc f.uv_ac (chroma_residue t f plane k) (omega arith) refl
+block_none : (t : Tokens) → t.blocks ≡ no_blocks → (n : ℕ) → n < 25 → HasUpTo 0 (block_of t n)
+block_none t none n below =
+    subst (HasUpTo 0) (sym (ap (λ (bs : List Block). get_or bs n no_tokens) none ∙ get_or-replicate 25 n no_tokens no_tokens below)) (no_tokens_is, omega arith)
 
 -- a pixel with no residue is its prediction
 pub without_residue : (across : ℕ) (own : ℕ → List ℤ) (pixel r c : ℕ) → ((k : ℕ) → k < across * across → IsNothing (own k)) → across * (r / 4) + c / 4 < across * across → pixel ≤ 255
     → pixel ≡ summed pixel (residue_at across own r c)
 without_residue across own pixel r c nothing below byte =
     sym (ap (summed pixel) (nothing (across * (r / 4) + c / 4) below (4 * (r % 4) + c % 4) (omega arith)) ∙ summed-zero pixel byte)
+
+-- a block with no residue stays
+pub block_alone : (p : Raster) (x y across : ℕ) (residue : ℕ → List ℤ) → IsWhole p → ((i : ℕ) → get_or p.pixels i 0 ≤ 255) → ((k : ℕ) → k < across * across → IsNothing (residue k))
+    → p ≡ with_block p x y (4 * across) (4 * across) (block_sum across p x y residue)
+block_alone p x y across residue whole byte nothing =
+    with_block_of p x y (4 * across) (4 * across) whole
+    ∙ with_block_same p x y (4 * across) (4 * across) (was p x y) (block_sum across p x y residue)
+    (λ r c rin cin. without_residue across residue (was p x y r c) r c nothing (sub_below across r c rin cin) (byte ((y + r) * p.width + (x + c))))
 
 -- the luma, and a chroma plane, of a macroblock that has no residue
 module _ (t : Tokens) (none : t.blocks ≡ no_blocks) (f : Factors) (source : Predictor) (place : Place) (p : Raster) where
@@ -202,14 +276,14 @@ module _ (t : Tokens) (none : t.blocks ≡ no_blocks) (f : Factors) (source : Pr
       let m : Macroblock = macroblock_of source t f in
       let own = luma_prediction source place p in
       with_block_same p (16 * place.column) (16 * place.row) 16 16 own (luma_made m place p)
-      (λ r j rin jin. without_residue 4 (luma_residue (has_y2 source) t f) (own r j) r j (luma_nothing t none f (has_y2 source)) (omega arith) (bytes r j rin jin))
+      (λ r j rin jin. without_residue 4 (luma_residue (has_y2 source) t f) (own r j) r j (λ k below. luma_nothing t f (has_y2 source) k below (block_none t none (1 + k) (omega arith)) (λ _. block_none t none 0 (omega arith))) (omega arith) (bytes r j rin jin))
       ∙ luma_at_once m place p whole
 
   pub chroma_alone : (k : ℕ) → k < 3 → AreBlockBytes 8 (chroma_prediction source k place p) → chroma_predicted source k place p ≡ chroma_rebuilt (macroblock_of source t f) k place p
   chroma_alone k colour bytes =
       let own = chroma_prediction source k place p in
       with_block_same p (8 * place.column) (8 * place.row) 8 8 own (chroma_made (macroblock_of source t f) k place p)
-      (λ r j rin jin. without_residue 2 (chroma_residue t f k) (own r j) r j (λ i below. chroma_nothing t none f k i colour below) (omega arith) (bytes r j rin jin))
+      (λ r j rin jin. without_residue 2 (chroma_residue t f k) (own r j) r j (λ i below. chroma_nothing t f k i (block_none t none (13 + 4 * k + i) (omega arith))) (omega arith) (bytes r j rin jin))
 
 -- a picture whose macroblock is predicted, luma first
 pub nothing_rebuilt : (t : Tokens) → t.blocks ≡ no_blocks → (f : Factors) (source : Predictor) (place : Place) (p half next : Image) → IsAligned p → place.column < macroblocks p.width → place.row < macroblocks p.height

@@ -1,5 +1,5 @@
 -- Blocks in the bytes of a plane: stored row after row, and residues added strip after strip and pair after pair.
-use Rattle.std.proofs.Common.{◌≡◌, ◌∙◌, ℕ, ◌+◌, ◌*◌, ◌<◌, ◌≤◌, List, ◌++◌, length, take, drop, get_or, sym, ap, arith, length-append, length-drop, ◌-◌, ◌/◌, ◌%◌, ℤ, pos, Bool, cond}
+use Rattle.std.proofs.Common.{◌≡◌, ◌∙◌, ℕ, ◌+◌, ◌*◌, ◌≤◌, List, ◌++◌, length, take, drop, get_or, sym, ap, arith, length-append, length-drop, ◌-◌, ◌/◌, ◌%◌, ℤ, pos, Bool, cond, inl, inr, ◌<◌}
 use Rattle.std.proofs.lemmas.Simd.{put_chunk_is}
 use Rattle.std.proofs.lemmas.List.{length-take, take_all, take-append-le}
 use Rattle.std.proofs.lemmas.Nat.{row_fits}
@@ -10,11 +10,10 @@ use Rattle.vp_base.proofs.RasterLemmas.{raster}
 use Rattle.vp_base.specs.Block.{written, with_block, IsWhole}
 use Rattle.vp_recon.specs.Sums.{LiesAt, IsAdded, block_sum, strip_sum, IsNothing}
 use Rattle.vp_base.proofs.BlockLemmas.{with_block_none, with_block_more, IsWhole-with_block, with_block_same}
-use Rattle.std.proofs.lemmas.Bool.{le-ltb}
+use Rattle.std.proofs.lemmas.Bool.{le-ltb, cases_lt}
 use Rattle.std.proofs.Math.Nat.{mul-le-mul}
 use Rattle.vp_recon.specs.Rebuilt.{summed}
-use Rattle.vp_recon.specs.Parts.{HasResidues, residue_in}
-use Rattle.vp_recon.specs.declared.residues.Residues.{Residues}
+use Rattle.vp_recon.specs.Parts.{HasResidues}
 use Rattle.vp_recon.proofs.SumLemmas.{own_same, summed-zero}
 use Rattle.vp_recon.proofs.Parts.{Lies, block_pixel, was, until, until_none, until_written, until_all, with_block_of}
 
@@ -115,13 +114,13 @@ strip_at r c = r / 4
 abbrev pub pair_at : ℕ → ℕ → ℕ
 pair_at r c = c / 8
 
-pub strips_more : (p : Raster) (x y across : ℕ) (r : Residues) (residue : ℕ → List ℤ) (i : ℕ) (first now next : List ℕ) (at stride start : ℕ)
-    → HasResidues (across * across) r residue → i < across → LiesAt p x y (4 * across) (4 * across) first at stride
+pub strips_more : (p : Raster) (x y across : ℕ) (own residue : ℕ → List ℤ) (i : ℕ) (first now next : List ℕ) (at stride start : ℕ)
+    → HasResidues (across * across) own residue → i < across → LiesAt p x y (4 * across) (4 * across) first at stride
     → now ≡ (so_far p x y (4 * across) (4 * across) strip_at (block_sum across p x y residue) i).pixels → start ≡ at + i * (4 * stride)
-    → IsAdded (4 * across) now next start stride (λ j. residue_in r (across * i + j))
+    → IsAdded (4 * across) now next start stride (λ j. own (across * i + j))
     → next ≡ (so_far p x y (4 * across) (4 * across) strip_at (block_sum across p x y residue) (i + 1)).pixels
-strips_more p x y across r residue i first now next at stride start are below lies is here added =
-    part_more p x y (4 * across) (4 * across) strip_at (block_sum across p x y residue) first at stride lies i 0 (4 * i) (4 * across) start (λ j. residue_in r (across * i + j)) now next
+strips_more p x y across own residue i first now next at stride start are below lies is here added =
+    part_more p x y (4 * across) (4 * across) strip_at (block_sum across p x y residue) first at stride lies i 0 (4 * i) (4 * across) start (λ j. own (across * i + j)) now next
     is (omega arith) (omega arith) (omega arith)
     (λ v c vin cin. omega arith)
     (λ v c vin cin same. record { left = omega arith; right = omega arith; top = omega arith; bottom = omega arith })
@@ -133,17 +132,73 @@ strips_more p x y across r residue i first now next at stride start are below li
     (own_same residue (across * ((4 * i + v) / 4) + (0 + c) / 4) (across * i + c / 4) (4 * ((4 * i + v) % 4) + (0 + c) % 4) (4 * v + c % 4) (omega arith) (omega arith)
     ∙ ap (λ (zs : List ℤ). get_or zs (4 * v + c % 4) (pos 0)) (sym (are (across * i + c / 4) (omega arith))))) added
 
-pub pairs_more : (p : Raster) (x y across : ℕ) (r : Residues) (k i : ℕ) (first now next : List ℕ) (at stride : ℕ) → 2 * i + 2 ≤ across → LiesAt p x y (4 * across) 4 first at stride
-    → now ≡ (so_far p x y (4 * across) 4 pair_at (strip_sum p x y (λ j. residue_in r (k + j))) i).pixels → IsAdded 8 now next (at + 8 * i) stride (λ j. residue_in r (k + 2 * i + j))
-    → next ≡ (so_far p x y (4 * across) 4 pair_at (strip_sum p x y (λ j. residue_in r (k + j))) (i + 1)).pixels
-pairs_more p x y across r k i first now next at stride below lies is added =
-    part_more p x y (4 * across) 4 pair_at (strip_sum p x y (λ j. residue_in r (k + j))) first at stride lies i (8 * i) 0 8 (at + 8 * i) (λ j. residue_in r (k + 2 * i + j)) now next
+pub pairs_more : (p : Raster) (x y across : ℕ) (own : ℕ → List ℤ) (k i : ℕ) (first now next : List ℕ) (at stride : ℕ) → 2 * i + 2 ≤ across → LiesAt p x y (4 * across) 4 first at stride
+    → now ≡ (so_far p x y (4 * across) 4 pair_at (strip_sum p x y (λ j. own (k + j))) i).pixels → IsAdded 8 now next (at + 8 * i) stride (λ j. own (k + 2 * i + j))
+    → next ≡ (so_far p x y (4 * across) 4 pair_at (strip_sum p x y (λ j. own (k + j))) (i + 1)).pixels
+pairs_more p x y across own k i first now next at stride below lies is added =
+    part_more p x y (4 * across) 4 pair_at (strip_sum p x y (λ j. own (k + j))) first at stride lies i (8 * i) 0 8 (at + 8 * i) (λ j. own (k + 2 * i + j)) now next
     is (omega arith) (omega arith) (omega arith)
     (λ v c vin cin. omega arith)
     (λ v c vin cin same. record { left = omega arith; right = omega arith; top = omega arith; bottom = omega arith })
     (λ v c vin cin.
     ap (λ (z : ℤ). summed (was p x y (0 + v) (8 * i + c)) z)
-    (own_same (residue_in r) (k + (8 * i + c) / 4) (k + 2 * i + c / 4) (4 * (0 + v) + (8 * i + c) % 4) (4 * v + c % 4) (omega arith) (omega arith))) added
+    (own_same own (k + (8 * i + c) / 4) (k + 2 * i + c / 4) (4 * (0 + v) + (8 * i + c) % 4) (4 * v + c % 4) (omega arith) (omega arith))) added
+
+-- a quotient and a remainder are determined by their number
+quotient : (n q r a b : ℕ) → a < n → b < n → n * q + a ≡ n * r + b → q ≡ r
+quotient n q r a b below under same = elim (cases_lt q r) [
+  | inl less ↦ let m : n * (q + 1) ≤ n * r = mul-le-mul (omega arith) (omega arith) in absurd (omega arith)
+  | inr other ↦ elim (cases_lt r q) [
+    | inl more ↦ let m : n * (r + 1) ≤ n * q = mul-le-mul (omega arith) (omega arith) in absurd (omega arith)
+    | inr neither ↦ omega arith
+  ]
+]
+
+pub pair_of : (i half : ℕ) → 0 < half → i ≡ half * (i / half) + i % half
+pair_of i half some = omega arith
+
+pub pairs_in : (across half : ℕ) → across ≡ 2 * half → across * across / 2 ≡ half * (2 * half)
+pairs_in across half twice = let e : across * across ≡ 2 * half * (2 * half) = ap (λ (n : ℕ). n * n) twice in omega arith
+
+pub pair_row : (i half : ℕ) → 0 < half → i < half * (2 * half) → i / half < 2 * half
+pair_row i half some below = elim (cases_lt (i / half) (2 * half)) [
+  | inl low ↦ low
+  | inr high ↦ let m : half * (2 * half) ≤ half * (i / half) = mul-le-mul (omega arith) (omega arith) in absurd (omega arith)
+]
+
+-- pairs of a block, of which there are `half` in each strip: pair number `next_to` of strip `row`
+abbrev pub block_pair_at : ℕ → ℕ → ℕ → ℕ
+block_pair_at half r c = half * (r / 4) + c / 8
+
+pub block_pairs_more : (p : Raster) (x y half row next_to i : ℕ) (own residue : ℕ → List ℤ) (first now next : List ℕ) (at stride here : ℕ)
+    → HasResidues (2 * half * (2 * half)) own residue → i ≡ half * row + next_to → next_to < half → row < 2 * half → LiesAt p x y (4 * (2 * half)) (4 * (2 * half)) first at stride
+    → now ≡ (so_far p x y (4 * (2 * half)) (4 * (2 * half)) (block_pair_at half) (block_sum (2 * half) p x y residue) i).pixels → here ≡ at + row * (4 * stride) + next_to * 8
+    → IsAdded 8 now next here stride (λ j. own (2 * i + j))
+    → next ≡ (so_far p x y (4 * (2 * half)) (4 * (2 * half)) (block_pair_at half) (block_sum (2 * half) p x y residue) (i + 1)).pixels
+block_pairs_more p x y half row next_to i own residue first now next at stride here are turn beside below lies is place added =
+    let n : ℕ = 4 * (2 * half) in
+    let m : half * (row + 1) ≤ half * (2 * half) = mul-le-mul (omega arith) (omega arith) in
+    part_more p x y n n (block_pair_at half) (block_sum (2 * half) p x y residue) first at stride lies i (8 * next_to) (4 * row) 8 here (λ j. own (2 * i + j)) now next
+    is (omega arith) (omega arith) (omega arith)
+    (λ v c vin cin.
+    let e : half * ((4 * row + v) / 4) ≡ half * row = ap (λ (k : ℕ). half * k) (let f : (4 * row + v) / 4 ≡ row = omega arith in f) in
+    omega arith)
+    (λ v c vin cin same. lies_in v c cin same)
+    (λ v c vin cin.
+    let e : half * ((4 * row + v) / 4) ≡ half * row = ap (λ (k : ℕ). half * k) (let f : (4 * row + v) / 4 ≡ row = omega arith in f) in
+    ap (λ (z : ℤ). summed (was p x y (4 * row + v) (8 * next_to + c)) z)
+    (own_same residue (2 * half * ((4 * row + v) / 4) + (8 * next_to + c) / 4) (2 * i + c / 4) (4 * ((4 * row + v) % 4) + (8 * next_to + c) % 4) (4 * v + c % 4) (omega arith) (omega arith)
+    ∙ ap (λ (zs : List ℤ). get_or zs (4 * v + c % 4) (pos 0)) (sym (are (2 * i + c / 4) (omega arith))))) added
+  where
+    -- a place of this pair lies in it
+    lies_in : (v c : ℕ) → c < 4 * (2 * half) → half * (v / 4) + c / 8 ≡ i → Lies (8 * next_to) (4 * row) 8 4 c v
+    lies_in v c cin same =
+        let strip : v / 4 ≡ row = quotient half (v / 4) row (c / 8) next_to (omega arith) beside (omega arith) in
+        let e : half * (v / 4) ≡ half * row = ap (λ (k : ℕ). half * k) strip in
+        record { left = omega arith; right = omega arith; top = omega arith; bottom = omega arith }
+
+pub block_pair_below : (half r c : ℕ) → r < 4 * (2 * half) → c < 4 * (2 * half) → block_pair_at half r c < half * (2 * half)
+block_pair_below half r c rin cin = let m : half * (r / 4 + 1) ≤ half * (2 * half) = mul-le-mul (omega arith) (omega arith) in omega arith
 
 -- ---- a strip without residue
 pub strip_alone : (p : Raster) (x y n : ℕ) (bytes : List ℕ) (at stride : ℕ) (own : ℕ → List ℤ) → LiesAt p x y n 4 bytes at stride

@@ -1,24 +1,23 @@
 -- Residues as rows of numbers that the code keeps in 16 bits, and their sums with pixels.
-use Rattle.std.proofs.Common.{◌≡◌, ◌∙◌, ℕ, ◌+◌, ◌*◌, ◌<◌, ◌≤◌, ℤ, pos, negsuc, ◌+ℤ◌, ◌≤ℤ◌, min, List, [], ◌∷◌, map, zero, suc, unsigned_abs, get_or, to_z, of_z, w16, ◌^◌, replicate, refl, sym, ap, arith, inl, inr, ◌-◌, ◌/◌, ◌%◌, subst}
+use Rattle.std.proofs.Common.{◌≡◌, ◌∙◌, ℕ, ◌+◌, ◌*◌, ◌<◌, ◌≤◌, ℤ, pos, negsuc, ◌+ℤ◌, ◌≤ℤ◌, min, List, [], ◌∷◌, map, length, zero, suc, unsigned_abs, get_or, to_z, of_z, w16, replicate, refl, sym, ap, arith, inl, inr, ◌-◌, ◌/◌, ◌%◌, subst}
 use Rattle.std.proofs.lemmas.Bool.{cases_lt}
 use Rattle.std.proofs.lemmas.Int.{ints, clamps, to_z-of_z}
-use Rattle.std.proofs.lemmas.List.{get_or-replicate}
+use Rattle.std.proofs.lemmas.List.{get_or-replicate, get_or_past}
 use Rattle.std.specs.Int.{int_min, int_max}
 use mir.Val.{SFits}
-use Rattle.vp_transform.proofs.Sizes.{fits-below}
-use Rattle.vp_transform.proofs.Words.{coded, read}
-use Rattle.vp_transform.specs.Transform.{idct}
+use Rattle.vp_transform.proofs.Sizes.{rounded-at_most}
+use Rattle.vp_transform.specs.Transform.{idct, rounded}
+use Rattle.vp_quant.specs.Short.{HasBlock}
+use Rattle.vp_lanes.proofs.Shape.{lanes_of}
 use Rattle.vp_transform.specs.Short.{cut}
 use Rattle.vp_recon.specs.Rebuilt.{summed, clamp_to_pixel}
-use Rattle.vp_recon.specs.Sums.{HasEqualSums, IsNothing, row_lane, AreRows, AreLow}
+use Rattle.vp_recon.specs.Sums.{HasEqualSums, IsNothing, row_lane, AreRows, AreLow, Four}
 use Rattle.vp_lanes.specs.Lane.{lane}
 use Rattle.vp_transform.specs.Fits.{EachWithin}
-use Rattle.vp_transform.specs.Pair.{row_in}
+use Rattle.vp_transform.specs.Pair.{row_in, even_block, odd_block}
 use Rattle.vp_transform.proofs.Bounds.{idct-within}
 use Rattle.vp_transform.proofs.Eights.{coded16, handed16, passed16}
-use Rattle.vp_transform.proofs.Vectors.{short16_fits, below_four}
-use Rattle.vp_recon.specs.declared.residues.Residues.{Residues}
-use Rattle.vp_recon.specs.Parts.{residue_in}
+use Rattle.vp_transform.proofs.Vectors.{short16_fits, below_four, sixteen}
 
 pub summed-zero : (p : ℕ) → p ≤ 255 → summed p (pos 0) ≡ p
 unfolding summed
@@ -59,6 +58,9 @@ lane_kept numbers i fits = coded_at numbers i ∙ to_z-of_z w16 (get_or numbers 
     coded_at (z ∷ zs) (suc j) = coded_at zs j
 
 -- ---- what is kept
+pub equal_sums : (xs ys : List ℤ) → xs ≡ ys → HasEqualSums xs ys
+equal_sums xs ys e i below pixel byte = ap (λ (zs : List ℤ). summed pixel (get_or zs i (pos 0))) e
+
 -- a number that is cut gives the sums of the whole one
 pub cut_kept : (kept residue : List ℤ) → ((i : ℕ) → i < 16 → get_or kept i (pos 0) ≡ cut (get_or residue i (pos 0))) → HasEqualSums kept residue
 cut_kept kept residue e i below pixel byte = ap (summed pixel) (e i below) ∙ summed-cut pixel (get_or residue i (pos 0)) byte
@@ -70,16 +72,6 @@ nothing_added prediction same zs nothing e byte r c rin cin =
     let p : ℕ = get_or prediction (r * 4 + c) 0 in
     ap (λ (ps : List ℕ). get_or ps (r * 4 + c) 0) (sym e)
     ∙ sym (summed-zero p (byte (r * 4 + c) (omega arith))) ∙ ap (summed p) (sym (nothing (4 * r + c) (omega arith)))
-
--- a residue whose coefficients but the first are 0
-pub even_is : (dc z : ℤ) → unsigned_abs dc ≤ 2 ^ 40 → idct (coded dc ∷ replicate 15 (pos 0)) ≡ replicate 16 z → unsigned_abs z ≤ unsigned_abs (coded dc)
-    → (coded z ≡ z) × ((i : ℕ) → i < 16 → get_or (idct (dc ∷ replicate 15 (pos 0))) i (pos 0) ≡ z)
-even_is dc z small value within =
-    let exact : coded dc ≡ dc = read dc (fits-below dc (omega (arith, small))) in
-    let same : unsigned_abs (coded dc) ≡ unsigned_abs dc = ap unsigned_abs exact in (
-      read z (fits-below z (omega (arith, within, same, small))),
-      λ i below. ap (λ (y : ℤ). get_or (idct (y ∷ replicate 15 (pos 0))) i (pos 0)) (sym exact) ∙ ap (λ (ys : List ℤ). get_or ys i (pos 0)) value ∙ get_or-replicate 16 i z (pos 0) below,
-    )
 
 pub low_handed : (n : ℕ) (xs : List ℤ) → AreLow n xs → AreLow n (handed16 xs)
 low_handed n xs low j h = subst (λ z. unsigned_abs z ≤ 8800) (sym (passed16 xs j 8800 (omega arith) (low j h))) (low j h)
@@ -102,51 +94,73 @@ own_same own k l n m e f = cc
 even : (row : List ℤ) (r j : ℕ) → r < 4 → row_lane row row row row r j ≡ lane row j
 even row r j = below_four (λ i. row_lane row row row row i j ≡ lane row j) refl refl refl refl r
 
-module _ (n : ℕ) (row : List ℤ) (number : ℕ → ℤ) (few : n ≤ 16) (lanes : (i j : ℕ) → j < 4 → 4 * i + j < n → lane row (4 * i + j) ≡ number i) where
-  number_of : (j : ℕ) → j < n → lane row j ≡ number (j / 4)
-  number_of j jin = ap (λ (k : ℕ). lane row k) (let e : j ≡ 4 * (j / 4) + j % 4 = omega arith in e) ∙ lanes (j / 4) (j % 4) (omega arith) (omega arith)
+pub rounded_small : (first : ℤ) → unsigned_abs first ≤ 2200 → unsigned_abs (rounded first) ≤ 275
+rounded_small first small = (rounded-at_most first 4 275 (omega arith) (record { size = omega arith })).size
 
-  pub even_rows : (own : ℕ → List ℤ) → ((i : ℕ) → 4 * i < n → unsigned_abs (number i) ≤ 255)
-      → ((i s pixel : ℕ) → 4 * i < n → s < 16 → pixel ≤ 255 → summed pixel (number i) ≡ summed pixel (get_or (own i) s (pos 0))) → AreRows n row row row row own
-  even_rows own small sums = record {
-    low = λ r j rin jin. subst (λ z. unsigned_abs z ≤ 8800) (sym (even row r j rin ∙ number_of j jin)) (let l = small (j / 4) (omega arith) in omega arith);
-    sums = λ r j pixel rin jin byte. ap (summed pixel) (even row r j rin ∙ number_of j jin) ∙ sums (j / 4) (4 * r + j % 4) pixel (omega arith) (omega arith) byte;
-  }
-
-pub by_two : (P : ℕ → Type 0) → P 0 → P 1 → (i : ℕ) → 4 * i < 8 → P i
-by_two P a b zero below = a
-by_two P a b (suc zero) below = b
-by_two P a b (suc (suc i)) below = absurd (omega arith)
-
-pub two_lanes : (row : List ℤ) (a b : ℤ) → ((j : ℕ) → j < 4 → lane row j ≡ a) → ((j : ℕ) → j < 4 → lane row (4 + j) ≡ b)
-    → (i j : ℕ) → j < 4 → 4 * i + j < 8 → lane row (4 * i + j) ≡ get_or (a ∷ b ∷ []) i (pos 0)
-two_lanes row a b ea eb i j jin below =
-    by_two (λ n. lane row (4 * n + j) ≡ get_or (a ∷ b ∷ []) n (pos 0)) (ap (lane row) (let e : 4 * 0 + j ≡ j = omega arith in e) ∙ ea j jin) (eb j jin) i (omega arith)
-
--- two such rows side by side
-pub joined_rows : (left right row : List ℤ) (own next : ℕ → List ℤ) → ((j : ℕ) → j < 8 → lane row j ≡ lane left j) → ((j : ℕ) → j < 8 → lane row (8 + j) ≡ lane right j)
-    → ((i : ℕ) → next i ≡ own (2 + i)) → AreRows 8 left left left left own → AreRows 8 right right right right next → AreRows 16 row row row row own
-joined_rows left right row own next first second is rows_left rows_right =
-    let near : (r j : ℕ) → r < 4 → j < 8 → row_lane row row row row r j ≡ row_lane left left left left r j =
-    λ r j rin jin. even row r j rin ∙ first j jin ∙ sym (even left r j rin) in
-    let far : (r j : ℕ) → r < 4 → 8 ≤ j → j < 16 → row_lane row row row row r j ≡ row_lane right right right right r (j - 8) =
-    λ r j rin from jin. even row r j rin ∙ ap (lane row) (let e : j ≡ 8 + (j - 8) = omega arith in e) ∙ second (j - 8) (omega arith) ∙ sym (even right r (j - 8) rin) in
+-- the residue of each DC coefficient four times
+pub even_rows : (n : ℕ) (row : List ℤ) (first : ℕ → ℤ) (own : ℕ → List ℤ) → ((i j : ℕ) → 4 * i < n → j < 4 → lane row (4 * i + j) ≡ rounded (first i))
+    → ((i : ℕ) → 4 * i < n → unsigned_abs (first i) ≤ 2200) → ((i : ℕ) → 4 * i < n → own i ≡ replicate 16 (rounded (first i))) → AreRows n row row row row own
+even_rows n row first own lanes small are =
+    let number : (r j : ℕ) → r < 4 → j < n → row_lane row row row row r j ≡ rounded (first (j / 4)) =
+    λ r j rin jin. even row r j rin ∙ ap (λ (k : ℕ). lane row k) (let e : j ≡ 4 * (j / 4) + j % 4 = omega arith in e) ∙ lanes (j / 4) (j % 4) (omega arith) (omega arith) in
     record {
-      low = λ r j rin jin. elim (cases_lt j 8) [
-        | inl l ↦ subst (λ z. unsigned_abs z ≤ 8800) (sym (near r j rin l)) (rows_left.low r j rin l)
-        | inr h ↦ subst (λ z. unsigned_abs z ≤ 8800) (sym (far r j rin h jin)) (rows_right.low r (j - 8) rin (omega arith))
-      ];
-      sums = λ r j pixel rin jin byte. elim (cases_lt j 8) [
-        | inl l ↦ ap (summed pixel) (near r j rin l) ∙ rows_left.sums r j pixel rin l byte
-        | inr h ↦
-            ap (summed pixel) (far r j rin h jin)
-            ∙ rows_right.sums r (j - 8) pixel rin (omega arith) byte
-            ∙ ap (λ (zs : List ℤ). summed pixel (get_or zs (4 * r + (j - 8) % 4) (pos 0))) (is ((j - 8) / 4))
-            ∙ ap (summed pixel) (own_same own (2 + (j - 8) / 4) (j / 4) (4 * r + (j - 8) % 4) (4 * r + j % 4) (omega arith) (omega arith))
-      ];
+      low = λ r j rin jin. subst (λ z. unsigned_abs z ≤ 8800) (sym (number r j rin jin))
+          (let l = rounded_small (first (j / 4)) (small (j / 4) (omega arith)) in omega arith);
+      sums = λ r j pixel rin jin byte.
+          ap (summed pixel) (number r j rin jin ∙ sym (get_or-replicate 16 (4 * r + j % 4) (rounded (first (j / 4))) (pos 0) (omega arith))
+          ∙ ap (λ (zs : List ℤ). get_or zs (4 * r + j % 4) (pos 0)) (sym (are (j / 4) (omega arith))));
     }
 
+pub by_halves : (P : ℕ → Type 0) → ((j : ℕ) → j < 8 → P j) → ((j : ℕ) → j < 8 → P (8 + j)) → (k : ℕ) → k < 16 → P k
+by_halves P first second k below = elim (cases_lt k 8) [
+  | inl low ↦ first k low
+  | inr high ↦ subst P (let e : 8 + (k - 8) ≡ k = omega arith in e) (second (k - 8) (omega arith))
+]
+
 -- ---- two residues whose coefficients are small
+module _ (v : Four) (small : (r j : ℕ) → r < 4 → j < 8 → unsigned_abs (row_lane v.0 v.1 v.2 v.3 r j) ≤ 2200) (k : ℕ) (two : k < 2) (block : List ℤ) (long : length block ≡ 16) (has : HasBlock v k block) where
+  -- as they are passed
+  pub passed_block : HasBlock (handed16 v.0, handed16 v.1, handed16 v.2, handed16 v.3) k block
+  passed_block r c rin cin =
+      let j : ℕ = 2 * c + k in
+      below_four (λ i. row_lane (handed16 v.0) (handed16 v.1) (handed16 v.2) (handed16 v.3) i (2 * c + k) ≡ row_lane v.0 v.1 v.2 v.3 i (2 * c + k))
+      (passed16 v.0 j 2200 (omega arith) (small 0 j (omega arith) (omega arith))) (passed16 v.1 j 2200 (omega arith) (small 1 j (omega arith) (omega arith)))
+      (passed16 v.2 j 2200 (omega arith) (small 2 j (omega arith) (omega arith))) (passed16 v.3 j 2200 (omega arith) (small 3 j (omega arith) (omega arith))) r rin
+      ∙ has r c rin cin
+
+  pub block_small : EachWithin 2200 block
+  block_small i = elim (cases_lt i 16) [
+    | inl low ↦
+        subst (λ (z : ℤ). unsigned_abs z ≤ 2200) (has (i / 4) (i % 4) (omega arith) (omega arith) ∙ ap (λ (n : ℕ). get_or block n (pos 0)) (let e : 4 * (i / 4) + i % 4 ≡ i = omega arith in e))
+        (small (i / 4) (2 * (i % 4) + k) (omega arith) (omega arith))
+    | inr high ↦ subst (λ (z : ℤ). unsigned_abs z ≤ 2200) (sym (get_or_past block i (pos 0) (omega arith))) (omega arith)
+  ]
+
+module _ (v : Four) (block : List ℤ) (long : length block ≡ 16) where
+  a : 0 < 4
+  a = omega arith
+
+  b : 1 < 4
+  b = omega arith
+
+  c : 2 < 4
+  c = omega arith
+
+  d : 3 < 4
+  d = omega arith
+
+  pub even_is : HasBlock v 0 block → even_block v.0 v.1 v.2 v.3 ≡ block
+  even_is has =
+      sixteen (has 0 0 a a) (has 0 1 a b) (has 0 2 a c) (has 0 3 a d) (has 1 0 b a) (has 1 1 b b) (has 1 2 b c) (has 1 3 b d)
+      (has 2 0 c a) (has 2 1 c b) (has 2 2 c c) (has 2 3 c d) (has 3 0 d a) (has 3 1 d b) (has 3 2 d c) (has 3 3 d d)
+      ∙ sym (lanes_of (pos 0) 16 block long).is
+
+  pub odd_is : HasBlock v 1 block → odd_block v.0 v.1 v.2 v.3 ≡ block
+  odd_is has =
+      sixteen (has 0 0 a a) (has 0 1 a b) (has 0 2 a c) (has 0 3 a d) (has 1 0 b a) (has 1 1 b b) (has 1 2 b c) (has 1 3 b d)
+      (has 2 0 c a) (has 2 1 c b) (has 2 2 c c) (has 2 3 c d) (has 3 0 d a) (has 3 1 d b) (has 3 2 d c) (has 3 3 d d)
+      ∙ sym (lanes_of (pos 0) 16 block long).is
+
 row_first : (x y : List ℤ) (r j : ℕ) → j < 4 → lane (row_in x y r) j ≡ get_or x (4 * r + j) (pos 0)
 row_first x y r = below_four (λ j. lane (row_in x y r) j ≡ get_or x (4 * r + j) (pos 0)) refl refl refl refl
 
@@ -156,9 +170,9 @@ row_second x y r = below_four (λ j. lane (row_in x y r) (4 + j) ≡ get_or y (4
 pub idct_low : (a : List ℤ) → EachWithin 2200 a → AreLow 16 (idct a)
 idct_low a small j h = idct-within 2200 a small j
 
-pub rows_beside : (own : Residues) (k : ℕ) (x y v0 v1 v2 v3 : List ℤ) → AreLow 16 x → AreLow 16 y → HasEqualSums x (residue_in own k) → HasEqualSums y (residue_in own (k + 1))
-    → v0 ≡ row_in x y 0 → v1 ≡ row_in x y 1 → v2 ≡ row_in x y 2 → v3 ≡ row_in x y 3 → AreRows 8 v0 v1 v2 v3 (λ i. residue_in own (k + i))
-rows_beside own k x y v0 v1 v2 v3 low_x low_y is_x is_y e0 e1 e2 e3 =
+pub rows_beside : (own : ℕ → List ℤ) (x y v0 v1 v2 v3 : List ℤ) → AreLow 16 x → AreLow 16 y → HasEqualSums x (own 0) → HasEqualSums y (own 1)
+    → v0 ≡ row_in x y 0 → v1 ≡ row_in x y 1 → v2 ≡ row_in x y 2 → v3 ≡ row_in x y 3 → AreRows 8 v0 v1 v2 v3 own
+rows_beside own x y v0 v1 v2 v3 low_x low_y is_x is_y e0 e1 e2 e3 =
     let rows : (r j : ℕ) → r < 4 → row_lane v0 v1 v2 v3 r j ≡ lane (row_in x y r) j =
     λ r j rin. below_four (λ i. row_lane v0 v1 v2 v3 i j ≡ lane (row_in x y i) j)
     (ap (λ (v : List ℤ). lane v j) e0) (ap (λ (v : List ℤ). lane v j) e1) (ap (λ (v : List ℤ). lane v j) e2) (ap (λ (v : List ℤ). lane v j) e3) r rin in
@@ -174,21 +188,17 @@ rows_beside own k x y v0 v1 v2 v3 low_x low_y is_x is_y e0 e1 e2 e3 =
         | inl l ↦
             ap (summed pixel) (left r j rin l)
             ∙ is_x (4 * r + j) (omega arith) pixel byte
-            ∙ ap (summed pixel) (own_same (residue_in own) k (k + j / 4) (4 * r + j) (4 * r + j % 4) (omega arith) (omega arith))
+            ∙ ap (summed pixel) (own_same own 0 (j / 4) (4 * r + j) (4 * r + j % 4) (omega arith) (omega arith))
         | inr h ↦
             ap (summed pixel) (right r j rin h jin)
             ∙ is_y (4 * r + (j - 4)) (omega arith) pixel byte
-            ∙ ap (summed pixel) (own_same (residue_in own) (k + 1) (k + j / 4) (4 * r + (j - 4)) (4 * r + j % 4) (omega arith) (omega arith))
+            ∙ ap (summed pixel) (own_same own 1 (j / 4) (4 * r + (j - 4)) (4 * r + j % 4) (omega arith) (omega arith))
       ];
     }
 
 -- ---- a number held, which the code keeps in i16
-pub short_coded : (z : ℤ) → unsigned_abs z ≤ 255 → coded16 z ≡ z
+pub short_coded : (z : ℤ) → unsigned_abs z ≤ 8800 → coded16 z ≡ z
 short_coded z l = to_z-of_z w16 z (short16_fits z (omega arith))
-
--- sixteen times such a number
-pub sixteen_kept : (z : ℤ) (i : ℕ) → unsigned_abs z ≤ 255 → i < 16 → get_or (replicate 16 (coded16 z)) i (pos 0) ≡ z
-sixteen_kept z i l below = get_or-replicate 16 i (coded16 z) (pos 0) below ∙ short_coded z l
 
 pub held_sum : (p : ℕ) (y z : ℤ) → p ≤ 255 → y ≡ int_max (negsuc 254) (int_min z (pos 255)) → summed p y ≡ summed p z
 unfolding summed

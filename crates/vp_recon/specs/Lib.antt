@@ -7,3 +7,4 @@ pub mod Parts
 pub mod Laws
 pub mod Sums
 pub mod Given
+pub mod SegmentFactors

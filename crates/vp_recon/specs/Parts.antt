@@ -1,34 +1,64 @@
--- Private to the crate: the coefficients from which the residues of a plane's subblocks are computed.
-use Rattle.std.specs.Prelude.{◌≡◌, ℕ, ◌+◌, ◌<◌, ◌≤◌, ℤ, pos, List, ◌∷◌, replicate, Option, Some, None, slice_index_or}
-use Rattle.std.specs.Prelude.{slice_set}
-use Rattle.std.specs.Borrow.{Bor}
+-- Private to the crate: the DC coefficients of a plane's subblocks, and the residues that they are computed for.
+use Rattle.std.specs.Prelude.{◌≡◌, ℕ, ◌+◌, ◌<◌, ◌≤◌, ◌*ℤ◌, ℤ, pos, unsigned_abs, Bool, List, length, slice_index_or, if◌then◌else◌}
+use Rattle.vp_tokens.specs.declared.contexts.Tokens.{Tokens}
+use Rattle.vp_tokens.specs.Block.{Block, IsBlock}
 use Rattle.vp_tokens.specs.Blocks.{block_of}
-use Rattle.vp_quant.specs.Quant.{dequantised}
+use Rattle.vp_quant.specs.declared.factors.Factors.{Factors}
+use Rattle.vp_quant.specs.Short.{coefficients_after}
 use Rattle.vp_transform.specs.Transform.{idct}
+use Rattle.vp_recon.specs.Residue.{luma_firsts}
 use Rattle.vp_recon.specs.declared.residues.Residues.{Residues}
+use Rattle.vp_recon.specs.declared.residues.LargeResidues.{LargeResidues}
 
--- the coefficients of subblock k, whose DC coefficient comes from the Y2 block if there is one
-abbrev pub with_first : Option (Bor (List ℤ)) → ℕ → List ℤ → List ℤ
-with_first None k own = own
-with_first (Some dc_from_y2) k own = slice_set own 0 (slice_index_or dc_from_y2.now k (pos 0))
+-- a block with at most n tokens
+abbrev pub HasUpTo : ℕ → Block → Type 0
+HasUpTo n b = IsBlock b × (b.tokens ≤ n)
+
+-- ---- DC coefficients
+
+-- that of subblock k, from its own level; block `start` is that of the first subblock
+abbrev pub own_first : Tokens → ℕ → ℕ → ℕ → ℤ
+own_first t start dc k = slice_index_or (block_of t (start + k)).levels 0 (pos 0) *ℤ pos dc
+
+-- that of luma subblock k, with a Y2 block or without
+abbrev pub luma_first : Bool → Tokens → Factors → ℕ → ℤ
+luma_first y2 t f k = if y2 then slice_index_or (luma_firsts t f) k (pos 0) else own_first t 1 f.y_dc k
+
+-- those of n subblocks
+abbrev pub AreFirsts : ℕ → List ℤ → (ℕ → ℤ) → Type 0
+AreFirsts n firsts first = (k : ℕ) → k < n → slice_index_or firsts k (pos 0) ≡ first k
+
+-- those of n subblocks are from -2200 to 2200
+abbrev pub AreSmall : ℕ → List ℤ → Type 0
+AreSmall n firsts = (k : ℕ) → k < n → unsigned_abs (slice_index_or firsts k (pos 0)) ≤ 2200
+
+-- ---- residues
+
+-- the coefficients of subblock k, with these DC coefficients
+abbrev pub coefficients_by : Tokens → ℕ → List ℤ → ℕ → ℕ → List ℤ
+coefficients_by t start firsts ac k = coefficients_after (slice_index_or firsts k (pos 0)) (block_of t (start + k)).levels ac
+
+-- its residue
+abbrev pub residue_by : Tokens → ℕ → List ℤ → ℕ → ℕ → List ℤ
+residue_by t start firsts ac k = idct (coefficients_by t start firsts ac k)
+
+abbrev pub coefficients_in : Residues → ℕ → List ℤ
+coefficients_in r = coefficients_by r.tokens.now r.start r.firsts.now r.ac
+
+abbrev pub residue_in : Residues → ℕ → List ℤ
+residue_in r = residue_by r.tokens.now r.start r.firsts.now r.ac
+
+abbrev pub large_residue_in : LargeResidues → ℕ → List ℤ
+large_residue_in r = residue_by r.tokens.now r.start r.firsts r.ac
 
 -- there are n subblocks
 abbrev pub HasBlocks : Residues → ℕ → Type 0
-HasBlocks r n = (n ≤ 16) × (r.first + n ≤ 25)
+HasBlocks r n = (n ≤ length r.firsts.now) × (r.start + n ≤ 25)
 
--- the coefficients of subblock k
-abbrev pub coefficients_in : Residues → ℕ → List ℤ
-coefficients_in r k = with_first r.dc_from_y2 k (dequantised (block_of r.tokens.now (r.first + k)).levels r.dc r.ac)
-
--- the residue of subblock k
-abbrev pub residue_in : Residues → ℕ → List ℤ
-residue_in r k = idct (coefficients_in r k)
+-- subblock k has at most n tokens
+abbrev pub HasTokens : ℕ → Residues → ℕ → Type 0
+HasTokens n r k = HasUpTo n (block_of r.tokens.now (r.start + k))
 
 -- the residues of n subblocks
-abbrev pub HasResidues : ℕ → Residues → (ℕ → List ℤ) → Type 0
-HasResidues n r residue = (k : ℕ) → k < n → residue_in r k ≡ residue k
-
--- the AC coefficients of subblock k are 0
-abbrev pub IsAlone : Residues → ℕ → Type 0
-IsAlone r k = (first : ℤ) → slice_set (dequantised (block_of r.tokens.now (r.first + k)).levels 0 r.ac) 0 first
-    ≡ first ∷ replicate 15 (pos 0)
+abbrev pub HasResidues : ℕ → (ℕ → List ℤ) → (ℕ → List ℤ) → Type 0
+HasResidues n own residue = (k : ℕ) → k < n → own k ≡ residue k

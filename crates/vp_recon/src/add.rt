@@ -3,22 +3,24 @@
 ghost use Rattle.std.specs.Prelude.{◌≡◌, ℕ, ◌+◌, ◌-◌, ◌*◌, ◌<◌, ◌≤◌, true, List, ℤ, length, []};
 ghost use Rattle.std.specs.Prelude.{slice_index, slice_index_or};
 ghost use Rattle.vp_base.specs.Raster.{Raster};
-ghost use Rattle.vp_base.specs.Block.{with_block, written};
-ghost use Rattle.vp_base.specs.Image.{plane_of, with_plane};
-ghost use Rattle.vp_quant.specs.Short.{AreFactors};
+ghost use Rattle.vp_base.specs.Block.{IsWhole, with_block, written};
+ghost use Rattle.vp_base.specs.Image.{macroblocks, plane_of, with_plane};
+ghost use Rattle.vp_quant.specs.Short.{IsShortFactor};
 ghost use Rattle.vp_recon.specs.Residue.{luma_residue, chroma_residue};
 ghost use Rattle.vp_recon.specs.Rebuilt.{summed};
-ghost use Rattle.vp_recon.specs.Sums.{IsAcross, LiesAt, IsWritten, IsAdded, block_sum, row_pixel};
-ghost use Rattle.vp_recon.specs.Sums.{AreLow, AreLowRows, AreRows};
-ghost use Rattle.vp_recon.specs.Parts.{HasBlocks, HasResidues, IsAlone, residue_in};
+ghost use Rattle.vp_recon.specs.Sums.{IsAcross, LiesAt, IsWritten, IsAdded, block_sum, row_pixel, with_colours};
+ghost use Rattle.vp_recon.specs.Sums.{AreLow, AreLowRows, AreRows, HasEqualSums, IsNothing};
+ghost use Rattle.vp_recon.specs.Parts.{HasBlocks, HasResidues, HasTokens, residue_in, large_residue_in};
 ghost use Rattle.std.specs.Simd.Lanes.{put_chunk};
 ghost use Rattle.vp_lanes.specs.Lane.{lane};
 
-use crate::residue::{block_of, luma_firsts, residues_after_y2, side_by_side};
-use crate::residues::Residues;
+use crate::firsts::{large_luma_firsts, own_firsts, small_chroma_firsts, small_luma_firsts};
+use crate::residue::{side_by_side, tokens_in, y2_tokens};
+use crate::residues::{LargeResidues, Residues};
+use crate::segment_factors::SegmentFactors;
 use std::simd::prelude::*;
-use vp_base::Picture;
-use vp_quant::{Factors, ShortFactors};
+use vp_base::{Picture, Place};
+use vp_quant::ShortFactor;
 use vp_tokens::Tokens;
 
 /// Adds the luma residues of a macroblock, with a Y2 block or without, to its prediction. The macroblock begins at
@@ -29,94 +31,227 @@ pub(crate) fn add_luma(
     y: usize,
     y2: bool,
     tokens: &Tokens,
-    factors: &Factors,
+    factors: &SegmentFactors,
 )
     requires columns { x + 16 ≤ picture.old.luma.width }
     requires rows { y + 16 ≤ picture.old.luma.height }
     ensures { picture.new ≡ with_plane picture.old 0 (with_block picture.old.luma x y 16 16
         (block_sum 4 picture.old.luma x y (luma_residue y2 tokens.now factors.now))) }
 {
-    if !y2 {
-        let residues = Residues {
-            tokens,
-            first: 1,
-            dc: factors.y_dc,
-            ac: factors.y_ac,
-            dc_from_y2: None,
-        };
-        return add_residues::<4>(picture, 0, x, y, &residues);
+    know_plane(picture, 0);
+    let any = tokens_in(tokens, 1, 16);
+    if any | y2_tokens(y2, tokens) == 0 {
+        return;
     }
-    // If the Y2 block has no tokens, all DC coefficients are 0.
-    if block_of(tokens, 0).tokens == 0 {
-        let residues = Residues {
-            tokens,
-            first: 1,
-            dc: 0,
-            ac: factors.y_ac,
-            dc_from_y2: None,
-        };
-        return add_residues::<4>(picture, 0, x, y, &residues);
-    }
-    let dc_from_y2 = luma_firsts(tokens, factors);
-    let residues = residues_after_y2(tokens, factors.y_ac, &dc_from_y2);
-    add_residues::<4>(picture, 0, x, y, &residues);
+    let Some(firsts) = small_luma_firsts(y2, tokens, factors) else {
+        return add_large_luma(picture, x, y, y2, tokens, factors);
+    };
+    let residues = Residues {
+        tokens,
+        start: 1,
+        firsts: &firsts,
+        ac: factors.factors.y_ac,
+        factor: factors.y_ac,
+    };
+    add_residues::<4>(picture, 0, x, y, any, &residues);
 }
 
-/// Adds the residues of a macroblock's chroma plane to its prediction: 1 is U, 2 is V. The block begins at column
-/// `x` of row `y`.
+/// Adds the luma residues of a macroblock as `add_luma` does, for DC coefficients of any size.
+#[cold]
+#[inline(never)]
+fn add_large_luma(
+    picture: &mut Picture,
+    x: usize,
+    y: usize,
+    y2: bool,
+    tokens: &Tokens,
+    factors: &SegmentFactors,
+)
+    requires columns { x + 16 ≤ picture.old.luma.width }
+    requires rows { y + 16 ≤ picture.old.luma.height }
+    ensures { picture.new ≡ with_plane picture.old 0 (with_block picture.old.luma x y 16 16
+        (block_sum 4 picture.old.luma x y (luma_residue y2 tokens.now factors.now))) }
+{
+    let residues = LargeResidues {
+        tokens,
+        start: 1,
+        firsts: large_luma_firsts(y2, tokens, &factors.factors),
+        ac: factors.factors.y_ac,
+    };
+    add_large::<4>(picture, 0, x, y, &residues);
+}
+
+/// Adds the chroma residues of the macroblock at `place` to its prediction.
 pub(crate) fn add_chroma(
+    picture: &mut Picture,
+    place: Place,
+    tokens: &Tokens,
+    factors: &SegmentFactors,
+)
+    requires column { place.column < macroblocks picture.old.width }
+    requires row { place.row < macroblocks picture.old.height }
+    ensures { picture.new ≡ with_colours picture.old (λ k p. with_block p (8 * place.column) (8 * place.row) 8 8
+        (block_sum 2 p (8 * place.column) (8 * place.row) (chroma_residue tokens.now factors.now k))) }
+{
+    let _known = picture.dim();
+    know_plane(picture, 1);
+    know_plane(picture, 2);
+    let [u, v] = [tokens_in(tokens, 17, 4), tokens_in(tokens, 21, 4)];
+    if u | v == 0 {
+        return;
+    }
+    let Some(firsts) = small_chroma_firsts(tokens, factors) else {
+        return add_large_chroma(picture, place, tokens, factors);
+    };
+    let ac = factors.factors.uv_ac;
+    let factor = factors.uv_ac;
+    let of_u = Residues {
+        tokens,
+        start: 17,
+        firsts: &firsts[..4],
+        ac,
+        factor,
+    };
+    let [x, y] = [8 * place.column, 8 * place.row];
+    add_colour(picture, 1, x, y, u, &of_u);
+    let of_v = Residues {
+        tokens,
+        start: 21,
+        firsts: &firsts[4..],
+        ac,
+        factor,
+    };
+    add_colour(picture, 2, x, y, v, &of_v);
+}
+
+/// Adds the residues of a macroblock's chroma plane to its prediction: 1 is U, 2 is V. The block begins at column `x` of
+/// row `y`. No subblock has more than `any` tokens.
+#[inline(always)]
+fn add_colour(picture: &mut Picture, plane: usize, x: usize, y: usize, any: u8, residues: &Residues)
+    requires plane { plane < 3 }
+    requires blocks { HasBlocks residues.now 4 }
+    requires few { (i : ℕ) → i < 4 → HasTokens any residues.now i }
+    requires none { any ≡ 0 → (i : ℕ) → i < 4 → IsNothing (residue_in residues.now i) }
+    requires columns { x + 8 ≤ (plane_of picture.old plane).width }
+    requires rows { y + 8 ≤ (plane_of picture.old plane).height }
+    ensures { (residue : ℕ → List ℤ) → HasResidues 4 (residue_in residues.now) residue
+        → picture.new ≡ with_plane picture.old plane (with_block (plane_of picture.old plane) x y 8 8
+        (block_sum 2 (plane_of picture.old plane) x y residue)) }
+{
+    know_plane(picture, plane);
+    if any == 0 {
+        return;
+    }
+    add_residues::<2>(picture, plane, x, y, any, residues);
+}
+
+/// Adds the chroma residues of a macroblock as `add_chroma` does, for DC coefficients of any size.
+#[cold]
+#[inline(never)]
+fn add_large_chroma(picture: &mut Picture, place: Place, tokens: &Tokens, factors: &SegmentFactors)
+    requires column { place.column < macroblocks picture.old.width }
+    requires row { place.row < macroblocks picture.old.height }
+    ensures { picture.new ≡ with_colours picture.old (λ k p. with_block p (8 * place.column) (8 * place.row) 8 8
+        (block_sum 2 p (8 * place.column) (8 * place.row) (chroma_residue tokens.now factors.now k))) }
+{
+    let _known = picture.dim();
+    let [x, y] = [8 * place.column, 8 * place.row];
+    let ac = factors.factors.uv_ac;
+    let of_u = LargeResidues {
+        tokens,
+        start: 17,
+        firsts: own_firsts(tokens, 17, 4, factors.factors.uv_dc),
+        ac,
+    };
+    add_large::<2>(picture, 1, x, y, &of_u);
+    let of_v = LargeResidues {
+        tokens,
+        start: 21,
+        firsts: own_firsts(tokens, 21, 4, factors.factors.uv_dc),
+        ac,
+    };
+    add_large::<2>(picture, 2, x, y, &of_v);
+}
+
+/// Adds the residues of a block's subblocks, with DC coefficients of any size, to its prediction. The block begins at
+/// column `x` of row `y`, and is `ACROSS` subblocks (2 or 4) wide and high.
+fn add_large<const ACROSS: usize>(
     picture: &mut Picture,
     plane: usize,
     x: usize,
     y: usize,
-    tokens: &Tokens,
-    factors: &Factors,
+    residues: &LargeResidues,
 )
     requires plane { plane < 3 }
-    requires columns { x + 8 ≤ (plane_of picture.old plane).width }
-    requires rows { y + 8 ≤ (plane_of picture.old plane).height }
-    ensures { picture.new ≡ with_plane picture.old plane (with_block (plane_of picture.old plane) x y 8 8
-        (block_sum 2 (plane_of picture.old plane) x y (chroma_residue tokens.now factors.now plane))) }
+    requires across { IsAcross ACROSS }
+    requires blocks { residues.now.start + ACROSS * ACROSS ≤ 25 }
+    requires columns { x + 4 * ACROSS ≤ (plane_of picture.old plane).width }
+    requires rows { y + 4 * ACROSS ≤ (plane_of picture.old plane).height }
+    ensures { (residue : ℕ → List ℤ) → HasResidues (ACROSS * ACROSS) (large_residue_in residues.now) residue
+        → picture.new ≡ with_plane picture.old plane (with_block (plane_of picture.old plane) x y (4 * ACROSS)
+        (4 * ACROSS) (block_sum ACROSS (plane_of picture.old plane) x y residue)) }
 {
-    let residues = Residues {
-        tokens,
-        first: 13 + 4 * plane,
-        dc: factors.uv_dc,
-        ac: factors.uv_ac,
-        dc_from_y2: None,
-    };
-    add_residues::<2>(picture, plane, x, y, &residues);
+    know_plane(picture, plane);
+    let stride = picture.plane(plane).width();
+    let pixels = picture.pixels_mut(plane);
+    add_large_pairs::<ACROSS>(pixels, y * stride + x, stride, residues);
+}
+
+/// Adds the residues of a block's subblocks, two at a time, to its pixels. The first pixel is at index `at`; rows are
+/// `stride` apart.
+fn add_large_pairs<const ACROSS: usize>(
+    pixels: &mut [u8],
+    at: usize,
+    stride: usize,
+    residues: &LargeResidues,
+)
+    requires across { IsAcross ACROSS }
+    requires blocks { residues.now.start + ACROSS * ACROSS ≤ 25 }
+    requires room { at + (4 * ACROSS - 1) * stride + 4 * ACROSS ≤ length pixels.old }
+    ensures value { (p : Raster) (x y : ℕ) (residue : ℕ → List ℤ)
+        → HasResidues (ACROSS * ACROSS) (large_residue_in residues.now) residue
+        → LiesAt p x y (4 * ACROSS) (4 * ACROSS) pixels.old at stride
+        → pixels.new ≡ written p x y (4 * ACROSS) (4 * ACROSS) (block_sum ACROSS p x y residue) }
+    ensures len { length pixels.new ≡ length pixels.old }
+{
+    for i in 0..ACROSS * ACROSS / 2 {
+        let start = at + i / (ACROSS / 2) * (4 * stride) + i % (ACROSS / 2) * 8;
+        add_beside(
+            pixels,
+            start,
+            stride,
+            residues.kept(2 * i),
+            residues.kept(2 * i + 1),
+        );
+    }
 }
 
 /// Adds the residues of a block's subblocks to its prediction. The block begins at column `x` of row `y`, and is
-/// `ACROSS` subblocks (2 or 4) wide and high.
+/// `ACROSS` subblocks (2 or 4) wide and high. No block has more than `any` tokens.
 #[inline(always)]
 fn add_residues<const ACROSS: usize>(
     picture: &mut Picture,
     plane: usize,
     x: usize,
     y: usize,
+    any: u8,
     residues: &Residues,
 )
     requires plane { plane < 3 }
     requires across { IsAcross ACROSS }
-    requires blocks { residues.now.first + ACROSS * ACROSS ≤ 25 }
+    requires blocks { HasBlocks residues.now (ACROSS * ACROSS) }
+    requires few { (i : ℕ) → i < ACROSS * ACROSS → HasTokens any residues.now i }
     requires columns { x + 4 * ACROSS ≤ (plane_of picture.old plane).width }
     requires rows { y + 4 * ACROSS ≤ (plane_of picture.old plane).height }
-    ensures { (residue : ℕ → List ℤ) → HasResidues (ACROSS * ACROSS) residues.now residue
+    ensures { (residue : ℕ → List ℤ) → HasResidues (ACROSS * ACROSS) (residue_in residues.now) residue
         → picture.new ≡ with_plane picture.old plane (with_block (plane_of picture.old plane) x y (4 * ACROSS)
         (4 * ACROSS) (block_sum ACROSS (plane_of picture.old plane) x y residue)) }
 {
-    let _known = picture.plane(plane).height();
+    know_plane(picture, plane);
     let stride = picture.plane(plane).width();
-    know_bytes(picture.plane(plane).pixels());
-    let tokens = residues.tokens_in(0, ACROSS * ACROSS);
-    if tokens == 0 && residues.dc_from_y2.is_none() {
-        return;
-    }
     let at = y * stride + x;
     let pixels = picture.pixels_mut(plane);
-    if tokens <= 1 {
+    if any <= 1 {
         add_strips::<ACROSS, true>(pixels, at, stride, residues);
     } else {
         add_strips::<ACROSS, false>(pixels, at, stride, residues);
@@ -133,21 +268,22 @@ fn add_strips<const ACROSS: usize, const ALONE: bool>(
     residues: &Residues,
 )
     requires across { IsAcross ACROSS }
-    requires blocks { residues.now.first + ACROSS * ACROSS ≤ 25 }
-    requires alone { ALONE ≡ true → (i : ℕ) → i < ACROSS * ACROSS → IsAlone residues.now i }
+    requires blocks { HasBlocks residues.now (ACROSS * ACROSS) }
+    requires alone { ALONE ≡ true → (i : ℕ) → i < ACROSS * ACROSS → HasTokens 1 residues.now i }
     requires room { at + (4 * ACROSS - 1) * stride + 4 * ACROSS ≤ length pixels.old }
-    ensures value { (p : Raster) (x y : ℕ) (residue : ℕ → List ℤ) → HasResidues (ACROSS * ACROSS) residues.now residue
+    ensures value { (p : Raster) (x y : ℕ) (residue : ℕ → List ℤ)
+        → HasResidues (ACROSS * ACROSS) (residue_in residues.now) residue
         → LiesAt p x y (4 * ACROSS) (4 * ACROSS) pixels.old at stride
         → pixels.new ≡ written p x y (4 * ACROSS) (4 * ACROSS) (block_sum ACROSS p x y residue) }
     ensures len { length pixels.new ≡ length pixels.old }
 {
-    let factors = ShortFactors::of(residues.dc, residues.ac);
     let mut start = at;
+    let factor = residues.factor;
     for i in 0..ACROSS {
         if ALONE {
             add_firsts::<ACROSS>(pixels, start, stride, residues, ACROSS * i);
         } else {
-            add_strip::<ACROSS>(pixels, start, stride, residues, ACROSS * i, &factors);
+            add_strip::<ACROSS>(pixels, start, stride, residues, ACROSS * i, &factor);
         }
         start += 4 * stride;
     }
@@ -165,7 +301,7 @@ fn add_firsts<const ACROSS: usize>(
 )
     requires across { IsAcross ACROSS }
     requires subblocks { HasBlocks residues.now (k + ACROSS) }
-    requires alone { (i : ℕ) → i < ACROSS → IsAlone residues.now (k + i) }
+    requires alone { (i : ℕ) → i < ACROSS → HasTokens 1 residues.now (k + i) }
     requires room { at + 3 * stride + 4 * ACROSS ≤ length pixels.old }
     ensures { IsAdded (4 * ACROSS) pixels.old pixels.new at stride (λ i. residue_in residues.now (k + i)) }
 {
@@ -179,6 +315,7 @@ fn add_firsts<const ACROSS: usize>(
 }
 
 /// Adds the residues of subblocks `k` to `k + ACROSS - 1`, which are side by side. Their first pixel is at index `at`.
+/// `factor` is the AC factor, made ready.
 #[inline(always)]
 fn add_strip<const ACROSS: usize>(
     pixels: &mut [u8],
@@ -186,20 +323,21 @@ fn add_strip<const ACROSS: usize>(
     stride: usize,
     residues: &Residues,
     k: usize,
-    factors: &ShortFactors,
+    factor: &ShortFactor,
 )
     requires across { IsAcross ACROSS }
     requires subblocks { HasBlocks residues.now (k + ACROSS) }
-    requires factors { AreFactors factors.now residues.now.dc residues.now.ac }
+    requires factor { IsShortFactor factor.now residues.now.ac 2200 }
     requires room { at + 3 * stride + 4 * ACROSS ≤ length pixels.old }
     ensures { IsAdded (4 * ACROSS) pixels.old pixels.new at stride (λ i. residue_in residues.now (k + i)) }
 {
     for i in 0..ACROSS / 2 {
-        add_two(pixels, at + 8 * i, stride, residues, k + 2 * i, factors);
+        add_two(pixels, at + 8 * i, stride, residues, k + 2 * i, factor);
     }
 }
 
-/// Adds the residues of subblocks `k` and `k + 1`, which are side by side. Their first pixel is at index `at`.
+/// Adds the residues of subblocks `k` and `k + 1`, which are side by side. Their first pixel is at index `at`. `factor`
+/// is the AC factor, made ready.
 #[inline(always)]
 fn add_two(
     pixels: &mut [u8],
@@ -207,29 +345,28 @@ fn add_two(
     stride: usize,
     residues: &Residues,
     k: usize,
-    factors: &ShortFactors,
+    factor: &ShortFactor,
 )
     requires subblocks { HasBlocks residues.now (k + 2) }
-    requires factors { AreFactors factors.now residues.now.dc residues.now.ac }
+    requires factor { IsShortFactor factor.now residues.now.ac 2200 }
     requires room { at + 3 * stride + 8 ≤ length pixels.old }
     ensures { IsAdded 8 pixels.old pixels.new at stride (λ i. residue_in residues.now (k + i)) }
 {
-    let tokens = residues.tokens_in(k, 2);
-    if tokens == 0 && residues.dc_from_y2.is_none() {
-        return;
-    }
-    if tokens <= 1 {
+    if tokens_in(residues.tokens, residues.start + k, 2) <= 1 {
+        if residues.firsts[k] == 0 && residues.firsts[k + 1] == 0 {
+            return;
+        }
         return add_firsts::<2>(pixels, at, stride, residues, k);
     }
-    let Some(rows) = residues.rows_of_two(k, factors) else {
+    let Some(rows) = residues.rows_of_two(k, factor) else {
         return add_large_two(pixels, at, stride, residues, k);
     };
     let (a, b, c, d) = rows;
     add_rows::<8>(pixels, at, stride, a, b, c, d);
 }
 
-/// Adds the residues of subblocks `k` and `k + 1`, which are side by side, with coefficients of any size. Their first
-/// pixel is at index `at`.
+/// Adds the residues of subblocks `k` and `k + 1`, which are side by side, with AC coefficients of any size. Their
+/// first pixel is at index `at`.
 #[cold]
 #[inline(never)]
 fn add_large_two(pixels: &mut [u8], at: usize, stride: usize, residues: &Residues, k: usize)
@@ -237,7 +374,18 @@ fn add_large_two(pixels: &mut [u8], at: usize, stride: usize, residues: &Residue
     requires room { at + 3 * stride + 8 ≤ length pixels.old }
     ensures { IsAdded 8 pixels.old pixels.new at stride (λ i. residue_in residues.now (k + i)) }
 {
-    let (a, b, c, d) = side_by_side(residues.kept(k), residues.kept(k + 1));
+    add_beside(pixels, at, stride, residues.kept(k), residues.kept(k + 1));
+}
+
+/// Adds the numbers of two subblocks, which are side by side, to their pixels. The first pixel is at index `at`.
+fn add_beside(pixels: &mut [u8], at: usize, stride: usize, left: [i16; 16], right: [i16; 16])
+    requires room { at + 3 * stride + 8 ≤ length pixels.old }
+    requires left { AreLow 16 left }
+    requires right { AreLow 16 right }
+    ensures { (own : ℕ → List ℤ) → HasEqualSums left (own 0) → HasEqualSums right (own 1)
+        → IsAdded 8 pixels.old pixels.new at stride own }
+{
+    let (a, b, c, d) = side_by_side(left, right);
     add_rows::<8>(pixels, at, stride, a, b, c, d);
 }
 
@@ -368,3 +516,16 @@ fn rows_of(pixels: u8x16) -> [u8x4; 4]
 pub(crate) fn know_bytes(pixels: &[u8])
     ensures { (i : ℕ) → slice_index pixels.now i ≤ 255 }
 {}
+
+/// States that a plane has all its pixels and that they are bytes, for proofs: it does nothing.
+#[inline(always)]
+fn know_plane(picture: &Picture, plane: usize)
+    requires { plane < 3 }
+    ensures whole { IsWhole (plane_of picture.now plane) }
+    ensures height { (plane_of picture.now plane).height ≤ 16384 }
+    ensures bytes { (i : ℕ) → slice_index (plane_of picture.now plane).pixels i ≤ 255 }
+{
+    let plane = picture.plane(plane);
+    let _known = plane.height();
+    know_bytes(plane.pixels());
+}

@@ -4,7 +4,7 @@
 ghost use Rattle.std.specs.Prelude.{◌≡◌, ◌+◌, ◌*◌, ◌<◌, ◌≤◌, pos, not, slice_index, slice_index_or};
 ghost use Rattle.vp_base.specs.Block.{with_block};
 ghost use Rattle.vp_base.specs.Image.{macroblocks, plane_of, with_plane};
-ghost use Rattle.vp_quant.specs.Short.{AreFactors};
+ghost use Rattle.vp_quant.specs.Short.{IsShortFactor};
 ghost use Rattle.vp_recon.specs.Predictor.{Predictor, macroblock_of, has_sub_modes, has_y2};
 ghost use Rattle.vp_recon.specs.Rebuilt.{rebuilt, summed, residue_at};
 ghost use Rattle.vp_recon.specs.Residue.{residue, chroma_residue};
@@ -12,9 +12,10 @@ ghost use Rattle.vp_recon.specs.Given.{IsGiven};
 
 use crate::add::{add_chroma, add_luma, store_subblock};
 use crate::residue::with_residue;
+use crate::segment_factors::SegmentFactors;
 use std::simd::prelude::*;
 use vp_base::{Picture, Place};
-use vp_quant::{Factors, ShortFactors};
+use vp_quant::{Factors, ShortFactor};
 use vp_tokens::{Block, Tokens};
 
 /// The pixels of a macroblock, each plane in raster order.
@@ -46,49 +47,30 @@ pub fn rebuild_from(
         → picture.new ≡ rebuilt (macroblock_of source tokens.now factors.now) place picture.old }
 {
     let _known = picture.dim();
-    rebuild_chroma(picture, 1, place, &prediction.u, tokens, factors);
-    rebuild_chroma(picture, 2, place, &prediction.v, tokens, factors);
+    let factors = SegmentFactors::of(factors);
+    let [x, y] = [8 * place.column, 8 * place.row];
+    picture.write_block::<8>(1, x, y, &prediction.u);
+    picture.write_block::<8>(2, x, y, &prediction.v);
+    add_chroma(picture, place, tokens, &factors);
     let [x, y] = [16 * place.column, 16 * place.row];
     picture.write_block::<16>(0, x, y, &prediction.luma);
     if !by_subblocks {
-        add_luma(picture, x, y, true, tokens, factors);
+        add_luma(picture, x, y, true, tokens, &factors);
     }
 }
 
-/// Rebuilds a chroma plane of a macroblock: 1 is U, 2 is V.
-fn rebuild_chroma(
-    picture: &mut Picture,
-    plane: usize,
-    place: Place,
-    prediction: &[u8; 64],
-    tokens: &Tokens,
-    factors: &Factors,
-)
-    requires plane { plane < 3 }
-    requires columns { 8 * place.column + 8 ≤ (plane_of picture.old plane).width }
-    requires rows { 8 * place.row + 8 ≤ (plane_of picture.old plane).height }
-    ensures { picture.new ≡ with_plane picture.old plane (with_block (plane_of picture.old plane) (8 * place.column)
-        (8 * place.row) 8 8 (λ r c. summed (slice_index prediction.now (r * 8 + c))
-        (residue_at 2 (chroma_residue tokens.now factors.now plane) r c))) }
-{
-    let _known = [picture.plane(plane).width(), picture.plane(plane).height()];
-    let [x, y] = [8 * place.column, 8 * place.row];
-    picture.write_block::<8>(plane, x, y, prediction);
-    add_chroma(picture, plane, x, y, tokens, factors);
-}
-
 /// Rebuilds one luma subblock of a macroblock without a Y2 block from its prediction, in raster order, and its residue.
-/// `block` is its place among all luma subblocks of the picture. `short` are its factors, made ready once for all
-/// subblocks of a macroblock.
+/// `block` is its place among all luma subblocks of the picture. `short` is the AC factor, made ready once for
+/// all subblocks of a macroblock.
 pub fn rebuild_subblock_from(
     picture: &mut Picture,
     block: Place,
     prediction: &[u8; 16],
     levels: &Block,
     factors: &Factors,
-    short: &ShortFactors,
+    short: &ShortFactor,
 )
-    requires short { AreFactors short.now factors.now.y_dc factors.now.y_ac }
+    requires short { IsShortFactor short.now factors.now.y_ac 2200 }
     requires columns { 4 * block.column + 4 ≤ picture.old.luma.width }
     requires rows { 4 * block.row + 4 ≤ picture.old.luma.height }
     ensures { picture.new ≡ with_plane picture.old 0 (with_block picture.old.luma (4 * block.column) (4 * block.row) 4 4

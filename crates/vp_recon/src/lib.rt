@@ -2,6 +2,7 @@
 #![tactic(auto)]
 
 mod add;
+mod firsts;
 mod given;
 mod laws;
 mod macroblock;
@@ -9,6 +10,7 @@ mod predict;
 mod predictor;
 mod residue;
 mod residues;
+mod segment_factors;
 
 pub use given::{MacroblockPixels, rebuild_from, rebuild_subblock_from};
 pub use laws::{
@@ -16,5 +18,8 @@ pub use laws::{
     rebuilding_reads_one_row_above, unfiltered_equation_has_one_solution,
     unfiltered_picture_solves_its_equation,
 };
-pub use macroblock::{predict_macroblock, rebuild_macroblock, rebuild_subblock};
+pub use macroblock::{
+    predict_macroblock, rebuild_macroblock, rebuild_macroblock_by, rebuild_subblock,
+};
 pub use predictor::{Predictor, has_y2};
+pub use segment_factors::SegmentFactors;

@@ -10,23 +10,22 @@ ghost use Rattle.vp_recon.specs.Rebuilt.{luma_rebuilt, chroma_rebuilt, rebuilt, 
 ghost use Rattle.vp_recon.specs.Sums.{with_colours};
 ghost use Rattle.vp_tables.specs.Modes.{is_by_subblocks};
 ghost use Rattle.vp_recon.specs.Residue.{residue};
-ghost use Rattle.vp_quant.specs.Short.{AreFactors};
+ghost use Rattle.vp_quant.specs.Short.{IsShortFactor};
 
 use crate::add::{add_chroma, add_luma, know_bytes, store_subblock};
 use crate::predict::{predict_chroma, predict_luma};
 use crate::predictor::Predictor;
 use crate::residue::{block_of, with_residue};
+use crate::segment_factors::SegmentFactors;
 use std::simd::prelude::*;
 use vp_base::{Picture, Place};
 use vp_intra::predict_sub;
 use vp_modes::Modes;
-use vp_quant::{Factors, ShortFactors};
+use vp_quant::{Factors, ShortFactor};
 use vp_tables::SubMode;
 use vp_tokens::{Block, Tokens};
 
-/// Rebuilds the macroblock at `place` from its prediction and its residue (RFC 6386, chapters 12, 14.5 and 18). Not
-/// inlined: the caller's loop keeps its registers for macroblocks without tokens.
-#[inline(never)]
+/// Rebuilds the macroblock at `place` from its prediction and its residue (RFC 6386, chapters 12, 14.5 and 18).
 pub fn rebuild_macroblock(
     picture: &mut Picture,
     place: Place,
@@ -38,9 +37,37 @@ pub fn rebuild_macroblock(
     requires row { place.row < macroblocks picture.old.height }
     ensures { picture.new ≡ rebuilt (macroblock_of (predictor_of source.now) tokens.now factors.now) place picture.old }
 {
+    rebuild_macroblock_by(picture, place, source, tokens, &SegmentFactors::of(factors));
+}
+
+/// Rebuilds the macroblock at `place` as `rebuild_macroblock` does, by the factors of its segment: its luma subblock by
+/// subblock where these have intra modes of their own (B_PRED), else at once, the residue being added to the prediction
+/// where that lies. Not inlined: the caller's loop keeps its registers for macroblocks without tokens.
+#[inline(never)]
+pub fn rebuild_macroblock_by(
+    picture: &mut Picture,
+    place: Place,
+    source: &Predictor,
+    tokens: &Tokens,
+    factors: &SegmentFactors,
+)
+    requires column { place.column < macroblocks picture.old.width }
+    requires row { place.row < macroblocks picture.old.height }
+    ensures { picture.new ≡ rebuilt (macroblock_of (predictor_of source.now) tokens.now factors.now) place picture.old }
+{
     let _known = picture.dim();
-    rebuild_luma(picture, place, source, tokens, factors);
     rebuild_chroma(picture, place, source, tokens, factors);
+    let _known = [picture.plane(0).width(), picture.plane(0).height()];
+    match source {
+        Predictor::Intra(modes) if modes.luma.is_by_subblocks() => {
+            rebuild_subs(picture, place, modes, tokens, factors);
+        }
+        _ => {
+            predict_luma(picture, place, source);
+            let [x, y] = [16 * place.column, 16 * place.row];
+            add_luma(picture, x, y, source.has_y2(), tokens, factors);
+        }
+    }
 }
 
 /// Rebuilds the macroblock at `place`, which has no tokens and no intra modes of subblocks, so that its pixels are
@@ -60,40 +87,13 @@ pub fn predict_macroblock(picture: &mut Picture, place: Place, source: &Predicto
     know_bytes(picture.plane(2).pixels());
 }
 
-/// Rebuilds the luma of a macroblock: subblock by subblock where these have intra modes of their own (B_PRED), else at
-/// once, the residue being added to the prediction where that lies.
-fn rebuild_luma(
-    picture: &mut Picture,
-    place: Place,
-    source: &Predictor,
-    tokens: &Tokens,
-    factors: &Factors,
-)
-    requires columns { 16 * place.column + 16 ≤ picture.old.luma.width }
-    requires rows { 16 * place.row + 16 ≤ picture.old.luma.height }
-    ensures { picture.new ≡ with_plane picture.old 0 (luma_rebuilt
-        (macroblock_of (predictor_of source.now) tokens.now factors.now) place picture.old.luma) }
-{
-    let _known = [picture.plane(0).width(), picture.plane(0).height()];
-    match source {
-        Predictor::Intra(modes) if modes.luma.is_by_subblocks() => {
-            rebuild_subs(picture, place, modes, tokens, factors);
-        }
-        _ => {
-            predict_luma(picture, place, source);
-            let [x, y] = [16 * place.column, 16 * place.row];
-            add_luma(picture, x, y, source.has_y2(), tokens, factors);
-        }
-    }
-}
-
 /// Rebuilds the luma of a B_PRED macroblock: its subblocks have modes of their own.
 fn rebuild_subs(
     picture: &mut Picture,
     place: Place,
     modes: &Modes,
     tokens: &Tokens,
-    factors: &Factors,
+    factors: &SegmentFactors,
 )
     requires columns { 16 * place.column + 16 ≤ picture.old.luma.width }
     requires rows { 16 * place.row + 16 ≤ picture.old.luma.height }
@@ -103,14 +103,20 @@ fn rebuild_subs(
 {
     let _known = picture.plane(0).width();
     let _known = picture.plane(0).height();
-    let short = ShortFactors::of(factors.y_dc, factors.y_ac);
     for k in 0..16 {
         let block = Place {
             column: place.column * 4 + k % 4,
             row: place.row * 4 + k / 4,
         };
         let levels = block_of(tokens, 1 + k);
-        rebuild_sub(picture, block, modes.subs[k], levels, factors, &short);
+        rebuild_sub(
+            picture,
+            block,
+            modes.subs[k],
+            levels,
+            &factors.factors,
+            &factors.y_ac,
+        );
     }
 }
 
@@ -128,22 +134,22 @@ pub fn rebuild_subblock(
     ensures { picture.new ≡ with_plane picture.old 0 (with_sub picture.old.luma block mode
         (residue levels.now.levels factors.now.y_dc factors.now.y_ac)) }
 {
-    let short = ShortFactors::of(factors.y_dc, factors.y_ac);
+    let short = ShortFactor::of(factors.y_ac, 2200);
     rebuild_sub(picture, block, mode, levels, factors, &short);
 }
 
-/// Rebuilds a subblock as `rebuild_subblock` does. `short` are its factors, which are made once for a macroblock.
+/// Rebuilds a subblock as `rebuild_subblock` does. `short` is its AC factor, made ready.
 fn rebuild_sub(
     picture: &mut Picture,
     block: Place,
     mode: SubMode,
     levels: &Block,
     factors: &Factors,
-    short: &ShortFactors,
+    short: &ShortFactor,
 )
     requires columns { 4 * block.column + 4 ≤ picture.old.luma.width }
     requires rows { 4 * block.row + 4 ≤ picture.old.luma.height }
-    requires short { AreFactors short.now factors.now.y_dc factors.now.y_ac }
+    requires short { IsShortFactor short.now factors.now.y_ac 2200 }
     ensures { picture.new ≡ with_plane picture.old 0 (with_sub picture.old.luma block mode
         (residue levels.now.levels factors.now.y_dc factors.now.y_ac)) }
 {
@@ -163,7 +169,7 @@ fn rebuild_chroma(
     place: Place,
     source: &Predictor,
     tokens: &Tokens,
-    factors: &Factors,
+    factors: &SegmentFactors,
 )
     requires column { place.column < macroblocks picture.old.width }
     requires row { place.row < macroblocks picture.old.height }
@@ -171,8 +177,6 @@ fn rebuild_chroma(
         (macroblock_of (predictor_of source.now) tokens.now factors.now) k place) }
 {
     let _known = picture.dim();
-    let [x, y] = [8 * place.column, 8 * place.row];
     predict_chroma(picture, place, source);
-    add_chroma(picture, 1, x, y, tokens, factors);
-    add_chroma(picture, 2, x, y, tokens, factors);
+    add_chroma(picture, place, tokens, factors);
 }

@@ -1,9 +1,10 @@
 //! The inputs of a plane's residues.
 
-ghost use Rattle.std.specs.Prelude.{◌^◌};
-ghost use Rattle.std.specs.Option.{ForSome};
+ghost use Rattle.std.specs.Prelude.{ℕ, ◌<◌, ◌≤◌, ◌^◌, pos, length, unsigned_abs, slice_index_or};
 ghost use Rattle.vp_transform.specs.Fits.{EachWithin};
+ghost use Rattle.vp_quant.specs.Short.{IsShortFactor};
 
+use vp_quant::ShortFactor;
 use vp_tokens::Tokens;
 
 /// The inputs from which the residues of a plane's subblocks are computed.
@@ -11,12 +12,26 @@ use vp_tokens::Tokens;
 pub(crate) struct Residues<'a> {
     pub(crate) tokens: &'a Tokens,
     /// The number of the first subblock's block among all 25.
-    pub(crate) first: usize,
-    /// The factor of the DC levels.
-    pub(crate) dc: u16,
+    pub(crate) start: usize,
+    /// The DC coefficients, from -2,200 to 2,200.
+    pub(crate) firsts: &'a [i16],
     /// The factor of the AC levels.
     pub(crate) ac: u16,
-    /// The DC coefficients, if a Y2 block gives them.
-    pub(crate) dc_from_y2: Option<&'a [i64; 16]>,
-    ghost small: { ForSome dc_from_y2 (λ firsts. EachWithin (2 ^ 40) firsts.now) },
+    /// The same factor, made ready.
+    pub(crate) factor: ShortFactor,
+    ghost small: { (k : ℕ) → k < length firsts.now → unsigned_abs (slice_index_or firsts.now k (pos 0)) ≤ 2200 },
+    ghost ready: { IsShortFactor factor ac 2200 },
+}
+
+/// The inputs of residues with DC coefficients of any size.
+#[derive(Clone, Copy)]
+pub(crate) struct LargeResidues<'a> {
+    pub(crate) tokens: &'a Tokens,
+    /// The number of the first subblock's block among all 25.
+    pub(crate) start: usize,
+    /// The DC coefficients.
+    pub(crate) firsts: [i64; 16],
+    /// The factor of the AC levels.
+    pub(crate) ac: u16,
+    ghost within: { EachWithin (2 ^ 40) firsts },
 }

@@ -13,7 +13,7 @@ pub returns-then-are_below : goal.returns-then-are_below
 returns-then-are_below c j h =
     let passed = handed c.args.v (signed_param 16 c.args.v _ c.well_formed.0) j h in
     signed_out (signed_splat 16 0 (pos 0) (stands_pos 0 (omega arith))) j h
-    ∙ none_quantised _ c.args.factor _ (c.rounded_sizes-sizes.ensures j h) (c.are_below.ensures c.if-are_below.true j h)
+    ∙ none_quantised _ c.args.factor _ (c.rounded_sizes-sizes.ensures j h) (c.are_below.ensures.below c.if-are_below.true j h)
     ∙ ap (λ (z : ℤ). quantised z c.args.factor) passed
 
 pub returns : goal.returns

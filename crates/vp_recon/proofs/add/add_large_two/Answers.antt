@@ -1,15 +1,10 @@
-use Rattle.std.proofs.Common.{arith}
-use Rattle.vp_recon.proofs.SumLemmas.{rows_handed, rows_beside}
+use Rattle.std.proofs.Common.{◌+◌, ℕ, subst, arith}
+use Rattle.vp_recon.specs.Sums.{HasEqualSums}
+use Rattle.vp_recon.specs.Parts.{residue_in}
 use Rattle.vp_recon.proofs.add.add_large_two.Goals as goal
-
-pub add_rows-requires : goal.add_rows-requires
-add_rows-requires c =
-    let to = c.side_by_side.ensures in
-    let rows = rows_beside c.args.residues.now c.args.k c.kept.result c.kept-2.result _ _ _ _ c.kept.ensures.low c.kept-2.ensures.low c.kept.ensures.value c.kept-2.ensures.value to.top to.upper to.lower to.bottom in
-    (omega arith, (omega arith, (omega arith, (rows_handed 8 _ _ _ _ _ rows).low)))
 
 pub returns : goal.returns
 returns c =
-    let to = c.side_by_side.ensures in
-    let rows = rows_beside c.args.residues.now c.args.k c.kept.result c.kept-2.result _ _ _ _ c.kept.ensures.low c.kept-2.ensures.low c.kept.ensures.value c.kept-2.ensures.value to.top to.upper to.lower to.bottom in
-    c.add_rows.ensures _ (rows_handed 8 _ _ _ _ _ rows)
+    let r = c.args.residues.now in
+    let k : ℕ = c.args.k in
+    c.add_beside.ensures (λ i. residue_in r (k + i)) (subst (λ (n : ℕ). HasEqualSums c.kept.result (residue_in r n)) (omega arith) c.kept.ensures.value) c.kept-2.ensures.value

@@ -1,26 +1,32 @@
-use Rattle.std.proofs.Common.{◌≡◌, ◌∙◌, sym, ap, subst}
-use Rattle.vp_tokens.specs.Block.{Block, IsBlock}
+use Rattle.std.proofs.Common.{◌≡◌, ℕ, List, ℤ, sym, ap, subst, arith}
+use Rattle.std.proofs.lemmas.Nat.{le_or_l, le_or_r}
+use Rattle.vp_base.specs.Block.{with_block}
+use Rattle.vp_base.specs.Image.{with_plane}
+use Rattle.vp_quant.specs.declared.factors.Factors.{Factors}
 use Rattle.vp_recon.specs.Residue.{luma_residue}
-use Rattle.vp_recon.proofs.ResidueLemmas.{luma_plain, luma_without, luma_after}
+use Rattle.vp_recon.specs.Parts.{AreFirsts, luma_first}
+use Rattle.vp_recon.specs.Sums.{block_sum}
+use Rattle.vp_recon.proofs.ResidueLemmas.{luma_values, luma_nothing, block_alone}
 use Rattle.vp_recon.proofs.add.add_luma.Goals as goal
 
-pub returns-then-not-y2 : goal.returns-then-not-y2
-returns-then-not-y2 c =
+pub returns-then-any-y2_tokens-eq0 : goal.returns-then-any-y2_tokens-eq0
+returns-then-any-y2_tokens-eq0 c =
+    let p = c.args.picture.now in
     let t = c.args.tokens.now in
-    let f = c.args.factors.now in
-    c.add_residues.ensures (luma_residue c.args.y2 t f) (luma_plain t f c.args.y2 c.if-not-y2.true)
-
-pub returns-then-block_of-eq0 : goal.returns-then-block_of-eq0
-returns-then-block_of-eq0 c =
-    let t = c.args.tokens.now in
-    let f = c.args.factors.now in
-    let is : IsBlock c.block_of.result.now = subst IsBlock c.behind-tokens.view_is c.behind-tokens.invariant in
-    let none : c.block_of.result.now.tokens ≡ 0 = ap (λ (a : Block). a.tokens) (sym c.behind-tokens.view_is) ∙ c.if-block_of-eq0.true in
-    c.add_residues-then-block_of-eq0.ensures (luma_residue c.args.y2 t f) (luma_without t f c.args.y2 c.if-not-y2.false c.block_of.result.now is c.block_of.ensures none)
+    let l = le_or_l c.tokens_in-any.result c.y2_tokens.result in
+    let r = le_or_r c.tokens_in-any.result c.y2_tokens.result in
+    ap (with_plane p 0) (block_alone p.luma c.args.x c.args.y 4 (luma_residue c.args.y2 t c.args.factors.now) c.know_plane.ensures.whole c.know_plane.ensures.bytes
+    (λ k below. luma_nothing t c.args.factors.now c.args.y2 k below
+    (let own = c.tokens_in-any.ensures k below in (own.0, omega (arith, own.1, l, c.if-any-y2_tokens-eq0.true)))
+    (λ has. let own = c.y2_tokens.ensures has in (own.0, omega (arith, own.1, r, c.if-any-y2_tokens-eq0.true)))))
 
 pub returns : goal.returns
 returns c =
+    let p = c.args.picture.now in
     let t = c.args.tokens.now in
-    let f = c.args.factors.now in
-    c.add_residues-2.ensures (luma_residue c.args.y2 t f)
-    (λ k below. c.residues_after_y2-residues.ensures.value k below ∙ luma_after t f c.args.y2 c.if-not-y2.false c.luma_firsts-dc_from_y2.result c.luma_firsts-dc_from_y2.ensures.value k below)
+    let own : Factors → ℕ → List ℤ = λ f. luma_residue c.args.y2 t f in
+    let firsts : List ℤ = c.in-Some.firsts in
+    subst (λ (f : Factors). c.add_residues.new.picture ≡ with_plane p 0 (with_block p.luma c.args.x c.args.y 16 16 (block_sum 4 p.luma c.args.x c.args.y (own f)))) c.factors.view_is
+    (c.add_residues.ensures (own c.factors.inside.factors)
+    (luma_values t c.factors.inside.factors c.args.y2 firsts
+    (subst (λ (f : Factors). AreFirsts 16 firsts (luma_first c.args.y2 t f)) (sym c.factors.view_is) (c.small_luma_firsts.ensures.value firsts c.in-Some.is))))

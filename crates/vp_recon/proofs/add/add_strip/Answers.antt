@@ -14,7 +14,7 @@ pub loop-i-preserved : goal.loop-i-preserved
 loop-i-preserved g c = record {
   size = c.add_two.ensures.len ∙ c.loop-i.invariant.size;
   pixels = λ p x y lies.
-      pairs_more p x y g.row.ACROSS c.args.residues.now c.args.k c.loop-i.i c.args.pixels.now c.loop-i.pixels c.add_two.new.pixels c.args.at c.args.stride (omega arith) lies
+      pairs_more p x y g.row.ACROSS (residue_in c.args.residues.now) c.args.k c.loop-i.i c.args.pixels.now c.loop-i.pixels c.add_two.new.pixels c.args.at c.args.stride (omega arith) lies
       (c.loop-i.invariant.pixels p x y lies) c.add_two.ensures;
 }
 

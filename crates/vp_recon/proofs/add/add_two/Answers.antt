@@ -1,16 +1,20 @@
-use Rattle.std.proofs.Common.{◌≡◌, ◌∙◌, ◌+◌, refl, ap, arith, None, not}
+use Rattle.std.proofs.Common.{◌≡◌, ◌∙◌, ◌+◌, ◌<◌, ℕ, pos, length, get_or, to_z, of_z, w16, refl, sym, ap, arith}
 use Rattle.vp_recon.specs.Parts.{residue_in}
-use Rattle.vp_recon.proofs.SumLemmas.{rows_handed}
-use Rattle.vp_recon.proofs.ResidueLemmas.{not_some}
 use Rattle.vp_recon.proofs.StripLemmas.{strip_alone}
+use Rattle.vp_recon.proofs.ResidueLemmas.{two_nothing}
+use Rattle.vp_recon.proofs.SumLemmas.{short_coded, rows_handed}
 use Rattle.vp_recon.proofs.add.add_two.Goals as goal
 
-pub returns-then-is_none : goal.returns-then-is_none
-returns-then-is_none c =
-    let none : c.args.residues.now.dc_from_y2 ≡ None = not_some c.args.residues.now.dc_from_y2 (c.is_none.ensures ∙ ap not c.if-is_none.true) in
+pub returns-then-residues-k-eq0-2 : goal.returns-then-residues-k-eq0-2
+returns-then-residues-k-eq0-2 c =
+    let r = c.args.residues.now in
+    let k : ℕ = c.args.k in
+    let has = c.requires.subblocks.0 in
+    let zero : (n : ℕ) → n < length r.firsts.now → of_z w16 (get_or r.firsts.now n (pos 0)) ≡ 0 → get_or r.firsts.now n (pos 0) ≡ pos 0 =
+    λ n below e. sym (short_coded (get_or r.firsts.now n (pos 0)) (let s = r.small n below in omega arith)) ∙ ap (to_z w16) e in
     record {
-      value = λ p x y lies. strip_alone p x y 8 c.args.pixels.now c.args.at c.args.stride (λ i. residue_in c.args.residues.now (c.args.k + i)) lies
-          (λ i few. c.tokens_in-tokens.ensures.none c.if-tokens-eq0.true none i (omega arith))
+      value = λ p x y lies. strip_alone p x y 8 c.args.pixels.now c.args.at c.args.stride (λ i. residue_in r (c.args.k + i)) lies
+          (two_nothing r k c.tokens_in.result c.tokens_in.ensures c.if-tokens_in-le1.true (zero k (omega arith) c.if-residues-k-eq0.true) (zero (k + 1) (omega arith) c.if-residues-k-eq0-2.true))
           (λ i. let b = (c.type_inv.pixels i).fits in omega (arith, b));
       len = refl;
     }

@@ -15,7 +15,7 @@ idct_cut-requires c =
     let small : unsigned_abs (coded dc) ≤ 2 ^ 40 = omega (arith, ap unsigned_abs (exact dc c.requires), c.requires) in
     let coefficients : List ℤ = c.dequant-coefficients.result in
     idct_fits (2 ^ 40) (set coefficients 0 (coded dc))
-    (within_set (2 ^ 40) coefficients (coded dc)
+    (within_set (2 ^ 40) coefficients 0 (coded dc)
     (λ i. let e : unsigned_abs (get_or coefficients i (pos 0)) ≤ 2 ^ 40 = omega (arith, c.dequant-coefficients.ensures.within i) in e) small)
     (omega arith)
 

@@ -1,7 +1,8 @@
 use Rattle.std.proofs.Common.{◌≡◌, ◌∙◌, ◌+◌, ◌*◌, ◌<◌, ◌≤◌, ◌++◌, ℕ, ℤ, pos, ◌*ℤ◌, List, [], ◌∷◌, Option, Some, None, lit<, sym, ap, subst, w16, unsigned_abs, slice_index_or, arith}
+use Rattle.std.proofs.lemmas.Bool.{false≢true}
 use Rattle.vp_lanes.specs.Lane.{lane}
 use Rattle.vp_lanes.proofs.Shape.{signed_lanes}
-use Rattle.vp_quant.proofs.Products.{products, products_within, turns_handed, handed_short, left_are, right_are, left_within, right_within, coefficients_within, rows_within}
+use Rattle.vp_quant.proofs.Products.{products, products_within, turns_handed, handed_short, left_are, right_are, small_below, turns_below, left_within, right_within, coefficients_within, rows_within}
 use Rattle.vp_quant.proofs.Sixteen.{read, whole}
 use Rattle.vp_quant.specs.Short.{IsShortFactor, HasBlock, Four, in_raster, after_firsts, by_turns, coefficients_after}
 use Rattle.vp_quant.proofs.short.ShortFactor.coefficients_of_two.Goals as goal
@@ -27,10 +28,10 @@ module _ (c : goal.After-placed_rows) where
   firsts = c.args.firsts
 
   upper_below : (j : ℕ) → j < 16 → unsigned_abs (lane (read c.alternated.result.0) j) < c.args.self.now.bound
-  upper_below j h = omega (arith, c.sizes-first_sizes.ensures j h, c.larger.ensures j h, c.are_below.ensures c.if-are_below.true j h)
+  upper_below j h = omega (arith, c.sizes-first_sizes.ensures j h, c.larger.ensures j h, c.are_below.ensures.below c.if-are_below.true j h)
 
   lower_below : (j : ℕ) → j < 16 → unsigned_abs (lane (read c.alternated.result.1) j) < c.args.self.now.bound
-  lower_below j h = omega (arith, c.sizes-last_sizes.ensures j h, c.larger.ensures j h, c.are_below.ensures c.if-are_below.true j h)
+  lower_below j h = omega (arith, c.sizes-last_sizes.ensures j h, c.larger.ensures j h, c.are_below.ensures.below c.if-are_below.true j h)
 
   upper_read : read c.alternated.result.0 ≡ by_turns left right 0
   upper_read = turns_handed left right c.requires.left c.requires.right 0 c.alternated.result.0 c.alternated.ensures.upper
@@ -91,3 +92,22 @@ returns-then-are_below-clause-right c v factor most e is = has_right c v e facto
 
 pub returns-then-are_below-clause-small : goal.returns-then-are_below-clause-small
 returns-then-are_below-clause-small c v factor most e is = are_small c v e factor most is
+
+pub returns-else-are_below-clause-some : goal.returns-else-are_below-clause-some
+returns-else-are_below-clause-some c factor most is near_left near_right e =
+    let left = c.args.left in
+    let right = c.args.right in
+    let f = c.args.self.now in
+    let turns = turns_below left right f.bound (λ i h. small_below f factor most is (lane left i) (near_left i h))
+    (λ i h. small_below f factor most is (lane right i) (near_right i h)) in
+    let upper : (j : ℕ) → j < 16 → unsigned_abs (lane (read c.alternated.result.0) j) < f.bound = λ j h.
+    subst (λ (v : List ℤ). unsigned_abs (lane v j) < f.bound)
+    (sym (turns_handed left right c.requires.left c.requires.right 0 c.alternated.result.0 c.alternated.ensures.upper))
+    (turns 0 (omega arith) j h) in
+    let lower : (j : ℕ) → j < 16 → unsigned_abs (lane (read c.alternated.result.1) j) < f.bound = λ j h.
+    subst (λ (v : List ℤ). unsigned_abs (lane v j) < f.bound)
+    (sym (turns_handed left right c.requires.left c.requires.right 8 c.alternated.result.1 c.alternated.ensures.lower))
+    (turns 8 (omega arith) j h) in
+    let full = c.are_below.ensures.all
+    (λ j h. omega (arith, c.sizes-first_sizes.ensures j h, c.sizes-last_sizes.ensures j h, c.larger.ensures j h, upper j h, lower j h)) in
+    absurd (false≢true (sym c.if-are_below.false ∙ full))

@@ -1,0 +1,187 @@
+//! The DC coefficients of a plane's subblocks (RFC 6386, chapters 14.1 and 14.3).
+
+ghost use Rattle.std.specs.Prelude.{◌≡◌, ℕ, ◌+◌, ◌<◌, ◌≤◌, ◌^◌, ℤ, pos, List, Some, true, unsigned_abs, slice_index_or};
+ghost use Rattle.vp_lanes.specs.Lane.{lane};
+ghost use Rattle.vp_tokens.specs.Blocks.{block_of};
+ghost use Rattle.vp_transform.specs.Fits.{EachWithin};
+ghost use Rattle.vp_recon.specs.Residue.{luma_firsts};
+ghost use Rattle.vp_quant.specs.Short.{IsShortFactor};
+ghost use Rattle.vp_recon.specs.Parts.{AreFirsts, AreSmall, luma_first, own_first};
+
+use crate::residue::{block_of, scaled_dc};
+use crate::segment_factors::SegmentFactors;
+use std::simd::prelude::*;
+use vp_quant::{Factors, ShortFactor, dequant};
+use vp_tokens::Tokens;
+use vp_transform::{iwht, iwht_of_first, iwht_short};
+
+/// Returns the DC coefficients of luma, with a Y2 block or without, if they are small: from -2,200 to 2,200. It may also
+/// be None if a coefficient of Y2 is not from -8,191 to 8,191.
+#[inline(always)]
+pub(crate) fn small_luma_firsts(
+    y2: bool,
+    tokens: &Tokens,
+    factors: &SegmentFactors,
+) -> Option<[i16; 16]>
+    ensures value { (firsts : List ℤ) → result ≡ Some firsts
+        → AreFirsts 16 firsts (luma_first y2 tokens.now factors.now) }
+    ensures small { (firsts : List ℤ) → result ≡ Some firsts → AreSmall 16 firsts }
+{
+    if y2 {
+        firsts_from_y2(tokens, factors)
+    } else {
+        own_luma_firsts(tokens, factors)
+    }
+}
+
+/// Returns the DC coefficients of luma from the Y2 block, if they are small.
+#[inline(always)]
+fn firsts_from_y2(tokens: &Tokens, factors: &SegmentFactors) -> Option<[i16; 16]>
+    ensures value { (firsts : List ℤ) → result ≡ Some firsts → AreFirsts 16 firsts (luma_first true tokens.now factors.now) }
+    ensures small { (firsts : List ℤ) → result ≡ Some firsts → AreSmall 16 firsts }
+{
+    let block = block_of(tokens, 0);
+    let Some(first) = factors.y2_dc.product(block.levels[0]) else {
+        return None;
+    };
+    if block.tokens <= 1 {
+        return Some([iwht_of_first(i64::from(first)) as i16; 16]);
+    }
+    let Some(coefficients) = factors.y2_ac.coefficients(block.levels, first) else {
+        return None;
+    };
+    let firsts = iwht_short(&coefficients);
+    if greatest(&firsts) <= 2200 {
+        Some(firsts)
+    } else {
+        None
+    }
+}
+
+/// Returns the greatest magnitude of the numbers.
+#[inline(always)]
+fn greatest(numbers: &[i16; 16]) -> u16
+    ensures { (i : ℕ) → i < 16 → unsigned_abs (slice_index_or numbers.now i (pos 0)) ≤ result }
+{
+    let mut greatest = 0;
+    for number in numbers {
+        greatest = greatest.max(number.unsigned_abs());
+    }
+    greatest
+}
+
+/// Returns the DC coefficients of luma without a Y2 block, if they are small.
+fn own_luma_firsts(tokens: &Tokens, factors: &SegmentFactors) -> Option<[i16; 16]>
+    ensures value { (firsts : List ℤ) → result ≡ Some firsts
+        → AreFirsts 16 firsts (own_first tokens.now 1 factors.now.y_dc) }
+    ensures small { (firsts : List ℤ) → result ≡ Some firsts → AreSmall 16 firsts }
+{
+    let Some(upper) = eight_firsts(tokens, 1, &factors.y_dc) else {
+        return None;
+    };
+    let Some(lower) = eight_firsts(tokens, 9, &factors.y_dc) else {
+        return None;
+    };
+    Some(joined(i16x8::from_array(upper), i16x8::from_array(lower)))
+}
+
+/// Returns the numbers of two vectors, one after the other.
+#[inline(always)]
+fn joined(upper: i16x8, lower: i16x8) -> [i16; 16]
+    ensures upper { (j : ℕ) → j < 8 → slice_index_or result j (pos 0) ≡ lane upper j }
+    ensures lower { (j : ℕ) → j < 8 → slice_index_or result (8 + j) (pos 0) ≡ lane lower j }
+{
+    upper
+        .shuffle::<16>(
+            lower,
+            [0, 1, 2, 3, 4, 5, 6, 7, 8, 9, 10, 11, 12, 13, 14, 15],
+        )
+        .to_array()
+}
+
+/// Returns the DC coefficients of U, then those of V, if they are small.
+#[inline(always)]
+pub(crate) fn small_chroma_firsts(tokens: &Tokens, factors: &SegmentFactors) -> Option<[i16; 8]>
+    ensures value { (firsts : List ℤ) → result ≡ Some firsts
+        → AreFirsts 8 firsts (own_first tokens.now 17 factors.now.uv_dc) }
+    ensures small { (firsts : List ℤ) → result ≡ Some firsts → AreSmall 8 firsts }
+{
+    eight_firsts(tokens, 17, &factors.uv_dc)
+}
+
+/// Returns the DC coefficients of eight blocks, from block `start` on, from their own levels, if they are small.
+#[inline(always)]
+fn eight_firsts(tokens: &Tokens, start: usize, factor: &ShortFactor) -> Option<[i16; 8]>
+    requires { start + 8 ≤ 25 }
+    ensures value { (firsts : List ℤ) (dc : ℕ) → result ≡ Some firsts → IsShortFactor factor.now dc 2200
+        → AreFirsts 8 firsts (own_first tokens.now start dc) }
+    ensures small { (firsts : List ℤ) (dc : ℕ) → result ≡ Some firsts → IsShortFactor factor.now dc 2200
+        → AreSmall 8 firsts }
+{
+    factor.products(first_levels(tokens, start))
+}
+
+/// Returns the first levels of eight blocks, from block `start` on.
+#[inline(always)]
+fn first_levels(tokens: &Tokens, start: usize) -> i16x8
+    requires { start + 8 ≤ 25 }
+    ensures value { (k : ℕ) → k < 8 → lane result k
+        ≡ slice_index_or (block_of tokens.now (start + k)).levels 0 (pos 0) }
+    ensures small { (k : ℕ) → k < 8 → unsigned_abs (lane result k) ≤ 2114 }
+{
+    i16x8::from_array([
+        first_level(tokens, start),
+        first_level(tokens, start + 1),
+        first_level(tokens, start + 2),
+        first_level(tokens, start + 3),
+        first_level(tokens, start + 4),
+        first_level(tokens, start + 5),
+        first_level(tokens, start + 6),
+        first_level(tokens, start + 7),
+    ])
+}
+
+/// Returns the first level of block `n`.
+#[inline(always)]
+fn first_level(tokens: &Tokens, n: usize) -> i16
+    requires { n < 25 }
+    ensures value { result ≡ slice_index_or (block_of tokens.now n).levels 0 (pos 0) }
+    ensures small { unsigned_abs result ≤ 2114 }
+{
+    block_of(tokens, n).levels[0]
+}
+
+/// Returns the DC coefficients of luma, of any size, with a Y2 block or without.
+pub(crate) fn large_luma_firsts(y2: bool, tokens: &Tokens, factors: &Factors) -> [i64; 16]
+    ensures value { AreFirsts 16 result (luma_first y2 tokens.now factors.now) }
+    ensures within { EachWithin (2 ^ 40) result }
+{
+    if y2 {
+        luma_firsts(tokens, factors)
+    } else {
+        own_firsts(tokens, 1, 16, factors.y_dc)
+    }
+}
+
+/// Returns the DC coefficients of luma from the Y2 block, of any size.
+fn luma_firsts(tokens: &Tokens, factors: &Factors) -> [i64; 16]
+    ensures value { result ≡ luma_firsts tokens.now factors.now }
+    ensures within { EachWithin (2 ^ 40) result }
+{
+    let levels = &block_of(tokens, 0).levels;
+    iwht(&dequant(levels, factors.y2_dc, factors.y2_ac))
+}
+
+/// Returns the DC coefficients, of any size, of the `count` blocks from block `start` on, from their own levels.
+pub(crate) fn own_firsts(tokens: &Tokens, start: usize, count: usize, dc: u16) -> [i64; 16]
+    requires blocks { start + count ≤ 25 }
+    requires few { count ≤ 16 }
+    ensures value { AreFirsts count result (own_first tokens.now start dc) }
+    ensures within { EachWithin (2 ^ 40) result }
+{
+    let mut firsts = [0; 16];
+    for k in 0..count {
+        firsts[k] = scaled_dc(&block_of(tokens, start + k).levels, dc);
+    }
+    firsts
+}
