@@ -14,7 +14,7 @@ use Rattle.vp_base.specs.declared.place.Place.{Place}
 use Rattle.vp_recon.specs.declared.given.MacroblockPixels.{MacroblockPixels}
 use Rattle.vp_recon.specs.Predictor.{Macroblock}
 use Rattle.vp_recon.specs.Residue.{chroma_residue}
-use Rattle.vp_recon.specs.Prediction.{chroma_prediction}
+use Rattle.vp_recon.specs.Prediction.{chroma_prediction, chroma_predicted}
 use Rattle.vp_recon.specs.Given.{IsGiven}
 
 module _ (p now next : Image) (n : ℕ) (step : Raster → Raster) (written : next ≡ with_plane now n (step (plane_of now n))) where
@@ -84,6 +84,18 @@ module _ (p now : Image) (n x y size : ℕ) (f : ℕ → ℕ → ℕ) (columns :
       let q : Raster = with_block (plane_of p n) x y size size f in
       let step : Raster → Raster = λ s. with_block s x y size size (λ r c. summed (pixel s (x + c) (y + r)) (residue r c)) in
       plane_next p now next n step written q predicted ∙ ap (with_plane p n) (summed_block (plane_of p n) x y size f residue columns rows)
+
+-- chroma is rebuilt, and then luma
+pub chroma_half : (m : Macroblock) (place : Place) (p predicted half : Image) → let x : ℕ = 8 * place.column in let y : ℕ = 8 * place.row in
+    x + 8 ≤ p.u.width → y + 8 ≤ p.u.height → x + 8 ≤ p.v.width → y + 8 ≤ p.v.height → predicted ≡ with_colours p (λ k. chroma_predicted m.source k place)
+    → half ≡ with_colours predicted (λ k q. with_block q x y 8 8 (block_sum 2 q x y (chroma_residue m.tokens m.factors k)))
+    → half ≡ record p { u = chroma_rebuilt m 1 place p.u; v = chroma_rebuilt m 2 place p.v }
+chroma_half m place p predicted half = colours_summed p predicted half (8 * place.column) (8 * place.row) (chroma_prediction m.source 1 place p.u) (chroma_prediction m.source 2 place p.v)
+    (λ k. residue_at 2 (chroma_residue m.tokens m.factors k))
+
+pub luma_after_half : (m : Macroblock) (place : Place) (p half next : Image) → half ≡ record p { u = chroma_rebuilt m 1 place p.u; v = chroma_rebuilt m 2 place p.v }
+    → next ≡ with_plane half 0 (luma_rebuilt m place half.luma) → next ≡ rebuilt m place p
+luma_after_half m place p half next is_half is_next = is_next ∙ ap (λ (i : Image). with_plane i 0 (luma_rebuilt m place i.luma)) is_half
 
 -- the sums with a prediction that is listed
 pub sums_listed : (p : Raster) (x y n : ℕ) (ps : List ℕ) (g : ℕ → ℕ → ℕ) (residue : ℕ → ℕ → ℤ) → ps ≡ block n g

@@ -1,5 +1,6 @@
 -- Private to the crate: the DC coefficients of a plane's subblocks, and the residues that they are computed for.
-use Rattle.std.specs.Prelude.{◌≡◌, ℕ, ◌+◌, ◌<◌, ◌≤◌, ◌*ℤ◌, ℤ, pos, unsigned_abs, Bool, List, length, slice_index_or, if◌then◌else◌}
+use Rattle.std.specs.Prelude.{◌≡◌, ℕ, ◌+◌, ◌<◌, ◌≤◌, ◌*ℤ◌, ℤ, pos, unsigned_abs, Bool, List, length}
+use Rattle.std.specs.Prelude.{slice_index_or, if◌then◌else◌}
 use Rattle.vp_tokens.specs.declared.contexts.Tokens.{Tokens}
 use Rattle.vp_tokens.specs.Block.{Block, IsBlock}
 use Rattle.vp_tokens.specs.Blocks.{block_of}
@@ -36,7 +37,8 @@ AreSmall n firsts = (k : ℕ) → k < n → unsigned_abs (slice_index_or firsts 
 
 -- the coefficients of subblock k, with these DC coefficients
 abbrev pub coefficients_by : Tokens → ℕ → List ℤ → ℕ → ℕ → List ℤ
-coefficients_by t start firsts ac k = coefficients_after (slice_index_or firsts k (pos 0)) (block_of t (start + k)).levels ac
+coefficients_by t start firsts ac k =
+    coefficients_after (slice_index_or firsts k (pos 0)) (block_of t (start + k)).levels ac
 
 -- its residue
 abbrev pub residue_by : Tokens → ℕ → List ℤ → ℕ → ℕ → List ℤ

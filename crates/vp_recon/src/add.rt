@@ -103,14 +103,12 @@ pub(crate) fn add_chroma(
     let Some(firsts) = small_chroma_firsts(tokens, factors) else {
         return add_large_chroma(picture, place, tokens, factors);
     };
-    let ac = factors.factors.uv_ac;
-    let factor = factors.uv_ac;
     let of_u = Residues {
         tokens,
         start: 17,
         firsts: &firsts[..4],
-        ac,
-        factor,
+        ac: factors.factors.uv_ac,
+        factor: factors.uv_ac,
     };
     let [x, y] = [8 * place.column, 8 * place.row];
     add_colour(picture, 1, x, y, u, &of_u);
@@ -118,14 +116,14 @@ pub(crate) fn add_chroma(
         tokens,
         start: 21,
         firsts: &firsts[4..],
-        ac,
-        factor,
+        ac: factors.factors.uv_ac,
+        factor: factors.uv_ac,
     };
     add_colour(picture, 2, x, y, v, &of_v);
 }
 
-/// Adds the residues of a macroblock's chroma plane to its prediction: 1 is U, 2 is V. The block begins at column `x` of
-/// row `y`. No subblock has more than `any` tokens.
+/// Adds the residues of a macroblock's chroma plane to its prediction: 1 is U, 2 is V. The block begins at column `x`
+/// of row `y`. No subblock has more than `any` tokens.
 #[inline(always)]
 fn add_colour(picture: &mut Picture, plane: usize, x: usize, y: usize, any: u8, residues: &Residues)
     requires plane { plane < 3 }

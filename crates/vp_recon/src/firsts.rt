@@ -15,8 +15,8 @@ use vp_quant::{Factors, ShortFactor, dequant};
 use vp_tokens::Tokens;
 use vp_transform::{iwht, iwht_of_first, iwht_short};
 
-/// Returns the DC coefficients of luma, with a Y2 block or without, if they are small: from -2,200 to 2,200. It may also
-/// be None if a coefficient of Y2 is not from -8,191 to 8,191.
+/// Returns the DC coefficients of luma, with a Y2 block or without, if they are small: from -2,200 to 2,200. Also None
+/// where the Y2 block has coefficients below -8,191 or above 8,191, or its first level is too large for the AC factor.
 #[inline(always)]
 pub(crate) fn small_luma_firsts(
     y2: bool,
@@ -37,7 +37,8 @@ pub(crate) fn small_luma_firsts(
 /// Returns the DC coefficients of luma from the Y2 block, if they are small.
 #[inline(always)]
 fn firsts_from_y2(tokens: &Tokens, factors: &SegmentFactors) -> Option<[i16; 16]>
-    ensures value { (firsts : List ℤ) → result ≡ Some firsts → AreFirsts 16 firsts (luma_first true tokens.now factors.now) }
+    ensures value { (firsts : List ℤ) → result ≡ Some firsts
+        → AreFirsts 16 firsts (luma_first true tokens.now factors.now) }
     ensures small { (firsts : List ℤ) → result ≡ Some firsts → AreSmall 16 firsts }
 {
     let block = block_of(tokens, 0);

@@ -6,8 +6,7 @@ ghost use Rattle.vp_tokens.specs.declared.contexts.Tokens.{Tokens};
 ghost use Rattle.vp_tokens.specs.Blocks.{no_blocks};
 ghost use Rattle.vp_quant.specs.declared.factors.Factors.{Factors};
 ghost use Rattle.vp_recon.specs.Predictor.{macroblock_of, predictor_of, has_sub_modes, Intra};
-ghost use Rattle.vp_recon.specs.Rebuilt.{luma_rebuilt, chroma_rebuilt, rebuilt, with_sub};
-ghost use Rattle.vp_recon.specs.Sums.{with_colours};
+ghost use Rattle.vp_recon.specs.Rebuilt.{luma_rebuilt, rebuilt, with_sub};
 ghost use Rattle.vp_tables.specs.Modes.{is_by_subblocks};
 ghost use Rattle.vp_recon.specs.Residue.{residue};
 ghost use Rattle.vp_quant.specs.Short.{IsShortFactor};
@@ -40,9 +39,9 @@ pub fn rebuild_macroblock(
     rebuild_macroblock_by(picture, place, source, tokens, &SegmentFactors::of(factors));
 }
 
-/// Rebuilds the macroblock at `place` as `rebuild_macroblock` does, by the factors of its segment: its luma subblock by
-/// subblock where these have intra modes of their own (B_PRED), else at once, the residue being added to the prediction
-/// where that lies. Not inlined: the caller's loop keeps its registers for macroblocks without tokens.
+/// Rebuilds the macroblock at `place` as `rebuild_macroblock` does, by the factors of its segment. Luma is rebuilt
+/// subblock by subblock where these have intra modes of their own (B_PRED), else at once, the residue being added to the
+/// prediction where that lies. Not inlined: the caller's loop keeps its registers for macroblocks without tokens.
 #[inline(never)]
 pub fn rebuild_macroblock_by(
     picture: &mut Picture,
@@ -56,8 +55,8 @@ pub fn rebuild_macroblock_by(
     ensures { picture.new ≡ rebuilt (macroblock_of (predictor_of source.now) tokens.now factors.now) place picture.old }
 {
     let _known = picture.dim();
-    rebuild_chroma(picture, place, source, tokens, factors);
-    let _known = [picture.plane(0).width(), picture.plane(0).height()];
+    predict_chroma(picture, place, source);
+    add_chroma(picture, place, tokens, factors);
     match source {
         Predictor::Intra(modes) if modes.luma.is_by_subblocks() => {
             rebuild_subs(picture, place, modes, tokens, factors);
@@ -161,22 +160,4 @@ fn rebuild_sub(
     let prediction = u8x16::from_array(prediction);
     let pixels = with_residue(prediction, levels, factors, short);
     store_subblock(picture, x, y, pixels);
-}
-
-/// Rebuilds both chroma planes of a macroblock.
-fn rebuild_chroma(
-    picture: &mut Picture,
-    place: Place,
-    source: &Predictor,
-    tokens: &Tokens,
-    factors: &SegmentFactors,
-)
-    requires column { place.column < macroblocks picture.old.width }
-    requires row { place.row < macroblocks picture.old.height }
-    ensures { picture.new ≡ with_colours picture.old (λ k. chroma_rebuilt
-        (macroblock_of (predictor_of source.now) tokens.now factors.now) k place) }
-{
-    let _known = picture.dim();
-    predict_chroma(picture, place, source);
-    add_chroma(picture, place, tokens, factors);
 }

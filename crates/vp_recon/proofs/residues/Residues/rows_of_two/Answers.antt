@@ -11,23 +11,16 @@ use Rattle.vp_recon.proofs.residues.Residues.rows_of_two.Goals as goal
 next : (a b : ℕ) → a + b + 1 ≡ a + (b + 1)
 next a b = omega arith
 
-pub idct_interleaved-requires-clause-even : goal.idct_interleaved-requires-clause-even
-idct_interleaved-requires-clause-even c =
+pub idct_interleaved-requires : goal.idct_interleaved-requires
+idct_interleaved-requires c =
     let r = c.args.self.now in
     let to = c.coefficients_of_two.ensures in
-    (are_two r c.args.k c.in-Some.rows c.behind-self.inside.levels c.behind-self-2.inside.levels c.requires.subblocks
+    let both : AreTwo c.args.self.now c.args.k c.in-Some.rows =
+    are_two r c.args.k c.in-Some.rows c.behind-self.inside.levels c.behind-self-2.inside.levels c.requires.subblocks
     (ap (λ (b : Block). b.levels) (c.behind-self.view_is ∙ c.block_of.ensures)) (ap (λ (b : Block). b.levels) (c.behind-self-2.view_is ∙ c.block_of-2.ensures ∙ ap (block_of r.tokens.now) (next r.start c.args.k)))
     (to.left c.in-Some.rows r.ac 2200 c.in-Some.is c.requires.factor) (to.right c.in-Some.rows r.ac 2200 c.in-Some.is c.requires.factor)
-    (to.small c.in-Some.rows r.ac 2200 c.in-Some.is c.requires.factor)).even_small
-
-pub idct_interleaved-requires-clause-odd : goal.idct_interleaved-requires-clause-odd
-idct_interleaved-requires-clause-odd c =
-    let r = c.args.self.now in
-    let to = c.coefficients_of_two.ensures in
-    (are_two r c.args.k c.in-Some.rows c.behind-self.inside.levels c.behind-self-2.inside.levels c.requires.subblocks
-    (ap (λ (b : Block). b.levels) (c.behind-self.view_is ∙ c.block_of.ensures)) (ap (λ (b : Block). b.levels) (c.behind-self-2.view_is ∙ c.block_of-2.ensures ∙ ap (block_of r.tokens.now) (next r.start c.args.k)))
-    (to.left c.in-Some.rows r.ac 2200 c.in-Some.is c.requires.factor) (to.right c.in-Some.rows r.ac 2200 c.in-Some.is c.requires.factor)
-    (to.small c.in-Some.rows r.ac 2200 c.in-Some.is c.requires.factor)).odd_small
+    (to.small c.in-Some.rows r.ac 2200 c.in-Some.is c.requires.factor) in
+    record { even = both.even_small; odd = both.odd_small }
 
 pub returns : goal.returns
 returns c v is =
