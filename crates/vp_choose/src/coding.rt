@@ -19,7 +19,7 @@ use vp_base::{Picture, Place};
 use vp_modes::Modes;
 use vp_motion::Motion;
 use vp_quant::Factors;
-use vp_recon::{MacroblockPixels, rebuild_from};
+use vp_recon::{MacroblockPixels, SegmentFactors, rebuild_from};
 use vp_tokens::{Block, Tokens};
 
 /// How a macroblock is coded, and its prediction: the choice of the least cost.
@@ -73,7 +73,7 @@ impl Coding {
     pub(crate) fn complete(
         &self,
         source: &MacroblockPixels,
-        factors: &Factors,
+        factors: &SegmentFactors,
         picture: &mut Picture,
         place: Place,
     ) -> Choice
@@ -89,7 +89,7 @@ impl Coding {
         ensures rebuilt { (predictor : Predictor) → HasPrediction predictor factors.now place picture.old self.now
             → picture.new ≡ rebuilt (macroblock_of predictor result.tokens factors.now) place picture.old }
     {
-        let tokens = self.tokens(source, factors);
+        let tokens = self.tokens(source, factors.raw());
         let by_subblocks = self.subblocks.is_some();
         rebuild_from(
             picture,

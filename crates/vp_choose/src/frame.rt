@@ -3,7 +3,7 @@
 use vp_base::Picture;
 use vp_modes::Modes;
 use vp_motion::Motion;
-use vp_quant::Factors;
+use vp_recon::SegmentFactors;
 use vp_refs::Refs;
 use vp_tokens::Tokens;
 
@@ -26,7 +26,7 @@ pub struct FrameSearch<'a> {
     /// The source picture, padded to whole macroblocks by its edge pixels.
     pub source: &'a Picture,
     /// The dequantisation factors; each is at least 1.
-    pub factors: &'a Factors,
+    pub factors: &'a SegmentFactors,
     /// None for a key frame.
     pub search: Option<Search<'a>>,
 }

@@ -12,7 +12,7 @@ ghost use Rattle.vp_choose.specs.Below.{IsLumaOver, IsWholeLuma};
 use crate::subblocks::{Subblocks, choose_subblocks};
 use vp_base::{Picture, Place, Plane};
 use vp_intra::predict_luma;
-use vp_quant::Factors;
+use vp_recon::SegmentFactors;
 use vp_search::{first_least, sad16};
 use vp_tables::LumaMode;
 
@@ -79,7 +79,7 @@ fn choose_whole_luma(block: &[u8; 256], plane: &Plane, place: Place) -> IntraLum
 #[tactic(auto, using(crate::proofs::LumaModes::luma_choices))]
 pub(crate) fn choose_luma_below(
     block: &[u8; 256],
-    factors: &Factors,
+    factors: &SegmentFactors,
     picture: &mut Picture,
     place: Place,
     limit: u32,

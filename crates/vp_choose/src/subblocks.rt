@@ -4,7 +4,6 @@ ghost use Rattle.std.specs.Prelude.{◌≡◌, ℕ, ◌+◌, ◌*◌, ◌<◌, �
 ghost use Rattle.std.specs.Prelude.{false, IfSome, MatchOption};
 ghost use Rattle.vp_base.specs.Image.{with_plane};
 ghost use Rattle.vp_intra.specs.Edges.{block as listed};
-ghost use Rattle.vp_quant.specs.Short.{IsShortFactor};
 ghost use Rattle.vp_recon.specs.Rebuilt.{with_sub};
 ghost use Rattle.vp_recon.specs.Residue.{residue};
 ghost use Rattle.vp_search.specs.Differences.{sum_of_differences, block_from_rows};
@@ -17,8 +16,7 @@ ghost use Rattle.vp_choose.specs.Below.{AreSubblocksOver, IsPartlyRebuilt};
 use crate::levels::{coefficients, part_of, quantised};
 use vp_base::{Picture, Place};
 use vp_intra::predict_sub_modes;
-use vp_quant::{Factors, ShortFactor};
-use vp_recon::rebuild_subblock_from;
+use vp_recon::{SegmentFactors, rebuild_subblock_from};
 use vp_search::{cut_luma, first_least, sad4};
 use vp_tables::SubMode;
 use vp_tokens::Block;
@@ -74,19 +72,16 @@ fn costs_of(block: &[u8; 16], predictions: &[[u8; 16]; 10]) -> [u32; 10]
     costs
 }
 
-/// Chooses the mode of one subblock, and rebuilds it. `place` is its own, in columns and rows of subblocks. `short` is
-/// the AC factor of luma, made ready.
+/// Chooses the mode of one subblock, and rebuilds it. `place` is its own, in columns and rows of subblocks.
 fn choose_subblock(
     source: &[u8; 16],
-    factors: &Factors,
-    short: &ShortFactor,
+    factors: &SegmentFactors,
     picture: &mut Picture,
     place: Place,
 ) -> Subblock
     requires columns { 4 * place.column + 4 ≤ picture.old.luma.width }
     requires rows { 4 * place.row + 4 ≤ picture.old.luma.height }
     requires factors { ArePositive factors.now }
-    requires short { IsShortFactor short.now factors.now.y_ac 2200 }
     ensures mode { (f : ℕ → ℕ → ℕ) → source.now ≡ listed 4 f → IsBestMode f picture.old.luma place result.mode }
     ensures levels { (f : ℕ → ℕ → ℕ) → source.now ≡ listed 4 f
         → result.block.levels ≡ sub_levels f picture.old.luma place result.mode factors.now }
@@ -103,8 +98,9 @@ fn choose_subblock(
     let best = first_least(&costs);
     let prediction = predictions[best];
     let numbers = coefficients(source, &prediction);
-    let block = quantised(&numbers, factors.y_dc, factors.y_ac);
-    rebuild_subblock_from(picture, place, &prediction, &block, factors, short);
+    let raw = factors.raw();
+    let block = quantised(&numbers, raw.y_dc, raw.y_ac);
+    rebuild_subblock_from(picture, place, &prediction, &block, factors);
     Subblock {
         mode: ORDER[best],
         block,
@@ -116,7 +112,7 @@ fn choose_subblock(
 /// is left.
 fn choose_all(
     source: &[u8; 256],
-    factors: &Factors,
+    factors: &SegmentFactors,
     picture: &mut Picture,
     place: Place,
     limit: u32,
@@ -133,7 +129,6 @@ fn choose_all(
     ensures writable { IfSome result (λ s. AreWritable false s.blocks) }
 {
     let _known = [picture.plane(0).width(), picture.plane(0).height()];
-    let short = ShortFactor::of(factors.y_ac, 2200);
     let mut modes = [SubMode::Dc; 16];
     let mut blocks = [Block::NONE; 25];
     let mut cost = 0;
@@ -146,7 +141,7 @@ fn choose_all(
             row: place.row * 4 + k / 4,
         };
         let part = part_of::<4>(source, k);
-        let chosen = choose_subblock(&part, factors, &short, picture, here);
+        let chosen = choose_subblock(&part, factors, picture, here);
         modes[k] = chosen.mode;
         blocks[1 + k] = chosen.block;
         cost += chosen.cost;
@@ -162,7 +157,7 @@ fn choose_all(
 /// The picture is used as scratch memory and restored.
 pub(crate) fn choose_subblocks(
     source: &[u8; 256],
-    factors: &Factors,
+    factors: &SegmentFactors,
     picture: &mut Picture,
     place: Place,
     limit: u32,

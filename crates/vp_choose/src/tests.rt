@@ -11,6 +11,7 @@ use vp_base::{Dim, Limits, Picture, Place};
 use vp_head::Reference;
 use vp_motion::{Vector, VectorMap};
 use vp_quant::Factors;
+use vp_recon::SegmentFactors;
 use vp_refs::Refs;
 use vp_tables::{ChromaMode, LumaMode, SubMode, VectorMode};
 
@@ -77,7 +78,7 @@ fn bright_choice(alloc: Global, search: Option<Search<'_>>) -> Result<Seen, Fail
     let vectors = VectorMap::new(alloc, dim)?;
     let frame = FrameSearch {
         source: &source,
-        factors: &FACTORS,
+        factors: &SegmentFactors::of(&FACTORS),
         search,
     };
     let choice = choose_macroblock(&frame, &mut picture, &vectors, TOP);
@@ -166,7 +167,7 @@ fn is_chosen_still(alloc: Global, references: &Refs) -> Result<bool, Fail> {
     let vectors = VectorMap::new(alloc, dim)?;
     let frame = FrameSearch {
         source: &source,
-        factors: &FACTORS,
+        factors: &SegmentFactors::of(&FACTORS),
         search: Some(whole_search(references)),
     };
     let mut chooser = FrameChooser::new(alloc, &frame);

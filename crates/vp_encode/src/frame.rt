@@ -20,6 +20,7 @@ use vp_decode::DecoderState;
 use vp_head::Saved;
 use vp_motion::VectorMap;
 use vp_quant::Factors;
+use vp_recon::SegmentFactors;
 
 /// A frame that is chosen for a source.
 #[derive(Drop)]
@@ -86,7 +87,7 @@ pub(crate) fn choose_frame(
         (context_over dim (option_map (λ k. k.now) kept.entry)).modes f.coded) }
 {
     let source = continued(alloc, source)?;
-    let factors = Factors::of(settings.qi, &quantiser(settings.qi));
+    let factors = SegmentFactors::of(&Factors::of(settings.qi, &quantiser(settings.qi)));
     let frame = FrameSearch {
         source: &source,
         factors: &factors,

@@ -8,7 +8,7 @@ use std::process::Abort;
 use std::simd::prelude::*;
 use vp_transform::{
     cut, differences, fdct, fdct_short, fwht, fwht_short, idct, idct_cut, idct_interleaved,
-    idct_of_first, idct_short, iwht, iwht_of_first, iwht_short,
+    idct_of_dc, idct_short, iwht, iwht_of_dc, iwht_short,
 };
 
 /// The expected numbers of the second block are those of RFC 6386's own program (chapters 14.3 and 14.4).
@@ -19,8 +19,8 @@ fn inverse_examples(rt: HostRuntime) {
     let of_first = (
         iwht(&first),
         idct(&first),
-        idct_of_first(8),
-        iwht_of_first(12),
+        idct_of_dc(8),
+        iwht_of_dc(12),
     );
     let block = [
         -700, 123, -45, 6, 77, -888, 99, -10, 11, 12, -1313, 14, -15, 160, 17, -1818,

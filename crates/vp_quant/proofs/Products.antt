@@ -10,7 +10,7 @@ use mir.Val.{SFits}
 use Rattle.vp_lanes.specs.Lane.{lane}
 use Rattle.vp_lanes.proofs.Shape.{ByLane, lane_is}
 use Rattle.vp_quant.specs.Quant.{position_at, coefficient, dequantised}
-use Rattle.vp_quant.specs.Short.{IsShortFactor, HasSmallProduct, HasBlock, Four, coefficients_after, in_raster, after_firsts, by_turns}
+use Rattle.vp_quant.specs.Short.{IsShortFactor, HasSmallProduct, HasBlock, Four, coefficients_after, in_raster, after_dcs, by_turns}
 use Rattle.vp_quant.specs.declared.short.ShortFactor.{ShortFactor}
 use Rattle.vp_quant.proofs.Places.{map_within, set_within}
 use Rattle.vp_quant.proofs.Sixteen.{sixteen, below_sixteen, read, short_whole}
@@ -77,7 +77,7 @@ module _ (n : ℕ) (f : ShortFactor) (u v : List ℤ) (same : u ≡ v) (below : 
 
 -- ---- the coefficients of a block
 module _ (first : ℤ) (levels t : List ℤ) (factor : ℕ) (is : (j : ℕ) → j < 16 → lane t j ≡ lane levels j *ℤ pos factor) where
-  pub coefficients_are : in_raster (lane (after_firsts 1 (first ∷ []) t)) ≡ coefficients_after first levels factor
+  pub coefficients_are : in_raster (lane (after_dcs 1 (first ∷ []) t)) ≡ coefficients_after first levels factor
   unfolding dequantised
   coefficients_are =
       sixteen refl (is 1 (lit< tt)) (is 5 (lit< tt)) (is 6 (lit< tt)) (is 2 (lit< tt)) (is 4 (lit< tt)) (is 7 (lit< tt)) (is 12 (lit< tt))
@@ -139,15 +139,15 @@ module _ (left right : List ℤ) (bound : ℕ) (below_left : (i : ℕ) → i < 1
       (of_either (λ z. unsigned_abs z < bound) (j % 2 == 0) left right i (below_left i k) (below_right i k))
 
 -- ---- the coefficients of two blocks: the levels by turns, times the factor, are tu and tl
-module _ (left right firsts tu tl : List ℤ) (factor : ℕ) (upper : (j : ℕ) → j < 16 → lane tu j ≡ lane (by_turns left right 0) j *ℤ pos factor)
+module _ (left right dcs tu tl : List ℤ) (factor : ℕ) (upper : (j : ℕ) → j < 16 → lane tu j ≡ lane (by_turns left right 0) j *ℤ pos factor)
     (lower : (j : ℕ) → j < 16 → lane tl j ≡ lane (by_turns left right 8) j *ℤ pos factor) where
-  pub left_are : in_raster (λ p. lane (after_firsts 2 firsts tu ++ tl) (2 * p)) ≡ coefficients_after (slice_index_or firsts 0 (pos 0)) left factor
+  pub left_are : in_raster (λ p. lane (after_dcs 2 dcs tu ++ tl) (2 * p)) ≡ coefficients_after (slice_index_or dcs 0 (pos 0)) left factor
   unfolding dequantised
   left_are =
       sixteen refl (upper 2 (lit< tt)) (upper 10 (lit< tt)) (upper 12 (lit< tt)) (upper 4 (lit< tt)) (upper 8 (lit< tt)) (upper 14 (lit< tt)) (lower 8 (lit< tt))
       (upper 6 (lit< tt)) (lower 0 (lit< tt)) (lower 6 (lit< tt)) (lower 10 (lit< tt)) (lower 2 (lit< tt)) (lower 4 (lit< tt)) (lower 12 (lit< tt)) (lower 14 (lit< tt))
 
-  pub right_are : in_raster (λ p. lane (after_firsts 2 firsts tu ++ tl) (2 * p + 1)) ≡ coefficients_after (slice_index_or firsts 1 (pos 0)) right factor
+  pub right_are : in_raster (λ p. lane (after_dcs 2 dcs tu ++ tl) (2 * p + 1)) ≡ coefficients_after (slice_index_or dcs 1 (pos 0)) right factor
   unfolding dequantised
   right_are =
       sixteen refl (upper 3 (lit< tt)) (upper 11 (lit< tt)) (upper 13 (lit< tt)) (upper 5 (lit< tt)) (upper 9 (lit< tt)) (upper 15 (lit< tt)) (lower 9 (lit< tt))

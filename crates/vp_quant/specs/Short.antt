@@ -17,9 +17,9 @@ IsShortFactor f factor most =
 abbrev pub HasSmallProduct : ℤ → ℕ → ℕ → Type 0
 HasSmallProduct level factor most = unsigned_abs level * max factor 1 ≤ most
 
--- the coefficients of a block, in raster order: `first`, and the AC levels times the factor
+-- the coefficients of a block, in raster order: `dc`, and the AC levels times the factor
 abbrev pub coefficients_after : ℤ → List ℤ → ℕ → List ℤ
-coefficients_after first levels factor = slice_set (dequantised levels 0 factor) 0 first
+coefficients_after dc levels factor = slice_set (dequantised levels 0 factor) 0 dc
 
 -- four rows
 abbrev pub Four : Type 0
@@ -37,9 +37,9 @@ HasBlock rows k block =
 abbrev pub in_raster : (ℕ → ℤ) → List ℤ
 in_raster number = map (λ place. number (position_at place)) (range_with_len 0 16)
 
--- the first n are those of `firsts`, the others those of `numbers`
-abbrev pub after_firsts : ℕ → List ℤ → List ℤ → List ℤ
-after_firsts n firsts numbers = map (λ j. if nat_lt j n then lane firsts j else lane numbers j) (range_with_len 0 16)
+-- the first n are those of `dcs`, the others those of `numbers`
+abbrev pub after_dcs : ℕ → List ℤ → List ℤ → List ℤ
+after_dcs n dcs numbers = map (λ j. if nat_lt j n then lane dcs j else lane numbers j) (range_with_len 0 16)
 
 -- by turns, eight numbers of each block from number `start` on
 abbrev pub by_turns : List ℤ → List ℤ → ℕ → List ℤ

@@ -4,7 +4,7 @@ ghost use Rattle.std.specs.Prelude.{◌≡◌, ◌≢◌, ℕ, ◌+◌, ◌*◌,
 ghost use Rattle.std.specs.Prelude.{unsigned_abs, slice_index_or};
 ghost use Rattle.vp_lanes.specs.Lane.{lane};
 ghost use Rattle.vp_quant.specs.Short.{IsShortFactor, HasSmallProduct, HasBlock, Four, coefficients_after};
-ghost use Rattle.vp_quant.specs.Short.{in_raster, after_firsts, by_turns};
+ghost use Rattle.vp_quant.specs.Short.{in_raster, after_dcs, by_turns};
 
 use crate::magnitudes::{are_below, eight_are_below, larger, sizes};
 use std::simd::prelude::*;
@@ -66,44 +66,44 @@ impl ShortFactor {
         }
     }
 
-    /// The coefficients of a block in raster order: `first`, then the AC levels times the factor, if the product of
+    /// The coefficients of a block in raster order: `dc`, then the AC levels times the factor, if the product of
     /// each level is from -`most` to `most`. The levels are in zigzag order, and none is -32,768.
     #[inline(always)]
-    pub fn coefficients(&self, levels: [i16; 16], first: i16) -> Option<[i16; 16]>
+    pub fn coefficients(&self, levels: [i16; 16], dc: i16) -> Option<[i16; 16]>
         requires { (i : ℕ) → unsigned_abs (slice_index_or levels i (pos 0)) ≤ 32767 }
         ensures value { (block : List ℤ) (factor most : ℕ) → result ≡ Some block → IsShortFactor self.now factor most
-            → block ≡ coefficients_after first levels factor }
+            → block ≡ coefficients_after dc levels factor }
         ensures small { (block : List ℤ) (factor most : ℕ) → result ≡ Some block → IsShortFactor self.now factor most
-            → unsigned_abs first ≤ most → (i : ℕ) → unsigned_abs (slice_index_or block i (pos 0)) ≤ most }
+            → unsigned_abs dc ≤ most → (i : ℕ) → unsigned_abs (slice_index_or block i (pos 0)) ≤ most }
         ensures some { (factor most : ℕ) → IsShortFactor self.now factor most
             → ((i : ℕ) → i < 16 → HasSmallProduct (slice_index_or levels i (pos 0)) factor most) → result ≢ None }
     {
         let levels = i16x16::from_array(levels);
         if are_below(sizes(levels), self.bound) {
-            Some(placed(with_first(times(levels, self.factor), first)).to_array())
+            Some(placed(with_dc(times(levels, self.factor), dc)).to_array())
         } else {
             None
         }
     }
 
     /// The coefficients of two blocks, in four rows of eight numbers, those of `left` in the even lanes: their
-    /// `firsts`, then their AC levels times the factor, if the product of each level is from -`most` to `most`. The
+    /// `dcs`, then their AC levels times the factor, if the product of each level is from -`most` to `most`. The
     /// levels are in zigzag order, and none is -32,768.
     #[inline(always)]
     pub fn coefficients_of_two(
         &self,
         left: [i16; 16],
         right: [i16; 16],
-        firsts: [i16; 2],
+        dcs: [i16; 2],
     ) -> Option<(i16x8, i16x8, i16x8, i16x8)>
         requires left { (i : ℕ) → unsigned_abs (slice_index_or left i (pos 0)) ≤ 32767 }
         requires right { (i : ℕ) → unsigned_abs (slice_index_or right i (pos 0)) ≤ 32767 }
         ensures left { (v : Four) (factor most : ℕ) → result ≡ Some v → IsShortFactor self.now factor most
-            → HasBlock v 0 (coefficients_after (slice_index_or firsts 0 (pos 0)) left factor) }
+            → HasBlock v 0 (coefficients_after (slice_index_or dcs 0 (pos 0)) left factor) }
         ensures right { (v : Four) (factor most : ℕ) → result ≡ Some v → IsShortFactor self.now factor most
-            → HasBlock v 1 (coefficients_after (slice_index_or firsts 1 (pos 0)) right factor) }
+            → HasBlock v 1 (coefficients_after (slice_index_or dcs 1 (pos 0)) right factor) }
         ensures small { (v : Four) (factor most : ℕ) → result ≡ Some v → IsShortFactor self.now factor most
-            → ((i : ℕ) → i < 2 → unsigned_abs (slice_index_or firsts i (pos 0)) ≤ most)
+            → ((i : ℕ) → i < 2 → unsigned_abs (slice_index_or dcs i (pos 0)) ≤ most)
             → (r j : ℕ) → r < 4 → j < 8
             → unsigned_abs (lane (slice_index_or (v.0 ∷ v.1 ∷ v.2 ∷ v.3 ∷ []) r []) j) ≤ most }
         ensures some { (factor most : ℕ) → IsShortFactor self.now factor most
@@ -114,7 +114,7 @@ impl ShortFactor {
         let first_sizes = sizes(upper);
         let last_sizes = sizes(lower);
         if are_below(larger(first_sizes, last_sizes), self.bound) {
-            let upper = with_firsts(times(upper, self.factor), firsts);
+            let upper = with_dcs(times(upper, self.factor), dcs);
             let lower = times(lower, self.factor);
             Some(placed_rows(upper, lower))
         } else {
@@ -140,24 +140,24 @@ fn alternated(left: [i16; 16], right: [i16; 16]) -> (i16x16, i16x16)
 }
 
 /// The lanes with another number in the first.
-fn with_first(v: i16x16, first: i16) -> i16x16
-    ensures { result ≡ after_firsts 1 (first ∷ []) v }
+fn with_dc(v: i16x16, dc: i16) -> i16x16
+    ensures { result ≡ after_dcs 1 (dc ∷ []) v }
 {
     v.shuffle::<16>(
-        i16x16::splat(first),
+        i16x16::splat(dc),
         [16, 1, 2, 3, 4, 5, 6, 7, 8, 9, 10, 11, 12, 13, 14, 15],
     )
 }
 
 /// The lanes with other numbers in the first two.
-fn with_firsts(v: i16x16, firsts: [i16; 2]) -> i16x16
-    ensures { result ≡ after_firsts 2 firsts v }
+fn with_dcs(v: i16x16, dcs: [i16; 2]) -> i16x16
+    ensures { result ≡ after_dcs 2 dcs v }
 {
-    let firsts = i16x2::from_array(firsts).swizzle::<16>([
+    let dcs = i16x2::from_array(dcs).swizzle::<16>([
         0, 1, 0, 1, 0, 1, 0, 1, 0, 1, 0, 1, 0, 1, 0, 1,
     ]);
     v.shuffle::<16>(
-        firsts,
+        dcs,
         [16, 17, 2, 3, 4, 5, 6, 7, 8, 9, 10, 11, 12, 13, 14, 15],
     )
 }

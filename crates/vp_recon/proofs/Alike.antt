@@ -52,15 +52,15 @@ module _ (p q : Raster) (x y n : ℕ) (xfits : x + n ≤ p.width) (yfits : y + n
       (λ low. at_edge x 129 (pixel p (x - 1) (y - 1)) (pixel q (x - 1) (y - 1))
       (λ right. same (x - 1) (y - 1) (omega arith) (omega arith) (omega arith) (omega arith) (omega arith) (λ h. omega arith)))
 
-  firsts_alike : (f g : ℕ → ℕ) → ((k : ℕ) → k < n → f k ≡ g k) → first n f ≡ first n g
-  firsts_alike f g alike = fill_by_all g (first n f) n 0 (length-map-range_with_len f 0 n)
+  dcs_alike : (f g : ℕ → ℕ) → ((k : ℕ) → k < n → f k ≡ g k) → first n f ≡ first n g
+  dcs_alike f g alike = fill_by_all g (first n f) n 0 (length-map-range_with_len f 0 n)
       (λ k below. get_or-map-range_with_len f 0 n k k 0 below (omega arith) ∙ alike k below)
 
   edge_alike : edge p x y n ≡ edge q x y n
   unfolding edge
   edge_alike =
-      let above : first n (above_pixel p x y) ≡ first n (above_pixel q x y) = firsts_alike (above_pixel p x y) (above_pixel q x y) above_alike in
-      let left : first n (left_pixel p x y) ≡ first n (left_pixel q x y) = firsts_alike (left_pixel p x y) (left_pixel q x y) left_alike in
+      let above : first n (above_pixel p x y) ≡ first n (above_pixel q x y) = dcs_alike (above_pixel p x y) (above_pixel q x y) above_alike in
+      let left : first n (left_pixel p x y) ≡ first n (left_pixel q x y) = dcs_alike (left_pixel p x y) (left_pixel q x y) left_alike in
       cc
 
   motion_alike : (r c : ℕ) → r < n → c < n → true_motion p x y r c ≡ true_motion q x y r c

@@ -1,6 +1,5 @@
 -- The coefficients of blocks with few tokens or with none, and of blocks whose first one stands apart.
-use Rattle.std.proofs.Common.{◌≡◌, ◌∙◌, refl, ◌*ℤ◌, ◌+ℤ◌, ℕ, zero, suc, ◌-◌, ◌≤◌, ℤ, pos, List, [], ◌∷◌, get_or, set, take, drop, length, replicate, unsigned_abs, sym, ap, arith, inl, inr, false, true, Bool, ◌<◌, ◌+◌, ◌^◌, subst, ◌*◌, ◌/◌, ◌%◌}
-use lib.Signed.{shr_z as floor_div}
+use Rattle.std.proofs.Common.{◌≡◌, ◌∙◌, refl, ◌*ℤ◌, ℕ, zero, suc, ◌-◌, ◌≤◌, ℤ, pos, List, [], ◌∷◌, get_or, set, take, drop, length, replicate, unsigned_abs, sym, ap, arith, inl, inr, false, true, Bool, ◌<◌, ◌+◌, ◌^◌, subst, ◌*◌, ◌/◌, ◌%◌}
 use Rattle.std.proofs.lemmas.Bool.{cases_lt}
 use Rattle.std.proofs.lemmas.List.{ext_get_or, get_or-replicate, get_or_past, get_or-take, get_or-drop, length-take}
 use Rattle.std.proofs.Math.IntN.{zero-*ℤ}
@@ -12,20 +11,20 @@ use Rattle.vp_quant.specs.Quant.{dequantised}
 use Rattle.vp_tokens.specs.Blocks.{block_of, no_blocks}
 use Rattle.vp_tokens.specs.declared.contexts.Tokens.{Tokens}
 use Rattle.vp_quant.specs.declared.factors.Factors.{Factors}
-use Rattle.vp_recon.specs.Residue.{residue, luma_firsts, luma_coefficients, luma_residue, chroma_residue}
+use Rattle.vp_recon.specs.Residue.{residue, luma_dcs, luma_coefficients, luma_residue, chroma_residue}
 use Rattle.vp_quant.specs.Short.{HasBlock, coefficients_after}
-use Rattle.vp_recon.specs.declared.residues.Residues.{Residues}
+use Rattle.vp_recon.specs.declared.residue_inputs.Residues.{Residues}
 use Rattle.std.proofs.lemmas.Simd.{get_or-chunk}
 use lib.Lanes.{chunk}
 use Rattle.vp_lanes.specs.Lane.{lane}
 use Rattle.vp_transform.proofs.Eights.{coded16, handed16, passed16}
 use Rattle.vp_recon.specs.Sums.{AreRows, Four, row_lane}
 use Rattle.vp_transform.specs.Pair.{even_block, odd_block}
-use Rattle.vp_recon.proofs.SumLemmas.{rows_handed, even_rows, short_coded, passed_block, block_small, even_is, odd_is}
-use Rattle.vp_recon.specs.Parts.{HasBlocks, HasTokens, coefficients_in, residue_in, HasUpTo, AreFirsts, HasResidues, luma_first, own_first, residue_by}
+use Rattle.vp_recon.proofs.SumLemmas.{rows_handed, flat_rows, short_coded, passed_block, block_small, even_is, odd_is}
+use Rattle.vp_recon.specs.Parts.{HasBlocks, HasTokens, coefficients_in, residue_in, HasUpTo, AreDcs, HasResidues, luma_dc, own_dc, residue_by}
 use Rattle.vp_recon.specs.Rebuilt.{summed, residue_at, luma_made, chroma_made, luma_rebuilt, chroma_rebuilt, rebuilt}
 use Rattle.vp_transform.proofs.Words.{coded, read}
-use Rattle.vp_transform.proofs.Sizes.{fits-below, rounded-at_most}
+use Rattle.vp_transform.proofs.Sizes.{fits-below}
 use Rattle.vp_recon.specs.Sums.{IsNothing, AreBlockBytes, block_sum, with_colours}
 use Rattle.vp_recon.proofs.Parts.{was, sub_below, with_block_of}
 use Rattle.vp_base.specs.Block.{IsWhole, with_block}
@@ -80,8 +79,8 @@ module _ (b : Block) (is : IsBlock b) where
   pub no_residue : (dc ac : ℕ) → b.tokens ≡ 0 → residue b.levels dc ac ≡ replicate 16 (pos 0)
   no_residue dc ac none = ap idct (no_coefficients dc ac none) ∙ idct-first_alone (pos 0)
 
-  pub no_firsts : (dc ac : ℕ) → b.tokens ≡ 0 → iwht (dequantised b.levels dc ac) ≡ replicate 16 (pos 0)
-  no_firsts dc ac none = ap iwht (no_coefficients dc ac none) ∙ iwht-first_alone (pos 0)
+  pub no_dcs : (dc ac : ℕ) → b.tokens ≡ 0 → iwht (dequantised b.levels dc ac) ≡ replicate 16 (pos 0)
+  no_dcs dc ac none = ap iwht (no_coefficients dc ac none) ∙ iwht-first_alone (pos 0)
 
 -- a first coefficient from its own level
 pub from_level : (levels : List ℤ) (dc ac : ℕ) (first : ℤ) → first ≡ get_or levels 0 (pos 0) *ℤ pos dc → coefficients_after first levels ac ≡ dequantised levels dc ac
@@ -98,20 +97,20 @@ coefficients_long first levels ac = refl
 
 -- a row of residues of subblocks with DC coefficients only
 pub alone_rows : (r : Residues) (k m : ℕ) (row : List ℤ) → HasBlocks r (k + m) → ((i : ℕ) → i < m → HasTokens 1 r (k + i))
-    → ((i j : ℕ) → i < m → j < 4 → lane row (4 * i + j) ≡ rounded (get_or r.firsts.now (k + i) (pos 0)))
+    → ((i j : ℕ) → i < m → j < 4 → lane row (4 * i + j) ≡ rounded (get_or r.dcs.now (k + i) (pos 0)))
     → AreRows (4 * m) (handed16 row) (handed16 row) (handed16 row) (handed16 row) (λ i. residue_in r (k + i))
 alone_rows r k m row has alone lanes =
     rows_handed (4 * m) row row row row (λ i. residue_in r (k + i))
-    (even_rows (4 * m) row (λ i. get_or r.firsts.now (k + i) (pos 0)) (λ i. residue_in r (k + i)) (λ i j iin jin. lanes i j (omega arith) jin) (λ i iin. r.small (k + i) (omega (arith, has.0)))
-    (λ i iin. even_residue (block_of r.tokens.now (r.start + (k + i))) (alone i (omega arith)) (get_or r.firsts.now (k + i) (pos 0)) r.ac))
+    (flat_rows (4 * m) row (λ i. get_or r.dcs.now (k + i) (pos 0)) (λ i. residue_in r (k + i)) (λ i j iin jin. lanes i j (omega arith) jin) (λ i iin. r.small (k + i) (omega (arith, has.0)))
+    (λ i iin. even_residue (block_of r.tokens.now (r.start + (k + i))) (alone i (omega arith)) (get_or r.dcs.now (k + i) (pos 0)) r.ac))
 
 -- four DC coefficients that are loaded
-pub loaded : (firsts : List ℤ) (k j : ℕ) → j < 4 → k + j < length firsts → unsigned_abs (get_or firsts (k + j) (pos 0)) ≤ 2200
-    → lane (handed16 (chunk 0 4 (take (length firsts - k) (drop k firsts)))) j ≡ get_or firsts (k + j) (pos 0)
-loaded firsts k j four below small =
-    let xs : List ℤ = take (length firsts - k) (drop k firsts) in
-    let is : get_or (chunk 0 4 xs) j (pos 0) ≡ get_or firsts (k + j) (pos 0) =
-    get_or-chunk 0 4 xs j (pos 0) four ∙ ap (λ (i : ℕ). get_or xs i (pos 0)) (let e : 0 + j ≡ j = omega arith in e) ∙ get_or-take (length firsts - k) (drop k firsts) j (pos 0) (omega arith) ∙ get_or-drop k firsts j (pos 0) in
+pub loaded : (dcs : List ℤ) (k j : ℕ) → j < 4 → k + j < length dcs → unsigned_abs (get_or dcs (k + j) (pos 0)) ≤ 2200
+    → lane (handed16 (chunk 0 4 (take (length dcs - k) (drop k dcs)))) j ≡ get_or dcs (k + j) (pos 0)
+loaded dcs k j four below small =
+    let xs : List ℤ = take (length dcs - k) (drop k dcs) in
+    let is : get_or (chunk 0 4 xs) j (pos 0) ≡ get_or dcs (k + j) (pos 0) =
+    get_or-chunk 0 4 xs j (pos 0) four ∙ ap (λ (i : ℕ). get_or xs i (pos 0)) (let e : 0 + j ≡ j = omega arith in e) ∙ get_or-take (length dcs - k) (drop k dcs) j (pos 0) (omega arith) ∙ get_or-drop k dcs j (pos 0) in
     passed16 (chunk 0 4 xs) j 2200 (omega arith) (subst (λ (z : ℤ). unsigned_abs z ≤ 2200) (sym is) small) ∙ is
 
 -- the coefficients of two subblocks, as they are passed in four rows
@@ -122,19 +121,19 @@ pub record AreTwo (r : Residues) (k : ℕ) (v : Four) : Type 0 where
   pub odd_small : EachWithin 2200 (odd_block (handed16 v.0) (handed16 v.1) (handed16 v.2) (handed16 v.3))
 
 pub are_two : (r : Residues) (k : ℕ) (v : Four) (left right : List ℤ) → HasBlocks r (k + 2) → left ≡ (block_of r.tokens.now (r.start + k)).levels → right ≡ (block_of r.tokens.now (r.start + (k + 1))).levels
-    → HasBlock v 0 (coefficients_after (coded16 (get_or r.firsts.now k (pos 0))) left r.ac) → HasBlock v 1 (coefficients_after (coded16 (get_or r.firsts.now (k + 1) (pos 0))) right r.ac)
-    → (((i : ℕ) → i < 2 → unsigned_abs (get_or (coded16 (get_or r.firsts.now k (pos 0)) ∷ coded16 (get_or r.firsts.now (k + 1) (pos 0)) ∷ []) i (pos 0)) ≤ 2200)
+    → HasBlock v 0 (coefficients_after (coded16 (get_or r.dcs.now k (pos 0))) left r.ac) → HasBlock v 1 (coefficients_after (coded16 (get_or r.dcs.now (k + 1) (pos 0))) right r.ac)
+    → (((i : ℕ) → i < 2 → unsigned_abs (get_or (coded16 (get_or r.dcs.now k (pos 0)) ∷ coded16 (get_or r.dcs.now (k + 1) (pos 0)) ∷ []) i (pos 0)) ≤ 2200)
     → (s j : ℕ) → s < 4 → j < 8 → unsigned_abs (row_lane v.0 v.1 v.2 v.3 s j) ≤ 2200) → AreTwo r k v
 are_two r k v left right has is_left is_right has_left has_right small =
-    let first : (n : ℕ) → n < length r.firsts.now → coded16 (get_or r.firsts.now n (pos 0)) ≡ get_or r.firsts.now n (pos 0) =
-    λ n below. short_coded (get_or r.firsts.now n (pos 0)) (let s = r.small n below in omega arith) in
-    let same : (n : ℕ) (levels : List ℤ) → n < length r.firsts.now → levels ≡ (block_of r.tokens.now (r.start + n)).levels
-    → coefficients_after (coded16 (get_or r.firsts.now n (pos 0))) levels r.ac ≡ coefficients_in r n =
-    λ n levels below is. ap (λ (z : ℤ). coefficients_after z levels r.ac) (first n below) ∙ ap (λ (zs : List ℤ). coefficients_after (get_or r.firsts.now n (pos 0)) zs r.ac) is in
+    let first : (n : ℕ) → n < length r.dcs.now → coded16 (get_or r.dcs.now n (pos 0)) ≡ get_or r.dcs.now n (pos 0) =
+    λ n below. short_coded (get_or r.dcs.now n (pos 0)) (let s = r.small n below in omega arith) in
+    let same : (n : ℕ) (levels : List ℤ) → n < length r.dcs.now → levels ≡ (block_of r.tokens.now (r.start + n)).levels
+    → coefficients_after (coded16 (get_or r.dcs.now n (pos 0))) levels r.ac ≡ coefficients_in r n =
+    λ n levels below is. ap (λ (z : ℤ). coefficients_after z levels r.ac) (first n below) ∙ ap (λ (zs : List ℤ). coefficients_after (get_or r.dcs.now n (pos 0)) zs r.ac) is in
     let has_k = has.0 in
-    let small_first : (n : ℕ) → n < length r.firsts.now → unsigned_abs (coded16 (get_or r.firsts.now n (pos 0))) ≤ 2200 = λ n below. subst (λ (z : ℤ). unsigned_abs z ≤ 2200) (sym (first n below)) (r.small n below) in
+    let small_first : (n : ℕ) → n < length r.dcs.now → unsigned_abs (coded16 (get_or r.dcs.now n (pos 0))) ≤ 2200 = λ n below. subst (λ (z : ℤ). unsigned_abs z ≤ 2200) (sym (first n below)) (r.small n below) in
     let all = small (two_first small_first has_k) in
-    let long = λ (n : ℕ). coefficients_long (get_or r.firsts.now n (pos 0)) (block_of r.tokens.now (r.start + n)).levels r.ac in
+    let long = λ (n : ℕ). coefficients_long (get_or r.dcs.now n (pos 0)) (block_of r.tokens.now (r.start + n)).levels r.ac in
     let l : HasBlock v 0 (coefficients_in r k) = subst (HasBlock v 0) (same k left (omega arith) is_left) has_left in
     let o : HasBlock v 1 (coefficients_in r (k + 1)) = subst (HasBlock v 1) (same (k + 1) right (omega arith) is_right) has_right in
     let passed : Four = (handed16 v.0, handed16 v.1, handed16 v.2, handed16 v.3) in
@@ -147,53 +146,48 @@ are_two r k v left right has is_left is_right has_left has_right small =
       odd_small = subst (EachWithin 2200) (sym odd) (block_small v all 1 (omega arith) (coefficients_in r (k + 1)) (long (k + 1)) o);
     }
   where
-    two_first : ((n : ℕ) → n < length r.firsts.now → unsigned_abs (coded16 (get_or r.firsts.now n (pos 0))) ≤ 2200) → k + 2 ≤ length r.firsts.now → (i : ℕ) → i < 2
-        → unsigned_abs (get_or (coded16 (get_or r.firsts.now k (pos 0)) ∷ coded16 (get_or r.firsts.now (k + 1) (pos 0)) ∷ []) i (pos 0)) ≤ 2200
+    two_first : ((n : ℕ) → n < length r.dcs.now → unsigned_abs (coded16 (get_or r.dcs.now n (pos 0))) ≤ 2200) → k + 2 ≤ length r.dcs.now → (i : ℕ) → i < 2
+        → unsigned_abs (get_or (coded16 (get_or r.dcs.now k (pos 0)) ∷ coded16 (get_or r.dcs.now (k + 1) (pos 0)) ∷ []) i (pos 0)) ≤ 2200
     two_first all room zero below = all k (omega arith)
     two_first all room (suc zero) below = all (k + 1) (omega arith)
     two_first all room (suc (suc i)) below = absurd (omega arith)
 
 -- the DC coefficients of luma from the Y2 block, whose own is made from the level that the code has
-module _ (t : Tokens) (f g : Factors) (b : Block) (first : ℤ) (same : g ≡ f) (here : b ≡ block_of t 0) (is : IsBlock b) (made : first ≡ coded16 (get_or b.levels 0 (pos 0)) *ℤ pos g.y2_dc) where
-  pub y2_values : luma_firsts t f ≡ iwht (coefficients_after first b.levels g.y2_ac)
-  unfolding luma_firsts
+module _ (t : Tokens) (f g : Factors) (b : Block) (first : ℤ) (same : g ≡ f) (here : b ≡ block_of t 0) (is : IsBlock b) (made : first ≡ get_or b.levels 0 (pos 0) *ℤ pos g.y2_dc) where
+  pub y2_values : luma_dcs t f ≡ iwht (coefficients_after first b.levels g.y2_ac)
+  unfolding luma_dcs
   y2_values =
       ap iwht (ap (λ (a : Block). dequantised a.levels f.y2_dc f.y2_ac) (sym here) ∙ ap (λ (h : Factors). dequantised b.levels h.y2_dc h.y2_ac) (sym same)
-      ∙ sym (from_level b.levels g.y2_dc g.y2_ac first (made ∙ ap (λ (z : ℤ). z *ℤ pos g.y2_dc) (short_coded (get_or b.levels 0 (pos 0)) (let w = is.within 0 in omega (arith, w))))))
+      ∙ sym (from_level b.levels g.y2_dc g.y2_ac first made))
 
   -- the first alone
-  pub y2_even : (z : ℤ) → b.tokens ≤ 1 → iwht (first ∷ replicate 15 (pos 0)) ≡ replicate 16 z → luma_firsts t f ≡ replicate 16 z
+  pub y2_even : (z : ℤ) → b.tokens ≤ 1 → iwht (first ∷ replicate 15 (pos 0)) ≡ replicate 16 z → luma_dcs t f ≡ replicate 16 z
   y2_even z few even = y2_values ∙ ap iwht (sym (first_alone b is first g.y2_ac few)) ∙ even
-
-pub y2_small : (first z : ℤ) → unsigned_abs first ≤ 8191 → iwht (first ∷ replicate 15 (pos 0)) ≡ replicate 16 z → unsigned_abs z ≤ 1024
-y2_small first z small even =
-    let is : floor_div (first +ℤ pos 3) 8 ≡ z = ap (λ (zs : List ℤ). get_or zs 0 (pos 0)) (sym (iwht-first_alone first) ∙ even) in
-    subst (λ (y : ℤ). unsigned_abs y ≤ 1024) is (rounded-at_most first 3 1024 (omega arith) (record { size = omega arith })).size
 
 pub nothing_of : (zs : List ℤ) → zs ≡ replicate 16 (pos 0) → IsNothing zs
 nothing_of zs is i below = ap (λ (ys : List ℤ). get_or ys i (pos 0)) is ∙ get_or-replicate 16 i (pos 0) (pos 0) below
 
 -- ---- the planes of a macroblock
 module _ (t : Tokens) (f : Factors) where
-  pub luma_values : (y2 : Bool) (firsts : List ℤ) → AreFirsts 16 firsts (luma_first y2 t f) → HasResidues 16 (residue_by t 1 firsts f.y_ac) (luma_residue y2 t f)
+  pub luma_values : (y2 : Bool) (dcs : List ℤ) → AreDcs 16 dcs (luma_dc y2 t f) → HasResidues 16 (residue_by t 1 dcs f.y_ac) (luma_residue y2 t f)
   unfolding luma_residue luma_coefficients dequantised
-  luma_values true firsts are k below = ap (λ (z : ℤ). idct (coefficients_after z (block_of t (1 + k)).levels f.y_ac)) (are k below)
-  luma_values false firsts are k below = ap idct (from_level (block_of t (1 + k)).levels f.y_dc f.y_ac (get_or firsts k (pos 0)) (are k below))
+  luma_values true dcs are k below = ap (λ (z : ℤ). idct (coefficients_after z (block_of t (1 + k)).levels f.y_ac)) (are k below)
+  luma_values false dcs are k below = ap idct (from_level (block_of t (1 + k)).levels f.y_dc f.y_ac (get_or dcs k (pos 0)) (are k below))
 
-  pub chroma_values : (plane : ℕ) (firsts : List ℤ) → AreFirsts 4 firsts (own_first t (13 + 4 * plane) f.uv_dc)
-      → HasResidues 4 (residue_by t (13 + 4 * plane) firsts f.uv_ac) (chroma_residue t f plane)
+  pub chroma_values : (plane : ℕ) (dcs : List ℤ) → AreDcs 4 dcs (own_dc t (13 + 4 * plane) f.uv_dc)
+      → HasResidues 4 (residue_by t (13 + 4 * plane) dcs f.uv_ac) (chroma_residue t f plane)
   unfolding chroma_residue
-  chroma_values plane firsts are k below = ap idct (from_level (block_of t (13 + 4 * plane + k)).levels f.uv_dc f.uv_ac (get_or firsts k (pos 0)) (are k below))
+  chroma_values plane dcs are k below = ap idct (from_level (block_of t (13 + 4 * plane + k)).levels f.uv_dc f.uv_ac (get_or dcs k (pos 0)) (are k below))
 
   -- without tokens there is no residue
   pub luma_nothing : (y2 : Bool) (k : ℕ) → k < 16 → HasUpTo 0 (block_of t (1 + k)) → (y2 ≡ true → HasUpTo 0 (block_of t 0)) → IsNothing (luma_residue y2 t f k)
-  unfolding luma_residue luma_coefficients luma_firsts
+  unfolding luma_residue luma_coefficients luma_dcs
   luma_nothing false k below none no_y2 = nothing_of _ (no_residue (block_of t (1 + k)) none.0 f.y_dc f.y_ac (omega (arith, none.1)))
   luma_nothing true k below none no_y2 =
       let y2 = no_y2 refl in
       let levels : List ℤ = (block_of t (1 + k)).levels in
       nothing_of _
-      (ap (λ (zs : List ℤ). idct (set (dequantised levels f.y_dc f.y_ac) 0 (get_or zs k (pos 0)))) (no_firsts (block_of t 0) y2.0 f.y2_dc f.y2_ac (omega (arith, y2.1)))
+      (ap (λ (zs : List ℤ). idct (set (dequantised levels f.y_dc f.y_ac) 0 (get_or zs k (pos 0)))) (no_dcs (block_of t 0) y2.0 f.y2_dc f.y2_ac (omega (arith, y2.1)))
       ∙ ap (λ (z : ℤ). idct (set (dequantised levels f.y_dc f.y_ac) 0 z)) (get_or-replicate 16 k (pos 0) (pos 0) below)
       ∙ ap (λ (zs : List ℤ). idct (set zs 0 (pos 0))) (no_coefficients (block_of t (1 + k)) none.0 f.y_dc f.y_ac (omega (arith, none.1)))
       ∙ idct-first_alone (pos 0))
@@ -203,36 +197,36 @@ module _ (t : Tokens) (f : Factors) where
   chroma_nothing plane k none = nothing_of _ (no_residue (block_of t (13 + 4 * plane + k)) none.0 f.uv_dc f.uv_ac (omega (arith, none.1)))
 
 -- the DC coefficients of U, and then those of V
-module _ (t : Tokens) (f g : Factors) (same : g ≡ f) (firsts : List ℤ) (are : AreFirsts 8 firsts (own_first t 17 f.uv_dc)) where
-  pub u_values : HasResidues 4 (residue_by t 17 (take 4 firsts) g.uv_ac) (chroma_residue t f 1)
+module _ (t : Tokens) (f g : Factors) (same : g ≡ f) (dcs : List ℤ) (are : AreDcs 8 dcs (own_dc t 17 f.uv_dc)) where
+  pub u_values : HasResidues 4 (residue_by t 17 (take 4 dcs) g.uv_ac) (chroma_residue t f 1)
   u_values =
-      subst (λ (h : Factors). HasResidues 4 (residue_by t 17 (take 4 firsts) h.uv_ac) (chroma_residue t f 1)) (sym same)
-      (chroma_values t f 1 (take 4 firsts) (λ k below. get_or-take 4 firsts k (pos 0) below ∙ are k (omega arith)))
+      subst (λ (h : Factors). HasResidues 4 (residue_by t 17 (take 4 dcs) h.uv_ac) (chroma_residue t f 1)) (sym same)
+      (chroma_values t f 1 (take 4 dcs) (λ k below. get_or-take 4 dcs k (pos 0) below ∙ are k (omega arith)))
 
-  pub v_values : HasResidues 4 (residue_by t 21 (take 4 (drop 4 firsts)) g.uv_ac) (chroma_residue t f 2)
+  pub v_values : HasResidues 4 (residue_by t 21 (take 4 (drop 4 dcs)) g.uv_ac) (chroma_residue t f 2)
   v_values =
-      subst (λ (h : Factors). HasResidues 4 (residue_by t 21 (take 4 (drop 4 firsts)) h.uv_ac) (chroma_residue t f 2)) (sym same)
-      (chroma_values t f 2 (take 4 (drop 4 firsts))
-      (λ k below. get_or-take 4 (drop 4 firsts) k (pos 0) below ∙ get_or-drop 4 firsts k (pos 0) ∙ are (4 + k) (omega arith)
+      subst (λ (h : Factors). HasResidues 4 (residue_by t 21 (take 4 (drop 4 dcs)) h.uv_ac) (chroma_residue t f 2)) (sym same)
+      (chroma_values t f 2 (take 4 (drop 4 dcs))
+      (λ k below. get_or-take 4 (drop 4 dcs) k (pos 0) below ∙ get_or-drop 4 dcs k (pos 0) ∙ are (4 + k) (omega arith)
       ∙ ap (λ (n : ℕ). get_or (block_of t n).levels 0 (pos 0) *ℤ pos f.uv_dc) (let e : 17 + (4 + k) ≡ 21 + k = omega arith in e)))
 
 -- four DC coefficients are small
-pub four_small : (firsts : List ℤ) → ((k : ℕ) → k < 4 → unsigned_abs (get_or firsts k (pos 0)) ≤ 2200) → (k : ℕ) → k < length (take 4 firsts) → unsigned_abs (get_or (take 4 firsts) k (pos 0)) ≤ 2200
-four_small firsts small k below =
-    let few : k < 4 = omega (arith, length-take 4 firsts) in
-    subst (λ (z : ℤ). unsigned_abs z ≤ 2200) (sym (get_or-take 4 firsts k (pos 0) few)) (small k few)
+pub four_small : (dcs : List ℤ) → ((k : ℕ) → k < 4 → unsigned_abs (get_or dcs k (pos 0)) ≤ 2200) → (k : ℕ) → k < length (take 4 dcs) → unsigned_abs (get_or (take 4 dcs) k (pos 0)) ≤ 2200
+four_small dcs small k below =
+    let few : k < 4 = omega (arith, length-take 4 dcs) in
+    subst (λ (z : ℤ). unsigned_abs z ≤ 2200) (sym (get_or-take 4 dcs k (pos 0) few)) (small k few)
 
 -- two subblocks of which no coefficient is other than 0
-pub two_nothing : (r : Residues) (k n : ℕ) → ((i : ℕ) → i < 2 → HasUpTo n (block_of r.tokens.now (r.start + k + i))) → n ≤ 1 → get_or r.firsts.now k (pos 0) ≡ pos 0 → get_or r.firsts.now (k + 1) (pos 0) ≡ pos 0
+pub two_nothing : (r : Residues) (k n : ℕ) → ((i : ℕ) → i < 2 → HasUpTo n (block_of r.tokens.now (r.start + k + i))) → n ≤ 1 → get_or r.dcs.now k (pos 0) ≡ pos 0 → get_or r.dcs.now (k + 1) (pos 0) ≡ pos 0
     → (i : ℕ) → 4 * i < 8 → IsNothing (residue_in r (k + i))
 two_nothing r k n has few first second i below =
     let own = has i (omega arith) in
     let one : HasUpTo 1 (block_of r.tokens.now (r.start + (k + i))) =
     subst (λ (j : ℕ). HasUpTo 1 (block_of r.tokens.now j)) (let e : r.start + k + i ≡ r.start + (k + i) = omega arith in e) (own.0, omega (arith, own.1)) in
-    nothing_of _ (even_residue (block_of r.tokens.now (r.start + (k + i))) one (get_or r.firsts.now (k + i) (pos 0)) r.ac ∙ ap (λ (z : ℤ). replicate 16 (rounded z)) (zero_first i below))
+    nothing_of _ (even_residue (block_of r.tokens.now (r.start + (k + i))) one (get_or r.dcs.now (k + i) (pos 0)) r.ac ∙ ap (λ (z : ℤ). replicate 16 (rounded z)) (zero_first i below))
   where
-    zero_first : (j : ℕ) → 4 * j < 8 → get_or r.firsts.now (k + j) (pos 0) ≡ pos 0
-    zero_first zero under = ap (λ (m : ℕ). get_or r.firsts.now m (pos 0)) (let e : k + 0 ≡ k = omega arith in e) ∙ first
+    zero_first : (j : ℕ) → 4 * j < 8 → get_or r.dcs.now (k + j) (pos 0) ≡ pos 0
+    zero_first zero under = ap (λ (m : ℕ). get_or r.dcs.now m (pos 0)) (let e : k + 0 ≡ k = omega arith in e) ∙ first
     zero_first (suc zero) under = second
     zero_first (suc (suc j)) under = absurd (omega arith)
 

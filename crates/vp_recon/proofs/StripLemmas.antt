@@ -211,6 +211,18 @@ strip_alone p x y n bytes at stride own lies nothing byte =
     ap (summed (was p x y r c)) (nothing (c / 4) (omega arith) (4 * r + c % 4) (omega arith))
     ∙ summed-zero (was p x y r c) (let e = ap (λ (ns : List ℕ). get_or ns ((y + r) * p.width + (x + c)) 0) lies.same in let b = byte ((y + r) * p.width + (x + c)) in omega (arith, e, b)))))
 
+-- of other names for the same residues
+pub added_alike : (n : ℕ) (old new : List ℕ) (at stride : ℕ) (own other : ℕ → List ℤ) → ((i : ℕ) → 4 * i < n → own i ≡ other i)
+    → IsAdded n old new at stride own → IsAdded n old new at stride other
+added_alike n old new at stride own other same to = record {
+  value = λ p x y lies.
+      to.value p x y lies
+      ∙ ap (λ (q : Raster). q.pixels)
+      (with_block_same p x y n 4 (strip_sum p x y own) (strip_sum p x y other)
+      (λ r c rin cin. ap (λ (zs : List ℤ). summed (pixel p (x + c) (y + r)) (get_or zs (4 * r + c % 4) (pos 0))) (same (c / 4) (omega arith))));
+  len = to.len;
+}
+
 -- a strip's last row ends within the bytes
 pub strip_room : (across i at start stride size : ℕ) → i < across → at + (4 * across - 1) * stride + 4 * across ≤ size → start ≡ at + i * (4 * stride)
     → start + 3 * stride + 4 * across ≤ size

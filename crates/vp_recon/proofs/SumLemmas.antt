@@ -98,9 +98,9 @@ pub rounded_small : (first : ℤ) → unsigned_abs first ≤ 2200 → unsigned_a
 rounded_small first small = (rounded-at_most first 4 275 (omega arith) (record { size = omega arith })).size
 
 -- the residue of each DC coefficient four times
-pub even_rows : (n : ℕ) (row : List ℤ) (first : ℕ → ℤ) (own : ℕ → List ℤ) → ((i j : ℕ) → 4 * i < n → j < 4 → lane row (4 * i + j) ≡ rounded (first i))
+pub flat_rows : (n : ℕ) (row : List ℤ) (first : ℕ → ℤ) (own : ℕ → List ℤ) → ((i j : ℕ) → 4 * i < n → j < 4 → lane row (4 * i + j) ≡ rounded (first i))
     → ((i : ℕ) → 4 * i < n → unsigned_abs (first i) ≤ 2200) → ((i : ℕ) → 4 * i < n → own i ≡ replicate 16 (rounded (first i))) → AreRows n row row row row own
-even_rows n row first own lanes small are =
+flat_rows n row first own lanes small are =
     let number : (r j : ℕ) → r < 4 → j < n → row_lane row row row row r j ≡ rounded (first (j / 4)) =
     λ r j rin jin. even row r j rin ∙ ap (λ (k : ℕ). lane row k) (let e : j ≡ 4 * (j / 4) + j % 4 = omega arith in e) ∙ lanes (j / 4) (j % 4) (omega arith) (omega arith) in
     record {

@@ -7,9 +7,9 @@ use Rattle.vp_tokens.specs.Blocks.{block_of}
 use Rattle.vp_quant.specs.declared.factors.Factors.{Factors}
 use Rattle.vp_quant.specs.Short.{coefficients_after}
 use Rattle.vp_transform.specs.Transform.{idct}
-use Rattle.vp_recon.specs.Residue.{luma_firsts}
-use Rattle.vp_recon.specs.declared.residues.Residues.{Residues}
-use Rattle.vp_recon.specs.declared.residues.LargeResidues.{LargeResidues}
+use Rattle.vp_recon.specs.Residue.{luma_dcs}
+use Rattle.vp_recon.specs.declared.residue_inputs.Residues.{Residues}
+use Rattle.vp_recon.specs.declared.residue_inputs.LargeResidues.{LargeResidues}
 
 -- a block with at most n tokens
 abbrev pub HasUpTo : ℕ → Block → Type 0
@@ -18,44 +18,44 @@ HasUpTo n b = IsBlock b × (b.tokens ≤ n)
 -- ---- DC coefficients
 
 -- that of subblock k, from its own level; block `start` is that of the first subblock
-abbrev pub own_first : Tokens → ℕ → ℕ → ℕ → ℤ
-own_first t start dc k = slice_index_or (block_of t (start + k)).levels 0 (pos 0) *ℤ pos dc
+abbrev pub own_dc : Tokens → ℕ → ℕ → ℕ → ℤ
+own_dc t start dc k = slice_index_or (block_of t (start + k)).levels 0 (pos 0) *ℤ pos dc
 
 -- that of luma subblock k, with a Y2 block or without
-abbrev pub luma_first : Bool → Tokens → Factors → ℕ → ℤ
-luma_first y2 t f k = if y2 then slice_index_or (luma_firsts t f) k (pos 0) else own_first t 1 f.y_dc k
+abbrev pub luma_dc : Bool → Tokens → Factors → ℕ → ℤ
+luma_dc y2 t f k = if y2 then slice_index_or (luma_dcs t f) k (pos 0) else own_dc t 1 f.y_dc k
 
 -- those of n subblocks
-abbrev pub AreFirsts : ℕ → List ℤ → (ℕ → ℤ) → Type 0
-AreFirsts n firsts first = (k : ℕ) → k < n → slice_index_or firsts k (pos 0) ≡ first k
+abbrev pub AreDcs : ℕ → List ℤ → (ℕ → ℤ) → Type 0
+AreDcs n dcs first = (k : ℕ) → k < n → slice_index_or dcs k (pos 0) ≡ first k
 
 -- those of n subblocks are from -2200 to 2200
 abbrev pub AreSmall : ℕ → List ℤ → Type 0
-AreSmall n firsts = (k : ℕ) → k < n → unsigned_abs (slice_index_or firsts k (pos 0)) ≤ 2200
+AreSmall n dcs = (k : ℕ) → k < n → unsigned_abs (slice_index_or dcs k (pos 0)) ≤ 2200
 
 -- ---- residues
 
 -- the coefficients of subblock k, with these DC coefficients
 abbrev pub coefficients_by : Tokens → ℕ → List ℤ → ℕ → ℕ → List ℤ
-coefficients_by t start firsts ac k =
-    coefficients_after (slice_index_or firsts k (pos 0)) (block_of t (start + k)).levels ac
+coefficients_by t start dcs ac k =
+    coefficients_after (slice_index_or dcs k (pos 0)) (block_of t (start + k)).levels ac
 
 -- its residue
 abbrev pub residue_by : Tokens → ℕ → List ℤ → ℕ → ℕ → List ℤ
-residue_by t start firsts ac k = idct (coefficients_by t start firsts ac k)
+residue_by t start dcs ac k = idct (coefficients_by t start dcs ac k)
 
 abbrev pub coefficients_in : Residues → ℕ → List ℤ
-coefficients_in r = coefficients_by r.tokens.now r.start r.firsts.now r.ac
+coefficients_in r = coefficients_by r.tokens.now r.start r.dcs.now r.ac
 
 abbrev pub residue_in : Residues → ℕ → List ℤ
-residue_in r = residue_by r.tokens.now r.start r.firsts.now r.ac
+residue_in r = residue_by r.tokens.now r.start r.dcs.now r.ac
 
 abbrev pub large_residue_in : LargeResidues → ℕ → List ℤ
-large_residue_in r = residue_by r.tokens.now r.start r.firsts r.ac
+large_residue_in r = residue_by r.tokens.now r.start r.dcs r.ac
 
 -- there are n subblocks
 abbrev pub HasBlocks : Residues → ℕ → Type 0
-HasBlocks r n = (n ≤ length r.firsts.now) × (r.start + n ≤ 25)
+HasBlocks r n = (n ≤ length r.dcs.now) × (r.start + n ≤ 25)
 
 -- subblock k has at most n tokens
 abbrev pub HasTokens : ℕ → Residues → ℕ → Type 0

@@ -13,14 +13,14 @@ abbrev pub residue : List ℤ → ℕ → ℕ → List ℤ
 residue levels dc ac = idct (dequantised levels dc ac)
 
 -- the DC coefficients of the sixteen luma subblocks, from the Y2 block (chapter 14.3)
-unfoldable pub luma_firsts : Tokens → Factors → List ℤ
-luma_firsts t f = iwht (dequantised (block_of t 0).levels f.y2_dc f.y2_ac)
+unfoldable pub luma_dcs : Tokens → Factors → List ℤ
+luma_dcs t f = iwht (dequantised (block_of t 0).levels f.y2_dc f.y2_ac)
 
 -- the coefficients of luma subblock k, with a Y2 block or without
 unfoldable pub luma_coefficients : Bool → Tokens → Factors → ℕ → List ℤ
 luma_coefficients y2 t f k =
     let own = dequantised (block_of t (1 + k)).levels f.y_dc f.y_ac in
-    if y2 then slice_set own 0 (slice_index_or (luma_firsts t f) k (pos 0)) else own
+    if y2 then slice_set own 0 (slice_index_or (luma_dcs t f) k (pos 0)) else own
 
 -- the residue of luma subblock k, in raster order
 unfoldable pub luma_residue : Bool → Tokens → Factors → ℕ → List ℤ

@@ -2,11 +2,10 @@
 use Rattle.vp_quant.specs.Short.{IsShortFactor}
 use Rattle.vp_recon.specs.declared.segment_factors.SegmentFactors.TheInside.{Inside}
 
--- each is made ready: that of Y2 for coefficients from -8191 to 8191, the others for -2200 to 2200
+-- each is made ready: that of Y2's AC levels for products from -8191 to 8191, the others for -2200 to 2200
 pub record IsReady (s : Inside) : Type 0 where
-  pub y2_dc : IsShortFactor s.y2_dc s.factors.y2_dc 8191
-  pub y2_ac : IsShortFactor s.y2_ac s.factors.y2_ac 8191
-  pub y_dc : IsShortFactor s.y_dc s.factors.y_dc 2200
-  pub y_ac : IsShortFactor s.y_ac s.factors.y_ac 2200
-  pub uv_dc : IsShortFactor s.uv_dc s.factors.uv_dc 2200
-  pub uv_ac : IsShortFactor s.uv_ac s.factors.uv_ac 2200
+  pub y2_ac : IsShortFactor s.y2_ac s.raw.y2_ac 8191
+  pub y_dc : IsShortFactor s.y_dc s.raw.y_dc 2200
+  pub y_ac : IsShortFactor s.y_ac s.raw.y_ac 2200
+  pub uv_dc : IsShortFactor s.uv_dc s.raw.uv_dc 2200
+  pub uv_ac : IsShortFactor s.uv_ac s.raw.uv_ac 2200

@@ -14,9 +14,9 @@ ghost use Rattle.vp_recon.specs.Parts.{HasBlocks, HasResidues, HasTokens, residu
 ghost use Rattle.std.specs.Simd.Lanes.{put_chunk};
 ghost use Rattle.vp_lanes.specs.Lane.{lane};
 
-use crate::firsts::{large_luma_firsts, own_firsts, small_chroma_firsts, small_luma_firsts};
-use crate::residue::{side_by_side, tokens_in, y2_tokens};
-use crate::residues::{LargeResidues, Residues};
+use crate::dc_coefficients::{large_luma_dcs, own_dcs, small_chroma_dcs, small_luma_dcs};
+use crate::residue::{ends_in, side_by_side, y2_end};
+use crate::residue_inputs::{LargeResidues, Residues};
 use crate::segment_factors::SegmentFactors;
 use std::simd::prelude::*;
 use vp_base::{Picture, Place};
@@ -39,21 +39,21 @@ pub(crate) fn add_luma(
         (block_sum 4 picture.old.luma x y (luma_residue y2 tokens.now factors.now))) }
 {
     know_plane(picture, 0);
-    let any = tokens_in(tokens, 1, 16);
-    if any | y2_tokens(y2, tokens) == 0 {
+    let ends = ends_in(tokens, 1, 16);
+    if (ends | y2_end(y2, tokens)) == 0 {
         return;
     }
-    let Some(firsts) = small_luma_firsts(y2, tokens, factors) else {
+    let Some(dcs) = small_luma_dcs(y2, tokens, factors) else {
         return add_large_luma(picture, x, y, y2, tokens, factors);
     };
     let residues = Residues {
         tokens,
         start: 1,
-        firsts: &firsts,
-        ac: factors.factors.y_ac,
+        dcs: &dcs,
+        ac: factors.raw.y_ac,
         factor: factors.y_ac,
     };
-    add_residues::<4>(picture, 0, x, y, any, &residues);
+    add_residues::<4>(picture, 0, x, y, ends, &residues);
 }
 
 /// Adds the luma residues of a macroblock as `add_luma` does, for DC coefficients of any size.
@@ -75,8 +75,9 @@ fn add_large_luma(
     let residues = LargeResidues {
         tokens,
         start: 1,
-        firsts: large_luma_firsts(y2, tokens, &factors.factors),
-        ac: factors.factors.y_ac,
+        dcs: large_luma_dcs(y2, tokens, &factors.raw),
+        ac: factors.raw.y_ac,
+        factor: factors.y_ac,
     };
     add_large::<4>(picture, 0, x, y, &residues);
 }
@@ -96,40 +97,47 @@ pub(crate) fn add_chroma(
     let _known = picture.dim();
     know_plane(picture, 1);
     know_plane(picture, 2);
-    let [u, v] = [tokens_in(tokens, 17, 4), tokens_in(tokens, 21, 4)];
+    let [u, v] = [ends_in(tokens, 17, 4), ends_in(tokens, 21, 4)];
     if u | v == 0 {
         return;
     }
-    let Some(firsts) = small_chroma_firsts(tokens, factors) else {
+    let Some(dcs) = small_chroma_dcs(tokens, factors) else {
         return add_large_chroma(picture, place, tokens, factors);
     };
     let of_u = Residues {
         tokens,
         start: 17,
-        firsts: &firsts[..4],
-        ac: factors.factors.uv_ac,
+        dcs: &dcs[..4],
+        ac: factors.raw.uv_ac,
         factor: factors.uv_ac,
     };
     let [x, y] = [8 * place.column, 8 * place.row];
-    add_colour(picture, 1, x, y, u, &of_u);
+    add_chroma_plane(picture, 1, x, y, u, &of_u);
     let of_v = Residues {
         tokens,
         start: 21,
-        firsts: &firsts[4..],
-        ac: factors.factors.uv_ac,
+        dcs: &dcs[4..],
+        ac: factors.raw.uv_ac,
         factor: factors.uv_ac,
     };
-    add_colour(picture, 2, x, y, v, &of_v);
+    add_chroma_plane(picture, 2, x, y, v, &of_v);
 }
 
 /// Adds the residues of a macroblock's chroma plane to its prediction: 1 is U, 2 is V. The block begins at column `x`
-/// of row `y`. No subblock has more than `any` tokens.
+/// of row `y`. No subblock has more than `ends` tokens.
 #[inline(always)]
-fn add_colour(picture: &mut Picture, plane: usize, x: usize, y: usize, any: u8, residues: &Residues)
+fn add_chroma_plane(
+    picture: &mut Picture,
+    plane: usize,
+    x: usize,
+    y: usize,
+    ends: u8,
+    residues: &Residues,
+)
     requires plane { plane < 3 }
     requires blocks { HasBlocks residues.now 4 }
-    requires few { (i : ℕ) → i < 4 → HasTokens any residues.now i }
-    requires none { any ≡ 0 → (i : ℕ) → i < 4 → IsNothing (residue_in residues.now i) }
+    requires few { (i : ℕ) → i < 4 → HasTokens ends residues.now i }
+    requires none { ends ≡ 0 → (i : ℕ) → i < 4 → IsNothing (residue_in residues.now i) }
     requires columns { x + 8 ≤ (plane_of picture.old plane).width }
     requires rows { y + 8 ≤ (plane_of picture.old plane).height }
     ensures { (residue : ℕ → List ℤ) → HasResidues 4 (residue_in residues.now) residue
@@ -137,10 +145,10 @@ fn add_colour(picture: &mut Picture, plane: usize, x: usize, y: usize, any: u8, 
         (block_sum 2 (plane_of picture.old plane) x y residue)) }
 {
     know_plane(picture, plane);
-    if any == 0 {
+    if ends == 0 {
         return;
     }
-    add_residues::<2>(picture, plane, x, y, any, residues);
+    add_residues::<2>(picture, plane, x, y, ends, residues);
 }
 
 /// Adds the chroma residues of a macroblock as `add_chroma` does, for DC coefficients of any size.
@@ -154,19 +162,21 @@ fn add_large_chroma(picture: &mut Picture, place: Place, tokens: &Tokens, factor
 {
     let _known = picture.dim();
     let [x, y] = [8 * place.column, 8 * place.row];
-    let ac = factors.factors.uv_ac;
+    let ac = factors.raw.uv_ac;
     let of_u = LargeResidues {
         tokens,
         start: 17,
-        firsts: own_firsts(tokens, 17, 4, factors.factors.uv_dc),
+        dcs: own_dcs(tokens, 17, 4, factors.raw.uv_dc),
         ac,
+        factor: factors.uv_ac,
     };
     add_large::<2>(picture, 1, x, y, &of_u);
     let of_v = LargeResidues {
         tokens,
         start: 21,
-        firsts: own_firsts(tokens, 21, 4, factors.factors.uv_dc),
+        dcs: own_dcs(tokens, 21, 4, factors.raw.uv_dc),
         ac,
+        factor: factors.uv_ac,
     };
     add_large::<2>(picture, 2, x, y, &of_v);
 }
@@ -214,31 +224,55 @@ fn add_large_pairs<const ACROSS: usize>(
 {
     for i in 0..ACROSS * ACROSS / 2 {
         let start = at + i / (ACROSS / 2) * (4 * stride) + i % (ACROSS / 2) * 8;
-        add_beside(
-            pixels,
-            start,
-            stride,
-            residues.kept(2 * i),
-            residues.kept(2 * i + 1),
-        );
+        add_any_two(pixels, start, stride, residues, 2 * i);
     }
 }
 
+/// Adds the residues of subblocks `k` and `k + 1`, which are side by side, with DC coefficients of any size: in 16 bits
+/// if both are small. Their first pixel is at index `at`.
+#[inline(never)]
+fn add_any_two(pixels: &mut [u8], at: usize, stride: usize, residues: &LargeResidues, k: usize)
+    requires subblocks { k + 2 ≤ 16 }
+    requires blocks { residues.now.start + (k + 2) ≤ 25 }
+    requires room { at + 3 * stride + 8 ≤ length pixels.old }
+    ensures { IsAdded 8 pixels.old pixels.new at stride (λ i. large_residue_in residues.now (k + i)) }
+{
+    let left = residues.dcs[k];
+    let right = residues.dcs[k + 1];
+    if left.unsigned_abs() > 2200 || right.unsigned_abs() > 2200 {
+        return add_beside(
+            pixels,
+            at,
+            stride,
+            residues.clamped_residue(k),
+            residues.clamped_residue(k + 1),
+        );
+    }
+    let two = Residues {
+        tokens: residues.tokens,
+        start: residues.start + k,
+        dcs: &[left as i16, right as i16],
+        ac: residues.ac,
+        factor: residues.factor,
+    };
+    add_two(pixels, at, stride, &two, 0, &residues.factor);
+}
+
 /// Adds the residues of a block's subblocks to its prediction. The block begins at column `x` of row `y`, and is
-/// `ACROSS` subblocks (2 or 4) wide and high. No block has more than `any` tokens.
+/// `ACROSS` subblocks (2 or 4) wide and high. No block has more than `ends` tokens.
 #[inline(always)]
 fn add_residues<const ACROSS: usize>(
     picture: &mut Picture,
     plane: usize,
     x: usize,
     y: usize,
-    any: u8,
+    ends: u8,
     residues: &Residues,
 )
     requires plane { plane < 3 }
     requires across { IsAcross ACROSS }
     requires blocks { HasBlocks residues.now (ACROSS * ACROSS) }
-    requires few { (i : ℕ) → i < ACROSS * ACROSS → HasTokens any residues.now i }
+    requires few { (i : ℕ) → i < ACROSS * ACROSS → HasTokens ends residues.now i }
     requires columns { x + 4 * ACROSS ≤ (plane_of picture.old plane).width }
     requires rows { y + 4 * ACROSS ≤ (plane_of picture.old plane).height }
     ensures { (residue : ℕ → List ℤ) → HasResidues (ACROSS * ACROSS) (residue_in residues.now) residue
@@ -249,7 +283,7 @@ fn add_residues<const ACROSS: usize>(
     let stride = picture.plane(plane).width();
     let at = y * stride + x;
     let pixels = picture.pixels_mut(plane);
-    if any <= 1 {
+    if ends <= 1 {
         add_strips::<ACROSS, true>(pixels, at, stride, residues);
     } else {
         add_strips::<ACROSS, false>(pixels, at, stride, residues);
@@ -257,9 +291,9 @@ fn add_residues<const ACROSS: usize>(
 }
 
 /// Adds the residues of a block's subblocks to its pixels. The first pixel is at index `at`; rows are `stride` apart.
-/// `ALONE` says that all subblocks have DC coefficients only.
+/// `DC_ONLY` says that all subblocks have DC coefficients only.
 #[inline(never)]
-fn add_strips<const ACROSS: usize, const ALONE: bool>(
+fn add_strips<const ACROSS: usize, const DC_ONLY: bool>(
     pixels: &mut [u8],
     at: usize,
     stride: usize,
@@ -267,7 +301,7 @@ fn add_strips<const ACROSS: usize, const ALONE: bool>(
 )
     requires across { IsAcross ACROSS }
     requires blocks { HasBlocks residues.now (ACROSS * ACROSS) }
-    requires alone { ALONE ≡ true → (i : ℕ) → i < ACROSS * ACROSS → HasTokens 1 residues.now i }
+    requires dc_only { DC_ONLY ≡ true → (i : ℕ) → i < ACROSS * ACROSS → HasTokens 1 residues.now i }
     requires room { at + (4 * ACROSS - 1) * stride + 4 * ACROSS ≤ length pixels.old }
     ensures value { (p : Raster) (x y : ℕ) (residue : ℕ → List ℤ)
         → HasResidues (ACROSS * ACROSS) (residue_in residues.now) residue
@@ -276,10 +310,11 @@ fn add_strips<const ACROSS: usize, const ALONE: bool>(
     ensures len { length pixels.new ≡ length pixels.old }
 {
     let mut start = at;
+    // A copy, which stays in a register.
     let factor = residues.factor;
     for i in 0..ACROSS {
-        if ALONE {
-            add_firsts::<ACROSS>(pixels, start, stride, residues, ACROSS * i);
+        if DC_ONLY {
+            add_dc_only::<ACROSS>(pixels, start, stride, residues, ACROSS * i);
         } else {
             add_strip::<ACROSS>(pixels, start, stride, residues, ACROSS * i, &factor);
         }
@@ -290,7 +325,7 @@ fn add_strips<const ACROSS: usize, const ALONE: bool>(
 /// Adds the residues of subblocks `k` to `k + ACROSS - 1`, which are side by side and have DC coefficients only. Their
 /// first pixel is at index `at`.
 #[inline(always)]
-fn add_firsts<const ACROSS: usize>(
+fn add_dc_only<const ACROSS: usize>(
     pixels: &mut [u8],
     at: usize,
     stride: usize,
@@ -299,15 +334,15 @@ fn add_firsts<const ACROSS: usize>(
 )
     requires across { IsAcross ACROSS }
     requires subblocks { HasBlocks residues.now (k + ACROSS) }
-    requires alone { (i : ℕ) → i < ACROSS → HasTokens 1 residues.now (k + i) }
+    requires dc_only { (i : ℕ) → i < ACROSS → HasTokens 1 residues.now (k + i) }
     requires room { at + 3 * stride + 4 * ACROSS ≤ length pixels.old }
     ensures { IsAdded (4 * ACROSS) pixels.old pixels.new at stride (λ i. residue_in residues.now (k + i)) }
 {
     if ACROSS == 4 {
-        let row = residues.row_of_four(k);
+        let row = residues.dc_row_of_four(k);
         add_rows::<16>(pixels, at, stride, row, row, row, row);
     } else {
-        let row = residues.row_of_two(k);
+        let row = residues.dc_row_of_two(k);
         add_rows::<8>(pixels, at, stride, row, row, row, row);
     }
 }
@@ -350,13 +385,13 @@ fn add_two(
     requires room { at + 3 * stride + 8 ≤ length pixels.old }
     ensures { IsAdded 8 pixels.old pixels.new at stride (λ i. residue_in residues.now (k + i)) }
 {
-    if tokens_in(residues.tokens, residues.start + k, 2) <= 1 {
-        if residues.firsts[k] == 0 && residues.firsts[k + 1] == 0 {
+    if ends_in(residues.tokens, residues.start + k, 2) <= 1 {
+        if residues.dcs[k] == 0 && residues.dcs[k + 1] == 0 {
             return;
         }
-        return add_firsts::<2>(pixels, at, stride, residues, k);
+        return add_dc_only::<2>(pixels, at, stride, residues, k);
     }
-    let Some(rows) = residues.rows_of_two(k, factor) else {
+    let Some(rows) = residues.idct_of_two(k, factor) else {
         return add_large_two(pixels, at, stride, residues, k);
     };
     let (a, b, c, d) = rows;
@@ -372,7 +407,13 @@ fn add_large_two(pixels: &mut [u8], at: usize, stride: usize, residues: &Residue
     requires room { at + 3 * stride + 8 ≤ length pixels.old }
     ensures { IsAdded 8 pixels.old pixels.new at stride (λ i. residue_in residues.now (k + i)) }
 {
-    add_beside(pixels, at, stride, residues.kept(k), residues.kept(k + 1));
+    add_beside(
+        pixels,
+        at,
+        stride,
+        residues.clamped_residue(k),
+        residues.clamped_residue(k + 1),
+    );
 }
 
 /// Adds the numbers of two subblocks, which are side by side, to their pixels. The first pixel is at index `at`.

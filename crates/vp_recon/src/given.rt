@@ -4,7 +4,6 @@
 ghost use Rattle.std.specs.Prelude.{◌≡◌, ◌+◌, ◌*◌, ◌<◌, ◌≤◌, pos, not, slice_index, slice_index_or};
 ghost use Rattle.vp_base.specs.Block.{with_block};
 ghost use Rattle.vp_base.specs.Image.{macroblocks, plane_of, with_plane};
-ghost use Rattle.vp_quant.specs.Short.{IsShortFactor};
 ghost use Rattle.vp_recon.specs.Predictor.{Predictor, macroblock_of, has_sub_modes, has_y2};
 ghost use Rattle.vp_recon.specs.Rebuilt.{rebuilt, summed, residue_at};
 ghost use Rattle.vp_recon.specs.Residue.{residue, chroma_residue};
@@ -15,7 +14,6 @@ use crate::residue::with_residue;
 use crate::segment_factors::SegmentFactors;
 use std::simd::prelude::*;
 use vp_base::{Picture, Place};
-use vp_quant::{Factors, ShortFactor};
 use vp_tokens::{Block, Tokens};
 
 /// The pixels of a macroblock, each plane in raster order.
@@ -38,7 +36,7 @@ pub fn rebuild_from(
     prediction: &MacroblockPixels,
     by_subblocks: bool,
     tokens: &Tokens,
-    factors: &Factors,
+    factors: &SegmentFactors,
 )
     requires column { place.column < macroblocks picture.old.width }
     requires row { place.row < macroblocks picture.old.height }
@@ -47,30 +45,26 @@ pub fn rebuild_from(
         → picture.new ≡ rebuilt (macroblock_of source tokens.now factors.now) place picture.old }
 {
     let _known = picture.dim();
-    let factors = SegmentFactors::of(factors);
     let [x, y] = [8 * place.column, 8 * place.row];
     picture.write_block::<8>(1, x, y, &prediction.u);
     picture.write_block::<8>(2, x, y, &prediction.v);
-    add_chroma(picture, place, tokens, &factors);
+    add_chroma(picture, place, tokens, factors);
     let [x, y] = [16 * place.column, 16 * place.row];
     picture.write_block::<16>(0, x, y, &prediction.luma);
     if !by_subblocks {
-        add_luma(picture, x, y, true, tokens, &factors);
+        add_luma(picture, x, y, true, tokens, factors);
     }
 }
 
 /// Rebuilds one luma subblock of a macroblock without a Y2 block from its prediction, in raster order, and its residue.
-/// `block` is its place among all luma subblocks of the picture. `short` is the AC factor, made ready once for
-/// all subblocks of a macroblock.
+/// `block` is its place among all luma subblocks of the picture.
 pub fn rebuild_subblock_from(
     picture: &mut Picture,
     block: Place,
     prediction: &[u8; 16],
     levels: &Block,
-    factors: &Factors,
-    short: &ShortFactor,
+    factors: &SegmentFactors,
 )
-    requires short { IsShortFactor short.now factors.now.y_ac 2200 }
     requires columns { 4 * block.column + 4 ≤ picture.old.luma.width }
     requires rows { 4 * block.row + 4 ≤ picture.old.luma.height }
     ensures { picture.new ≡ with_plane picture.old 0 (with_block picture.old.luma (4 * block.column) (4 * block.row) 4 4
@@ -79,6 +73,6 @@ pub fn rebuild_subblock_from(
 {
     let _known = [picture.plane(0).width(), picture.plane(0).height()];
     let prediction = u8x16::from_array(*prediction);
-    let pixels = with_residue(prediction, levels, factors, short);
+    let pixels = with_residue(prediction, levels, factors);
     store_subblock(picture, 4 * block.column, 4 * block.row, pixels);
 }

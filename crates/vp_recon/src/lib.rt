@@ -2,14 +2,14 @@
 #![tactic(auto)]
 
 mod add;
-mod firsts;
+mod dc_coefficients;
 mod given;
 mod laws;
 mod macroblock;
 mod predict;
 mod predictor;
 mod residue;
-mod residues;
+mod residue_inputs;
 mod segment_factors;
 
 pub use given::{MacroblockPixels, rebuild_from, rebuild_subblock_from};

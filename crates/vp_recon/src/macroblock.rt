@@ -9,7 +9,6 @@ ghost use Rattle.vp_recon.specs.Predictor.{macroblock_of, predictor_of, has_sub_
 ghost use Rattle.vp_recon.specs.Rebuilt.{luma_rebuilt, rebuilt, with_sub};
 ghost use Rattle.vp_tables.specs.Modes.{is_by_subblocks};
 ghost use Rattle.vp_recon.specs.Residue.{residue};
-ghost use Rattle.vp_quant.specs.Short.{IsShortFactor};
 
 use crate::add::{add_chroma, add_luma, know_bytes, store_subblock};
 use crate::predict::{predict_chroma, predict_luma};
@@ -20,7 +19,7 @@ use std::simd::prelude::*;
 use vp_base::{Picture, Place};
 use vp_intra::predict_sub;
 use vp_modes::Modes;
-use vp_quant::{Factors, ShortFactor};
+use vp_quant::Factors;
 use vp_tables::SubMode;
 use vp_tokens::{Block, Tokens};
 
@@ -40,7 +39,7 @@ pub fn rebuild_macroblock(
 }
 
 /// Rebuilds the macroblock at `place` as `rebuild_macroblock` does, by the factors of its segment. Luma is rebuilt
-/// subblock by subblock where these have intra modes of their own (B_PRED), else at once, the residue being added to the
+/// subblock by subblock where these have intra modes of their own (B_PRED), else at once: the residue is added to the
 /// prediction where that lies. Not inlined: the caller's loop keeps its registers for macroblocks without tokens.
 #[inline(never)]
 pub fn rebuild_macroblock_by(
@@ -108,14 +107,7 @@ fn rebuild_subs(
             row: place.row * 4 + k / 4,
         };
         let levels = block_of(tokens, 1 + k);
-        rebuild_sub(
-            picture,
-            block,
-            modes.subs[k],
-            levels,
-            &factors.factors,
-            &factors.y_ac,
-        );
+        rebuild_sub(picture, block, modes.subs[k], levels, factors);
     }
 }
 
@@ -133,22 +125,19 @@ pub fn rebuild_subblock(
     ensures { picture.new ≡ with_plane picture.old 0 (with_sub picture.old.luma block mode
         (residue levels.now.levels factors.now.y_dc factors.now.y_ac)) }
 {
-    let short = ShortFactor::of(factors.y_ac, 2200);
-    rebuild_sub(picture, block, mode, levels, factors, &short);
+    rebuild_sub(picture, block, mode, levels, &SegmentFactors::of(factors));
 }
 
-/// Rebuilds a subblock as `rebuild_subblock` does. `short` is its AC factor, made ready.
+/// Rebuilds a subblock as `rebuild_subblock` does, by the factors of its segment.
 fn rebuild_sub(
     picture: &mut Picture,
     block: Place,
     mode: SubMode,
     levels: &Block,
-    factors: &Factors,
-    short: &ShortFactor,
+    factors: &SegmentFactors,
 )
     requires columns { 4 * block.column + 4 ≤ picture.old.luma.width }
     requires rows { 4 * block.row + 4 ≤ picture.old.luma.height }
-    requires short { IsShortFactor short.now factors.now.y_ac 2200 }
     ensures { picture.new ≡ with_plane picture.old 0 (with_sub picture.old.luma block mode
         (residue levels.now.levels factors.now.y_dc factors.now.y_ac)) }
 {
@@ -158,6 +147,6 @@ fn rebuild_sub(
     let y = 4 * block.row;
     let prediction = predict_sub(picture.plane(0), x, y, mode);
     let prediction = u8x16::from_array(prediction);
-    let pixels = with_residue(prediction, levels, factors, short);
+    let pixels = with_residue(prediction, levels, factors);
     store_subblock(picture, x, y, pixels);
 }

@@ -13,10 +13,11 @@ ghost use Rattle.vp_recon.specs.Parts.{HasBlocks, HasTokens, HasUpTo, residue_in
 ghost use Rattle.vp_recon.specs.Sums.{HasEqualSums, AreLow, AreRows, Four};
 
 use crate::add::added;
-use crate::residues::{LargeResidues, Residues};
+use crate::residue_inputs::{LargeResidues, Residues};
+use crate::segment_factors::SegmentFactors;
 use std::simd::prelude::*;
 use vp_lanes::clamp_i16;
-use vp_quant::{Factors, ShortFactor, dequant};
+use vp_quant::{ShortFactor, dequant};
 use vp_tokens::{Block, Tokens};
 use vp_transform::{idct_cut, idct_interleaved, idct_short};
 
@@ -31,20 +32,20 @@ pub(crate) fn block_of(tokens: &Tokens, n: usize) -> &Block
 /// Returns the bitwise OR of the end positions of the `count` blocks from block `start` on: at least the greatest of
 /// them, and 0 or 1 only if that is.
 #[inline(always)]
-pub(crate) fn tokens_in(tokens: &Tokens, start: usize, count: usize) -> u8
+pub(crate) fn ends_in(tokens: &Tokens, start: usize, count: usize) -> u8
     requires { start + count ≤ 25 }
     ensures { (i : ℕ) → i < count → HasUpTo result (block_of tokens.now (start + i)) }
 {
-    let mut any = 0;
+    let mut ends = 0;
     for i in 0..count {
-        any |= block_of(tokens, start + i).tokens;
+        ends |= block_of(tokens, start + i).tokens;
     }
-    any
+    ends
 }
 
 /// Returns the end position of the Y2 block, or 0 if the macroblock has none.
 #[inline(always)]
-pub(crate) fn y2_tokens(y2: bool, tokens: &Tokens) -> u8
+pub(crate) fn y2_end(y2: bool, tokens: &Tokens) -> u8
     ensures { y2 ≡ true → HasUpTo result (block_of tokens.now 0) }
 {
     if y2 { block_of(tokens, 0).tokens } else { 0 }
@@ -60,22 +61,22 @@ pub(crate) fn scaled_dc(levels: &[i16; 16], dc: u16) -> i64
 
 /// Returns the residue of each pixel of a subblock that has a DC coefficient only.
 #[inline(always)]
-fn even_number(first: i16) -> i16
-    requires { unsigned_abs first ≤ 2200 }
-    ensures value { result ≡ rounded first }
+fn dc_residue(dc: i16) -> i16
+    requires { unsigned_abs dc ≤ 2200 }
+    ensures value { result ≡ rounded dc }
     ensures within { unsigned_abs result ≤ 275 }
 {
-    (first + 4) >> 3
+    (dc + 4) >> 3
 }
 
 /// Returns the residue of a subblock, clamped to -255..255, for coefficients of any size.
-pub(crate) fn large_residue(block: &Block, first: i64, ac: u16) -> [i16; 16]
-    requires { unsigned_abs first ≤ 2 ^ 40 }
-    ensures value { HasEqualSums result (idct (coefficients_after first block.now.levels ac)) }
+pub(crate) fn large_residue(block: &Block, dc: i64, ac: u16) -> [i16; 16]
+    requires { unsigned_abs dc ≤ 2 ^ 40 }
+    ensures value { HasEqualSums result (idct (coefficients_after dc block.now.levels ac)) }
     ensures low { AreLow 16 result }
 {
     let mut coefficients = dequant(&block.levels, 0, ac);
-    coefficients[0] = first;
+    coefficients[0] = dc;
     held(idct_cut(&coefficients))
 }
 
@@ -87,72 +88,65 @@ fn held(numbers: [i16; 16]) -> [i16; 16]
     clamp_i16(i16x16::from_array(numbers), -255, 255).to_array()
 }
 
-/// Adds the residue of a luma subblock without a Y2 block to its prediction. `short` is its AC factor, made ready.
-pub(crate) fn with_residue(
-    prediction: u8x16,
-    block: &Block,
-    factors: &Factors,
-    short: &ShortFactor,
-) -> u8x16
-    requires { IsShortFactor short.now factors.now.y_ac 2200 }
+/// Adds the residue of a luma subblock without a Y2 block to its prediction.
+pub(crate) fn with_residue(prediction: u8x16, block: &Block, factors: &SegmentFactors) -> u8x16
     ensures { (r c : ℕ) → r < 4 → c < 4 → slice_index result (r * 4 + c) ≡ summed (slice_index prediction (r * 4 + c))
         (slice_index_or (residue block.now.levels factors.now.y_dc factors.now.y_ac) (4 * r + c) (pos 0)) }
 {
     if block.tokens == 0 {
         return prediction;
     }
-    let numbers = own_residue(block, factors, short);
+    let numbers = own_residue(block, factors);
     added::<16>(prediction, i16x16::from_array(numbers))
 }
 
-/// Returns numbers that add up like the residue of a luma subblock without a Y2 block. `short` is its AC factor.
-fn own_residue(block: &Block, factors: &Factors, short: &ShortFactor) -> [i16; 16]
-    requires { IsShortFactor short.now factors.now.y_ac 2200 }
+/// Returns numbers that add up like the residue of a luma subblock without a Y2 block.
+fn own_residue(block: &Block, factors: &SegmentFactors) -> [i16; 16]
     ensures value { HasEqualSums result (residue block.now.levels factors.now.y_dc factors.now.y_ac) }
     ensures low { AreLow 16 result }
 {
-    let first = scaled_dc(&block.levels, factors.y_dc);
-    if first.unsigned_abs() > 2200 {
-        return large_residue(block, first, factors.y_ac);
+    let dc = scaled_dc(&block.levels, factors.raw.y_dc);
+    if dc.unsigned_abs() > 2200 {
+        return large_residue(block, dc, factors.raw.y_ac);
     }
-    let small = first as i16;
+    let small = dc as i16;
     if block.tokens <= 1 {
-        return [even_number(small); 16];
+        return [dc_residue(small); 16];
     }
-    match short.coefficients(block.levels, small) {
+    match factors.y_ac.coefficients(block.levels, small) {
         Some(coefficients) => idct_short(&coefficients),
-        None => large_residue(block, first, factors.y_ac),
+        None => large_residue(block, dc, factors.raw.y_ac),
     }
 }
 
 impl<'a> LargeResidues<'a> {
     /// Returns numbers that add up like the residue of subblock `k`.
-    pub(crate) fn kept(&self, k: usize) -> [i16; 16]
+    pub(crate) fn clamped_residue(&self, k: usize) -> [i16; 16]
         requires subblock { k < 16 }
         requires block { self.now.start + k < 25 }
         ensures value { HasEqualSums result (large_residue_in self.now k) }
         ensures low { AreLow 16 result }
     {
         let block = block_of(self.tokens, self.start + k);
-        large_residue(block, self.firsts[k], self.ac)
+        large_residue(block, self.dcs[k], self.ac)
     }
 }
 
 impl<'a> Residues<'a> {
     /// Returns numbers that add up like the residue of subblock `k`.
-    pub(crate) fn kept(&self, k: usize) -> [i16; 16]
+    pub(crate) fn clamped_residue(&self, k: usize) -> [i16; 16]
         requires subblock { HasBlocks self.now (k + 1) }
         ensures value { HasEqualSums result (residue_in self.now k) }
         ensures low { AreLow 16 result }
     {
         let block = block_of(self.tokens, self.start + k);
-        large_residue(block, i64::from(self.firsts[k]), self.ac)
+        large_residue(block, i64::from(self.dcs[k]), self.ac)
     }
 
     /// Returns four rows of eight numbers that are the residues of subblocks `k` and `k + 1` side by side, if the AC
     /// coefficients are from -2,200 to 2,200. `factor` is the AC factor, made ready.
     #[inline(always)]
-    pub(crate) fn rows_of_two(
+    pub(crate) fn idct_of_two(
         &self,
         k: usize,
         factor: &ShortFactor,
@@ -164,8 +158,8 @@ impl<'a> Residues<'a> {
         let n = self.start + k;
         let left = block_of(self.tokens, n).levels;
         let right = block_of(self.tokens, n + 1).levels;
-        let firsts = [self.firsts[k], self.firsts[k + 1]];
-        let Some(rows) = factor.coefficients_of_two(left, right, firsts) else {
+        let dcs = [self.dcs[k], self.dcs[k + 1]];
+        let Some(rows) = factor.coefficients_of_two(left, right, dcs) else {
             return None;
         };
         let (a, b, c, d) = rows;
@@ -175,40 +169,40 @@ impl<'a> Residues<'a> {
     /// Returns a row of the residues of subblocks `k` and `k + 1`, which have DC coefficients only: then their rows are
     /// all equal.
     #[inline(always)]
-    pub(crate) fn row_of_two(&self, k: usize) -> i16x8
+    pub(crate) fn dc_row_of_two(&self, k: usize) -> i16x8
         requires subblocks { HasBlocks self.now (k + 2) }
-        requires alone { (i : ℕ) → i < 2 → HasTokens 1 self.now (k + i) }
+        requires dc_only { (i : ℕ) → i < 2 → HasTokens 1 self.now (k + i) }
         ensures { AreRows 8 result result result result (λ i. residue_in self.now (k + i)) }
     {
-        even_row(even_number(self.firsts[k]), even_number(self.firsts[k + 1]))
+        flat_row(dc_residue(self.dcs[k]), dc_residue(self.dcs[k + 1]))
     }
 
     /// Returns a row of the residues of subblocks `k` to `k + 3`, which have DC coefficients only.
     #[inline(always)]
-    pub(crate) fn row_of_four(&self, k: usize) -> i16x16
+    pub(crate) fn dc_row_of_four(&self, k: usize) -> i16x16
         requires subblocks { HasBlocks self.now (k + 4) }
-        requires alone { (i : ℕ) → i < 4 → HasTokens 1 self.now (k + i) }
+        requires dc_only { (i : ℕ) → i < 4 → HasTokens 1 self.now (k + i) }
         ensures { AreRows 16 result result result result (λ i. residue_in self.now (k + i)) }
     {
-        four_times(even_numbers(i16x4::from_slice(&self.firsts[k..])))
+        four_times(dc_residues(i16x4::from_slice(&self.dcs[k..])))
     }
 }
 
 /// Returns a row of the residues of two subblocks, each of which has one value for all its pixels.
-fn even_row(left: i16, right: i16) -> i16x8
+fn flat_row(left: i16, right: i16) -> i16x8
     ensures left { (j : ℕ) → j < 4 → lane result j ≡ left }
     ensures right { (j : ℕ) → j < 4 → lane result (4 + j) ≡ right }
 {
     i16x8::splat(left).shuffle::<8>(i16x8::splat(right), [0, 1, 2, 3, 8, 9, 10, 11])
 }
 
-/// Returns what `even_number` does of each lane.
+/// Returns what `dc_residue` does of each lane.
 #[inline(always)]
-fn even_numbers(firsts: i16x4) -> i16x4
-    requires { (j : ℕ) → j < 4 → unsigned_abs (lane firsts j) ≤ 2200 }
-    ensures { (j : ℕ) → j < 4 → lane result j ≡ rounded (lane firsts j) }
+fn dc_residues(dcs: i16x4) -> i16x4
+    requires { (j : ℕ) → j < 4 → unsigned_abs (lane dcs j) ≤ 2200 }
+    ensures { (j : ℕ) → j < 4 → lane result j ≡ rounded (lane dcs j) }
 {
-    (firsts + i16x4::splat(4)) >> 3
+    (dcs + i16x4::splat(4)) >> 3
 }
 
 /// Returns each lane four times.

@@ -8,8 +8,8 @@ use vp_quant::{Factors, ShortFactor};
 /// The dequantisation factors of a segment, made ready once for all its macroblocks (RFC 6386, chapter 14.1).
 #[derive(Drop)]
 pub struct SegmentFactors {
-    pub(crate) factors: Factors,
-    pub(crate) y2_dc: ShortFactor,
+    /// The factors themselves.
+    pub(crate) raw: Factors,
     pub(crate) y2_ac: ShortFactor,
     pub(crate) y_dc: ShortFactor,
     pub(crate) y_ac: ShortFactor,
@@ -23,19 +23,19 @@ impl Model for SegmentFactors {
 
     ghost Value = { Factors };
 
-    ghost view = { λ s. s.factors };
+    ghost view = { λ s. s.raw };
 
     ghost invariant = { IsReady };
 }
 
 impl SegmentFactors {
-    /// Makes factors ready: those of Y2 for coefficients from -8,191 to 8,191, the others for -2,200 to 2,200.
+    /// Makes factors ready: those of Y2's AC levels for products from -8,191 to 8,191, which `iwht_short` takes, the
+    /// others for -2,200 to 2,200, which `idct_short` takes.
     pub fn of(factors: &Factors) -> SegmentFactors
         ensures { result ≡ factors.now }
     {
         SegmentFactors {
-            factors: *factors,
-            y2_dc: ShortFactor::of(factors.y2_dc, 8191),
+            raw: *factors,
             y2_ac: ShortFactor::of(factors.y2_ac, 8191),
             y_dc: ShortFactor::of(factors.y_dc, 2200),
             y_ac: ShortFactor::of(factors.y_ac, 2200),
@@ -49,13 +49,19 @@ impl SegmentFactors {
         ensures { result ≡ self.now }
     {
         SegmentFactors {
-            factors: self.factors,
-            y2_dc: self.y2_dc,
+            raw: self.raw,
             y2_ac: self.y2_ac,
             y_dc: self.y_dc,
             y_ac: self.y_ac,
             uv_dc: self.uv_dc,
             uv_ac: self.uv_ac,
         }
+    }
+
+    /// Returns the factors themselves.
+    pub fn raw(&self) -> &Factors
+        ensures { result.now ≡ self.now }
+    {
+        &self.raw
     }
 }

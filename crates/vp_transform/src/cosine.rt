@@ -19,7 +19,7 @@ pub(crate) fn wide_idct(block: &[i64; 16]) -> [i64; 16]
 }
 
 /// The value of each number of `idct` of a DC-only block, whose numbers after `dc` are all 0.
-pub fn idct_of_first(dc: i64) -> i64
+pub fn idct_of_dc(dc: i64) -> i64
     requires { Fits (dc +ℤ pos 4) }
     ensures value { idct (dc ∷ replicate 15 (pos 0)) ≡ replicate 16 result }
     ensures within { unsigned_abs result ≤ unsigned_abs dc }

@@ -35,7 +35,7 @@ pub(crate) fn wide_iwht(block: &[i64; 16]) -> [i64; 16]
 }
 
 /// The value of each number of `iwht` of a DC-only block, whose numbers after `dc` are all 0.
-pub fn iwht_of_first(dc: i64) -> i64
+pub fn iwht_of_dc(dc: i64) -> i64
     requires { unsigned_abs dc + 3 < 2 ^ 63 }
     ensures value { iwht (dc ∷ replicate 15 (pos 0)) ≡ replicate 16 result }
     ensures within { unsigned_abs result ≤ unsigned_abs dc }

@@ -10,9 +10,9 @@ mod pair;
 mod reference;
 mod short;
 
-pub use cosine::idct_of_first;
+pub use cosine::idct_of_dc;
 pub use forward_short::{differences, fdct_short};
-pub use hadamard::{iwht, iwht_of_first};
+pub use hadamard::{iwht, iwht_of_dc};
 pub use hadamard_lanes::{fwht_short, iwht_short};
 pub use lanes::idct_short;
 pub use pair::idct_interleaved;

@@ -13,4 +13,4 @@ returns c =
     let t = c.args.tokens.now in
     let own : Factors → ℕ → List ℤ = λ f. luma_residue c.args.y2 t f in
     subst (λ (f : Factors). c.add_large.new.picture ≡ with_plane p 0 (with_block p.luma c.args.x c.args.y 16 16 (block_sum 4 p.luma c.args.x c.args.y (own f)))) c.factors.view_is
-    (c.add_large.ensures (own c.factors.inside.factors) (luma_values t c.factors.inside.factors c.args.y2 c.large_luma_firsts.result c.large_luma_firsts.ensures.value))
+    (c.add_large.ensures (own c.factors.inside.raw) (luma_values t c.factors.inside.raw c.args.y2 c.large_luma_dcs.result c.large_luma_dcs.ensures.value))

@@ -7,4 +7,4 @@ pub returns : goal.returns
 returns c =
     let r = c.args.residues.now in
     let k : ℕ = c.args.k in
-    c.add_beside.ensures (λ i. residue_in r (k + i)) (subst (λ (n : ℕ). HasEqualSums c.kept.result (residue_in r n)) (omega arith) c.kept.ensures.value) c.kept-2.ensures.value
+    c.add_beside.ensures (λ i. residue_in r (k + i)) (subst (λ (n : ℕ). HasEqualSums c.clamped_residue.result (residue_in r n)) (omega arith) c.clamped_residue.ensures.value) c.clamped_residue-2.ensures.value

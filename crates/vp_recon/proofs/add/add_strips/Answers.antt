@@ -6,14 +6,14 @@ use Rattle.vp_recon.proofs.StripLemmas.{parts_none, strip_at, strip_room, strips
 use Rattle.vp_recon.proofs.add.add_strips.Goals.{then-this-ne0, else-this-ne0}
 use Rattle.vp_recon.proofs.add.add_strips.Goals as goal
 
-pub add_firsts-requires-clause-alone : goal.add_firsts-requires-clause-alone
-add_firsts-requires-clause-alone g c i below =
+pub add_dc_only-requires-clause-dc_only : goal.add_dc_only-requires-clause-dc_only
+add_dc_only-requires-clause-dc_only g c i below =
     let inside : i < g.row.ACROSS = below in
     let m : (c.loop-i.i + 1) * g.row.ACROSS ≤ g.row.ACROSS * g.row.ACROSS = mul-le-mul (omega arith) (omega arith) in
-    c.requires.alone (search rules) (g.row.ACROSS * c.loop-i.i + i) (omega arith)
+    c.requires.dc_only (search rules) (g.row.ACROSS * c.loop-i.i + i) (omega arith)
 
-pub add_firsts-requires-clause-room : goal.add_firsts-requires-clause-room
-add_firsts-requires-clause-room g c = strip_room g.row.ACROSS c.loop-i.i c.args.at c.loop-i.start c.args.stride (length c.loop-i.pixels) (omega arith) (omega arith) c.loop-i.invariant.start
+pub add_dc_only-requires-clause-room : goal.add_dc_only-requires-clause-room
+add_dc_only-requires-clause-room g c = strip_room g.row.ACROSS c.loop-i.i c.args.at c.loop-i.start c.args.stride (length c.loop-i.pixels) (omega arith) (omega arith) c.loop-i.invariant.start
 
 pub add_strip-requires-clause-room : goal.add_strip-requires-clause-room
 add_strip-requires-clause-room g c = strip_room g.row.ACROSS c.loop-i.i c.args.at c.loop-i.start c.args.stride (length c.loop-i.pixels) (omega arith) (omega arith) c.loop-i.invariant.start
@@ -33,7 +33,7 @@ loop-i-preserved g c = record {
       strips_more p x y g.row.ACROSS (residue_in c.args.residues.now) residue c.loop-i.i c.args.pixels.now c.loop-i.pixels c.if-this-ne0.pixels c.args.at c.args.stride c.loop-i.start are (omega arith) lies
       (c.loop-i.invariant.pixels p x y residue are lies) c.loop-i.invariant.start
       (elim c.if-this-ne0.branch [
-        | then-this-ne0 w ↦ subst (λ (ns : List ℕ). IsAdded (4 * g.row.ACROSS) c.loop-i.pixels ns c.loop-i.start c.args.stride (λ j. residue_in c.args.residues.now (g.row.ACROSS * c.loop-i.i + j))) (sym w.pixels-is) w.add_firsts.ensures
+        | then-this-ne0 w ↦ subst (λ (ns : List ℕ). IsAdded (4 * g.row.ACROSS) c.loop-i.pixels ns c.loop-i.start c.args.stride (λ j. residue_in c.args.residues.now (g.row.ACROSS * c.loop-i.i + j))) (sym w.pixels-is) w.add_dc_only.ensures
         | else-this-ne0 w ↦ subst (λ (ns : List ℕ). IsAdded (4 * g.row.ACROSS) c.loop-i.pixels ns c.loop-i.start c.args.stride (λ j. residue_in c.args.residues.now (g.row.ACROSS * c.loop-i.i + j))) (sym w.pixels-is) w.add_strip.ensures
       ]);
 }

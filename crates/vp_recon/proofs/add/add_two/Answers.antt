@@ -10,17 +10,17 @@ returns-then-residues-k-eq0-2 c =
     let r = c.args.residues.now in
     let k : ℕ = c.args.k in
     let has = c.requires.subblocks.0 in
-    let zero : (n : ℕ) → n < length r.firsts.now → of_z w16 (get_or r.firsts.now n (pos 0)) ≡ 0 → get_or r.firsts.now n (pos 0) ≡ pos 0 =
-    λ n below e. sym (short_coded (get_or r.firsts.now n (pos 0)) (let s = r.small n below in omega arith)) ∙ ap (to_z w16) e in
+    let zero : (n : ℕ) → n < length r.dcs.now → of_z w16 (get_or r.dcs.now n (pos 0)) ≡ 0 → get_or r.dcs.now n (pos 0) ≡ pos 0 =
+    λ n below e. sym (short_coded (get_or r.dcs.now n (pos 0)) (let s = r.small n below in omega arith)) ∙ ap (to_z w16) e in
     record {
       value = λ p x y lies. strip_alone p x y 8 c.args.pixels.now c.args.at c.args.stride (λ i. residue_in r (c.args.k + i)) lies
-          (two_nothing r k c.tokens_in.result c.tokens_in.ensures c.if-tokens_in-le1.true (zero k (omega arith) c.if-residues-k-eq0.true) (zero (k + 1) (omega arith) c.if-residues-k-eq0-2.true))
+          (two_nothing r k c.ends_in.result c.ends_in.ensures c.if-ends_in-le1.true (zero k (omega arith) c.if-residues-k-eq0.true) (zero (k + 1) (omega arith) c.if-residues-k-eq0-2.true))
           (λ i. let b = (c.type_inv.pixels i).fits in omega (arith, b));
       len = refl;
     }
 
 pub add_rows-requires : goal.add_rows-requires
-add_rows-requires c = (omega arith, (omega arith, (omega arith, (rows_handed 8 _ _ _ _ _ (c.rows_of_two.ensures c.in-Some.rows c.in-Some.is)).low)))
+add_rows-requires c = (omega arith, (omega arith, (omega arith, (rows_handed 8 _ _ _ _ _ (c.idct_of_two.ensures c.in-Some.rows c.in-Some.is)).low)))
 
 pub returns : goal.returns
-returns c = c.add_rows.ensures _ (rows_handed 8 _ _ _ _ _ (c.rows_of_two.ensures c.in-Some.rows c.in-Some.is))
+returns c = c.add_rows.ensures _ (rows_handed 8 _ _ _ _ _ (c.idct_of_two.ensures c.in-Some.rows c.in-Some.is))

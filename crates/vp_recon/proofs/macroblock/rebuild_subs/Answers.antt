@@ -6,7 +6,6 @@ use Rattle.vp_base.specs.Near.{block_place}
 use Rattle.vp_base.proofs.OverLemmas.{over-none, over-next}
 use Rattle.vp_tables.specs.declared.modes.SubMode.TheVariants as sub_is
 use Rattle.vp_modes.specs.Entry.{Modes}
-use Rattle.vp_quant.specs.declared.factors.Factors.{Factors}
 use Rattle.vp_tokens.specs.Block.{Block}
 use Rattle.vp_tokens.specs.Blocks.{block_of}
 use Rattle.vp_recon.specs.Rebuilt.{with_sub}
@@ -28,7 +27,6 @@ loop-k-preserved c =
     let step : Raster → Raster = λ q. with_sub q here (get_or c.args.modes.now.subs k sub_is.Dc) own in
     let is : c.rebuild_sub.new.picture ≡ with_plane now 0 (step now.luma) =
     c.rebuild_sub.ensures
-    ∙ ap (λ (g : Factors). with_plane now 0 (with_sub now.luma here (get_or c.modes.inside.subs k sub_is.Dc) (residue c.block_of-levels.result.now.levels g.y_dc g.y_ac))) c.factors.view_is
     ∙ ap (λ (b : Block). with_plane now 0 (with_sub now.luma here (get_or c.modes.inside.subs k sub_is.Dc) (residue b.levels f.y_dc f.y_ac))) c.block_of-levels.ensures
     ∙ ap (λ (a : Modes). with_plane now 0 (with_sub now.luma here (get_or a.subs k sub_is.Dc) own)) c.modes.view_is in
     record {

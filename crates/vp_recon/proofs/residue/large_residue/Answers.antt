@@ -11,7 +11,7 @@ use Rattle.vp_recon.proofs.residue.large_residue.Goals as goal
 
 pub idct_cut-requires : goal.idct_cut-requires
 idct_cut-requires c =
-    let dc : ℤ = c.args.first in
+    let dc : ℤ = c.args.dc in
     let small : unsigned_abs (coded dc) ≤ 2 ^ 40 = omega (arith, ap unsigned_abs (exact dc c.requires), c.requires) in
     let coefficients : List ℤ = c.dequant-coefficients.result in
     idct_fits (2 ^ 40) (set coefficients 0 (coded dc))
@@ -21,7 +21,7 @@ idct_cut-requires c =
 
 pub returns-clause-value : goal.returns-clause-value
 returns-clause-value c =
-    let dc : ℤ = c.args.first in
+    let dc : ℤ = c.args.dc in
     let coefficients : List ℤ = c.dequant-coefficients.result in
     c.held.ensures.value (idct (set (dequantised c.args.block.now.levels 0 c.args.ac) 0 dc))
     (subst (λ (zs : List ℤ). HasEqualSums c.idct_cut.result (idct zs))

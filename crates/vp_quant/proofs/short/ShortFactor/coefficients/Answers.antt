@@ -5,7 +5,7 @@ use Rattle.vp_lanes.proofs.Shape.{signed_lanes}
 use Rattle.vp_lanes.proofs.Signed.{stands_of}
 use Rattle.vp_quant.proofs.Products.{products, products_within, small_below, coefficients_are, coefficients_within}
 use Rattle.vp_quant.proofs.Sixteen.{inside, read, whole}
-use Rattle.vp_quant.specs.Short.{IsShortFactor, in_raster, after_firsts, coefficients_after}
+use Rattle.vp_quant.specs.Short.{IsShortFactor, in_raster, after_dcs, coefficients_after}
 use Rattle.vp_quant.proofs.short.ShortFactor.coefficients.Goals as goal
 
 pub sizes-requires : goal.sizes-requires
@@ -15,13 +15,13 @@ below : (c : goal.After-row_known-1) (j : ℕ) → j < 16 → unsigned_abs (lane
 below c j h = subst (λ n. n < c.args.self.now.bound) (c.sizes.ensures j h) (c.are_below.ensures.below c.if-are_below.true j h)
 
 module _ (c : goal.After-row_known-1) (factor most : ℕ) (is : IsShortFactor c.args.self.now factor most) where
-  placed : (block : List ℤ) → Some (read c.placed.result) ≡ Some block → block ≡ coefficients_after c.args.first c.args.levels factor
+  placed : (block : List ℤ) → Some (read c.placed.result) ≡ Some block → block ≡ coefficients_after c.args.dc c.args.levels factor
   placed block e =
       sym (ap inside e) ∙ whole 16 c.placed.result _ c.placed.type_inv ∙ c.placed.ensures
-      ∙ ap (λ (v : List ℤ). in_raster (lane v)) (whole 16 c.with_first.result _ c.with_first.type_inv ∙ c.with_first.ensures
-      ∙ ap (λ (z : ℤ). after_firsts 1 (z ∷ []) (read c.times.result)) (stands_of c.args.first c.ranges.first).is
-      ∙ ap (λ (v : List ℤ). after_firsts 1 (c.args.first ∷ []) v) (whole 16 c.times.result _ c.times.type_inv))
-      ∙ coefficients_are c.args.first c.args.levels c.times.result factor
+      ∙ ap (λ (v : List ℤ). in_raster (lane v)) (whole 16 c.with_dc.result _ c.with_dc.type_inv ∙ c.with_dc.ensures
+      ∙ ap (λ (z : ℤ). after_dcs 1 (z ∷ []) (read c.times.result)) (stands_of c.args.dc c.ranges.dc).is
+      ∙ ap (λ (v : List ℤ). after_dcs 1 (c.args.dc ∷ []) v) (whole 16 c.times.result _ c.times.type_inv))
+      ∙ coefficients_are c.args.dc c.args.levels c.times.result factor
       (products 16 c.args.self.now (read c.args.levels) c.args.levels (whole 16 c.args.levels _ c.well_formed.1.0) (below c) factor most is c.times.result c.times.ensures)
 
 pub returns-then-are_below-clause-value : goal.returns-then-are_below-clause-value
@@ -31,7 +31,7 @@ pub returns-then-are_below-clause-small : goal.returns-then-are_below-clause-sma
 returns-then-are_below-clause-small c block factor most e is h =
     let levels = c.args.levels in
     subst (λ (b : List ℤ). (i : ℕ) → unsigned_abs (slice_index_or b i (pos 0)) ≤ most) (sym (placed c factor most is block e))
-    (coefficients_within c.args.first levels factor most (signed_lanes w16 16 levels _ c.well_formed.1.0).0
+    (coefficients_within c.args.dc levels factor most (signed_lanes w16 16 levels _ c.well_formed.1.0).0
     (products_within 16 c.args.self.now (read levels) levels (whole 16 levels _ c.well_formed.1.0) (below c) factor most is) h)
 
 pub returns-else-are_below-clause-some : goal.returns-else-are_below-clause-some
