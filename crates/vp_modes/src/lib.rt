@@ -3,6 +3,7 @@
 
 mod contexts;
 mod entry;
+mod grid;
 mod laws;
 mod map;
 mod reading;
@@ -11,9 +12,10 @@ mod walks;
 mod writing;
 
 pub use entry::Modes;
+pub use grid::ModeGrid;
 pub use laws::what_is_read_can_be_written;
 pub use map::ModeMap;
-pub use reading::{read_modes, read_modes_into};
+pub use reading::read_modes;
 pub use segment::Segment;
 pub use vp_base::Place;
 pub use writing::write_modes;

@@ -8,6 +8,7 @@ ghost use Rattle.vp_modes.specs.Entry.{plain, plain_of};
 ghost use Rattle.vp_modes.specs.Map.{of_segments, segments_of};
 
 use crate::entry::Modes;
+use crate::grid::ModeGrid;
 use crate::segment::Segment;
 use std::alloc::{AllocError, Global};
 use std::marker::Model;
@@ -172,5 +173,17 @@ impl ModeMap {
         ensures elsewhere { (p : Place) → p ≢ place → entry self.new p ≡ entry self.old p }
     {
         self.grid.set(place, *modes);
+    }
+}
+
+impl ModeGrid for ModeMap {
+    ghost grid = { λ m. m };
+
+    fn segment(&self, place: Place) -> u8 {
+        self.grid.get(place).segment
+    }
+
+    fn sub_mode(&self, place: Place, k: usize) -> SubMode {
+        self.grid.get(place).sub_mode(k)
     }
 }

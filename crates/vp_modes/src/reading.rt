@@ -1,7 +1,7 @@
 //! Reading the modes of a macroblock.
 
 ghost use Rattle.std.specs.Prelude.{◌≡◌, ◌<◌, replicate};
-ghost use Rattle.vp_base.specs.Grid.{Has, with_entry};
+ghost use Rattle.vp_base.specs.Grid.{Has};
 ghost use Rattle.vp_bool.specs.Reader.{when};
 ghost use Rattle.vp_tables.specs.Modes.{is_by_subblocks};
 ghost use Rattle.vp_modes.specs.Modes.{segment_of, skip_by, inter_reference, reference_of, luma_mode};
@@ -12,7 +12,7 @@ ghost use Rattle.vp_modes.specs.Modes.{modes_at};
 
 use crate::contexts::{mode_above, mode_left};
 use crate::entry::Modes;
-use crate::map::ModeMap;
+use crate::grid::ModeGrid;
 use crate::walks::{read_chroma_by, read_inter_luma, read_key_luma};
 use vp_base::Place;
 use vp_bool::BoolDecoder;
@@ -119,16 +119,16 @@ fn read_chroma(header: &Header, d: &mut BoolDecoder) -> ChromaMode
 /// The mode probabilities of subblock `k` of the macroblock at `place`. `found` contains its subblock modes before
 /// `k`.
 #[tactic(auto, unfolding(crate::specs::Modes::sub_probabilities))]
-pub(crate) fn probabilities_of(
+pub(crate) fn probabilities_of<G: ModeGrid>(
     header: &Header,
-    map: &ModeMap,
+    map: &G,
     place: Place,
     found: &[SubMode; 16],
     k: usize,
 ) -> &'static [u8; 9]
-    requires place { Has map.now place }
+    requires place { Has (G.grid map.now) place }
     requires sub { k < 16 }
-    ensures { result.now ≡ sub_probabilities header.now map.now place found.now k }
+    ensures { result.now ≡ sub_probabilities header.now (G.grid map.now) place found.now k }
 {
     if header.key {
         key_sub_probabilities(
@@ -148,10 +148,15 @@ fn read_sub(probabilities: &[u8; 9], d: &mut BoolDecoder) -> SubMode
 }
 
 /// Reads the subblock modes of the macroblock at `place`.
-fn read_subs(header: &Header, map: &ModeMap, place: Place, d: &mut BoolDecoder) -> [SubMode; 16]
-    requires { Has map.now place }
-    ensures value { result ≡ (sub_modes header.now map.now place d.old).0 }
-    ensures rest { d.new ≡ (sub_modes header.now map.now place d.old).1 }
+fn read_subs<G: ModeGrid>(
+    header: &Header,
+    map: &G,
+    place: Place,
+    d: &mut BoolDecoder,
+) -> [SubMode; 16]
+    requires { Has (G.grid map.now) place }
+    ensures value { result ≡ (sub_modes header.now (G.grid map.now) place d.old).0 }
+    ensures rest { d.new ≡ (sub_modes header.now (G.grid map.now) place d.old).1 }
 {
     let mut found = [SubMode::Dc; 16];
     for k in 0..16 {
@@ -162,17 +167,17 @@ fn read_subs(header: &Header, map: &ModeMap, place: Place, d: &mut BoolDecoder) 
 }
 
 /// Reads the subblock modes if the luma mode is `B`. Otherwise all are DC.
-fn read_subs_of(
+fn read_subs_of<G: ModeGrid>(
     luma: LumaMode,
     header: &Header,
-    map: &ModeMap,
+    map: &G,
     place: Place,
     d: &mut BoolDecoder,
 ) -> [SubMode; 16]
-    requires { Has map.now place }
-    ensures value { result ≡ (when (is_by_subblocks luma) (sub_modes header.now map.now place)
+    requires { Has (G.grid map.now) place }
+    ensures value { result ≡ (when (is_by_subblocks luma) (sub_modes header.now (G.grid map.now) place)
         (replicate 16 SubMode.Dc) d.old).0 }
-    ensures rest { d.new ≡ (when (is_by_subblocks luma) (sub_modes header.now map.now place)
+    ensures rest { d.new ≡ (when (is_by_subblocks luma) (sub_modes header.now (G.grid map.now) place)
         (replicate 16 SubMode.Dc) d.old).1 }
 {
     if luma.is_by_subblocks() {
@@ -184,16 +189,16 @@ fn read_subs_of(
 
 /// Reads the modes of an intra macroblock, and adds them to `modes`.
 #[tactic(auto, unfolding(crate::specs::Modes::intra_modes, vp_bool::specs::Reader::bind))]
-fn read_intra(
+fn read_intra<G: ModeGrid>(
     header: &Header,
-    map: &ModeMap,
+    map: &G,
     place: Place,
     modes: Modes,
     d: &mut BoolDecoder,
 ) -> Modes
-    requires { Has map.now place }
-    ensures value { result ≡ (intra_modes header.now map.now place modes d.old).0 }
-    ensures rest { d.new ≡ (intra_modes header.now map.now place modes d.old).1 }
+    requires { Has (G.grid map.now) place }
+    ensures value { result ≡ (intra_modes header.now (G.grid map.now) place modes d.old).0 }
+    ensures rest { d.new ≡ (intra_modes header.now (G.grid map.now) place modes d.old).1 }
 {
     let luma = read_luma(header, d);
     let subs = read_subs_of(luma, header, map, place, d);
@@ -207,16 +212,16 @@ fn read_intra(
 }
 
 /// Reads the modes of the macroblock at `place` if it is intra.
-fn read_prediction(
+fn read_prediction<G: ModeGrid>(
     header: &Header,
-    map: &ModeMap,
+    map: &G,
     place: Place,
     modes: Modes,
     d: &mut BoolDecoder,
 ) -> Modes
-    requires { Has map.now place }
-    ensures value { result ≡ (prediction header.now map.now place modes d.old).0 }
-    ensures rest { d.new ≡ (prediction header.now map.now place modes d.old).1 }
+    requires { Has (G.grid map.now) place }
+    ensures value { result ≡ (prediction header.now (G.grid map.now) place modes d.old).0 }
+    ensures rest { d.new ≡ (prediction header.now (G.grid map.now) place modes d.old).1 }
 {
     if modes.reference.is_intra() {
         read_intra(header, map, place, modes, d)
@@ -229,12 +234,18 @@ fn read_prediction(
 /// of the result are DC.
 #[inline(always)]
 #[tactic(auto, unfolding(crate::specs::Modes::modes_at, vp_bool::specs::Reader::bind))]
-fn read_before_modes(header: &Header, map: &ModeMap, place: Place, d: &mut BoolDecoder) -> Modes
-    requires { Has map.now place }
-    ensures { prediction header.now map.now place result d.new ≡ modes_at header.now map.now place d.old }
+fn read_before_modes<G: ModeGrid>(
+    header: &Header,
+    map: &G,
+    place: Place,
+    d: &mut BoolDecoder,
+) -> Modes
+    requires { Has (G.grid map.now) place }
+    ensures { prediction header.now (G.grid map.now) place result d.new
+        ≡ modes_at header.now (G.grid map.now) place d.old }
 {
-    let before = map.get(place);
-    let segment = read_segment(header, before.segment, d);
+    let kept = map.segment(place);
+    let segment = read_segment(header, kept, d);
     let skip = read_skip(header.skip, d);
     let reference = read_reference(header, d);
     Modes {
@@ -247,37 +258,13 @@ fn read_before_modes(header: &Header, map: &ModeMap, place: Place, d: &mut BoolD
     }
 }
 
-/// Reads the header of the macroblock at `place`, without motion vectors: tests call it, and the decoder
-/// `read_modes_into`. The map contains the modes of this frame's earlier macroblocks, and at `place` the segment of the
-/// previous frame, which may be kept.
-pub fn read_modes(header: &Header, map: &ModeMap, place: Place, d: &mut BoolDecoder) -> Modes
-    requires { Has map.now place }
-    ensures value { result ≡ (modes_at header.now map.now place d.old).0 }
-    ensures rest { d.new ≡ (modes_at header.now map.now place d.old).1 }
+/// Reads the header of the macroblock at `place`, without motion vectors (chapter 19.3). The map contains the modes of
+/// this frame's earlier macroblocks, and at `place` the segment of the previous frame, which may be kept.
+pub fn read_modes<G: ModeGrid>(header: &Header, map: &G, place: Place, d: &mut BoolDecoder) -> Modes
+    requires { Has (G.grid map.now) place }
+    ensures value { result ≡ (modes_at header.now (G.grid map.now) place d.old).0 }
+    ensures rest { d.new ≡ (modes_at header.now (G.grid map.now) place d.old).1 }
 {
     let modes = read_before_modes(header, map, place, d);
     read_prediction(header, map, place, modes, d)
-}
-
-/// Reads the header of the macroblock at `place` and stores it in the map: `read_modes` and `ModeMap::set`. Returns its
-/// reference frame. An inter macroblock's modes are written once: they aren't joined with those of an intra macroblock.
-pub fn read_modes_into(
-    header: &Header,
-    map: &mut ModeMap,
-    place: Place,
-    d: &mut BoolDecoder,
-) -> Reference
-    requires { Has map.old place }
-    ensures value { map.new ≡ with_entry map.old place (modes_at header.now map.old place d.old).0 }
-    ensures reference { result ≡ (modes_at header.now map.old place d.old).0.reference }
-    ensures rest { d.new ≡ (modes_at header.now map.old place d.old).1 }
-{
-    let modes = read_before_modes(header, map, place, d);
-    if !modes.reference.is_intra() {
-        map.set(place, &modes);
-        return modes.reference;
-    }
-    let modes = read_intra(header, map, place, modes, d);
-    map.set(place, &modes);
-    modes.reference
 }
