@@ -329,8 +329,8 @@ def motion_at(h, g, p, reference, s):
     return R(mode=mode, vectors=vectors_by(h.probabilities.vectors, g, p, c, mode, s))
 
 # ---- vp_tokens/specs/Block.antt
-NO_TOKENS = R(levels=[0] * 16, tokens=0)
-def has_token(b): return b.tokens > 0
+NO_TOKENS = R(levels=[0] * 16, end=0)
+def has_token(b): return b.end > 0
 # ---- vp_tokens/specs/Levels.antt
 def bands_of(probabilities, kind): return probabilities[("LumaAfterY2", "Y2", "Chroma", "Luma").index(kind)]
 def first_of(kind): return 1 if kind == "LumaAfterY2" else 0
@@ -349,7 +349,7 @@ def levels(bands, i, context_, from_, s):
     return found
 def block_with(first_, xs):
     if not xs: return NO_TOKENS
-    return R(levels=[0] * first_ + xs + [0] * (16 - first_ - len(xs)), tokens=first_ + len(xs))
+    return R(levels=[0] * first_ + xs + [0] * (16 - first_ - len(xs)), end=first_ + len(xs))
 def coefficient_block(probabilities, kind, context_, s):
     return block_with(first_of(kind), levels(bands_of(probabilities, kind), first_of(kind), context_, 0, s))
 # ---- vp_tokens/specs/Blocks.antt. `Tokens` and `Blocks` are one record.

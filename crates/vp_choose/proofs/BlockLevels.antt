@@ -33,10 +33,10 @@ none_at (suc n) (suc k) = none_at n k
 pub none_ended : (n k : ℕ) → IsEnded (get_or (replicate n no_tokens) k no_tokens)
 none_ended n k = rw (none_at n k) (record { tight = λ some. absurd (omega arith); good = no_tokens-good })
 
-begun : (first : ℕ) (b : Block) → IsTight b → ((i : ℕ) → i < first → level_of b i ≡ pos 0) → 0 < b.tokens → first < b.tokens
-begun first b tight before some = elim (cases_lt first b.tokens) [
+begun : (first : ℕ) (b : Block) → IsTight b → ((i : ℕ) → i < first → level_of b i ≡ pos 0) → 0 < b.end → first < b.end
+begun first b tight before some = elim (cases_lt first b.end) [
   | inl more ↦ more
-  | inr most ↦ absurd (tight some (before (b.tokens - 1) (omega arith)))
+  | inr most ↦ absurd (tight some (before (b.end - 1) (omega arith)))
 ]
 
 pub are_spelled : (with_y2 : Bool) (blocks : List Block) → AreWritable with_y2 blocks → AreSpelled with_y2 blocks

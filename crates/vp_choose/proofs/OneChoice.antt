@@ -31,14 +31,14 @@ use Rattle.vp_choose.proofs.OneMotion.{moved_is_one, giving_is_one}
 
 -- ---- tokens by their levels
 
-counts : (a b : Block) → IsBlock a → IsTight b → a.levels ≡ b.levels → b.tokens ≤ a.tokens
-counts a b behind tight same = elim (cases_lt a.tokens b.tokens) [
-  | inl less ↦ absurd (tight (omega arith) (rw (← same) (behind.behind (b.tokens - 1) (omega arith))))
+counts : (a b : Block) → IsBlock a → IsTight b → a.levels ≡ b.levels → b.end ≤ a.end
+counts a b behind tight same = elim (cases_lt a.end b.end) [
+  | inl less ↦ absurd (tight (omega arith) (rw (← same) (behind.behind (b.end - 1) (omega arith))))
   | inr most ↦ most
 ]
 
-block_is : (a b : Block) → a.levels ≡ b.levels → a.tokens ≡ b.tokens → a ≡ b
-block_is a b l t = λ i. record { levels = l i; tokens = t i }
+block_is : (a b : Block) → a.levels ≡ b.levels → a.end ≡ b.end → a ≡ b
+block_is a b l t = λ i. record { levels = l i; end = t i }
 
 tokens_are : (t u : Tokens) → t.blocks ≡ u.blocks → t ≡ u
 tokens_are t u e = λ i. record { blocks = e i }

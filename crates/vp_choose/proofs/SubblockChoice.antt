@@ -147,7 +147,7 @@ module _ (f : ℕ → ℕ → ℕ) (factors : Factors) (place : Place) (p : Rast
       let here : Place = block_place 4 place k in
       let best : HasFirst 10 (λ i. sub_cost (part 4 f k) q here (mode_at i)) = has_first 9 (λ i. sub_cost (part 4 f k) q here (mode_at i)) in
       let mode : SubMode = mode_at best.number in
-      let own : Block = record { levels = sub_levels (part 4 f k) q here mode factors; tokens = 0 } in
+      let own : Block = record { levels = sub_levels (part 4 f k) q here mode factors; end = 0 } in
       let d : ℕ = sub_cost (part 4 f k) q here mode in
       let rest : AreSubblocksOver f factors place p (cost + d) =
       completed n (k + 1) (cost + d) (set modes k mode) (set blocks (1 + k) own) (omega arith) (length-set modes k mode ∙ m) (length-set blocks (1 + k) own ∙ l)

@@ -26,7 +26,7 @@ use vp_recon::{
     predict_macroblock, rebuild_macroblock_by, rebuilding_keeps_rows_above, rebuilding_keeps_shape,
     rebuilding_reads_one_row_above, unfiltered_picture_solves_its_equation,
 };
-use vp_tokens::{Contexts, Partitions, Tokens, pass_macroblock, read_macroblock};
+use vp_tokens::{Contexts, Partitions, Tokens, read_macroblock, skip_macroblock};
 
 /// A frame's picture, and whether a token partition was read past its end.
 #[derive(Drop)]
@@ -81,7 +81,7 @@ impl<'a> FrameDecoder<'a> {
         let has_y2 = predictor.has_y2();
         let coded = if modes.skip && !predictor.has_sub_modes() {
             // There are no tokens to clear, and no residue to add to the prediction.
-            pass_macroblock(&mut self.contexts, place, has_y2);
+            skip_macroblock(&mut self.contexts, place, has_y2);
             predict_macroblock(&mut self.picture, place, predictor);
             false
         } else {

@@ -9,7 +9,7 @@ use Rattle.vp_inter.specs.Filter.{taps, filter_six}
 use Rattle.vp_inter.specs.Inter.{reference_pixel, horizontal_pass, inter_pixel}
 use Rattle.vp_inter.specs.Filtered.{ArePaired, AreFiltered}
 use Rattle.vp_inter.proofs.FilterLemmas.{filter_six-same, filter_six-whole_pixels}
-use Rattle.vp_inter.proofs.PassLemmas.{inter_passes, across_bound}
+use Rattle.vp_inter.proofs.PassLemmas.{inter_passes, horizontal_bound}
 
 eighth : (z : ℤ) → ((pos 8 *ℤ floor_div z 8) ≤ℤ z) × (z ≤ℤ (pos 8 *ℤ floor_div z 8 +ℤ pos 7))
 eighth (pos n) = (omega (arith, ints), omega (arith, ints))
@@ -72,7 +72,7 @@ whole_row_is p x y first row column skip rows r c below none are rin cin =
     let six : ℕ → ℕ = λ (j : ℕ). pixel (skip + (r + j)) c in
     are (skip + 2 + r) c (omega arith) cin
     ∙ ap (λ (n : ℕ). pixel n c) (let e : skip + 2 + r ≡ skip + (r + 2) = omega arith in e)
-    ∙ sym (filter_six-whole_pixels 0 six (across_bound (taps 0 (fraction column)) p (first_tap x column) (first_tap y first) (skip + (r + 2)) c))
+    ∙ sym (filter_six-whole_pixels 0 six (horizontal_bound (taps 0 (fraction column)) p (first_tap x column) (first_tap y first) (skip + (r + 2)) c))
     ∙ ap (λ (n : ℕ). filter_six (taps 0 n) six) (sym none)
     ∙ moved_down p x y first row column skip r c below
 

@@ -5,5 +5,6 @@ pub mod NarrowLemmas
 pub mod LongLanes
 pub mod WideLemmas
 pub mod FilteredLemmas
-pub mod StripLemmas
+pub mod PanelLemmas
+pub mod WrittenLemmas
 pub mod ChromaLemmas

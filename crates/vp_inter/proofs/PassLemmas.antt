@@ -61,9 +61,9 @@ unfolding inter_pixel
 inter_passes version p x y v r c = refl
 
 -- a filtered pixel is a byte
-pub across_bound : (weights : List ℤ) (p : Raster) (left top : ℤ) (i c : ℕ) → horizontal_pass weights p left top i c ≤ 255
+pub horizontal_bound : (weights : List ℤ) (p : Raster) (left top : ℤ) (i c : ℕ) → horizontal_pass weights p left top i c ≤ 255
 unfolding horizontal_pass
-across_bound weights p left top i c = filtered_bound weights _ _ _ _ _ _
+horizontal_bound weights p left top i c = filtered_bound weights _ _ _ _ _ _
 
 lower : (weights : List ℤ) (p : Raster) (left top : ℤ) (r c : ℕ) → horizontal_pass weights p left (top +ℤ pos 2) r c ≡ horizontal_pass weights p left top (r + 2) c
 unfolding horizontal_pass
@@ -77,7 +77,7 @@ unfolding inter_pixel
 inter_level version p x y v r c none =
     let row : ℕ → ℕ = λ (k : ℕ). horizontal_pass (taps version (fraction v.column)) p (first_tap x v.column) (first_tap y v.row) (r + k) c in
     lower (taps version (fraction v.column)) p (first_tap x v.column) (first_tap y v.row) r c
-    ∙ sym (filter_six-whole_pixels version row (across_bound (taps version (fraction v.column)) p (first_tap x v.column) (first_tap y v.row) (r + 2) c))
+    ∙ sym (filter_six-whole_pixels version row (horizontal_bound (taps version (fraction v.column)) p (first_tap x v.column) (first_tap y v.row) (r + 2) c))
     ∙ ap (λ (n : ℕ). filter_six (taps version n) row) (sym none)
 
 -- at whole rows and columns neither pass does anything
@@ -96,10 +96,10 @@ inter_whole version p x y v r c rows columns byte =
     ∙ inter_level version p x y v r c rows
 
 -- at whole columns the horizontal pass does nothing
-pub across_whole : (version eighths : ℕ) (p : Raster) (left top : ℤ) (i c : ℕ) → eighths ≡ 0 → reference_pixel p (left +ℤ pos 2 +ℤ pos c) (top +ℤ pos i) ≤ 255
+pub horizontal_whole : (version eighths : ℕ) (p : Raster) (left top : ℤ) (i c : ℕ) → eighths ≡ 0 → reference_pixel p (left +ℤ pos 2 +ℤ pos c) (top +ℤ pos i) ≤ 255
     → reference_pixel p (left +ℤ pos 2 +ℤ pos c) (top +ℤ pos i) ≡ horizontal_pass (taps version eighths) p left top i c
 unfolding horizontal_pass
-across_whole version eighths p left top i c none byte =
+horizontal_whole version eighths p left top i c none byte =
     let line : ℕ → ℕ = λ (k : ℕ). reference_pixel p (left +ℤ pos (c + k)) (top +ℤ pos i) in
     let e : left +ℤ pos 2 +ℤ pos c ≡ left +ℤ pos (c + 2) = omega (arith, ints) in
     let at : reference_pixel p (left +ℤ pos 2 +ℤ pos c) (top +ℤ pos i) ≡ line 2 = ap (λ (z : ℤ). reference_pixel p z (top +ℤ pos i)) e in
@@ -143,36 +143,36 @@ module _ (version : ℕ) (p : Raster) (x y : ℕ) (v : PlaneVector) (r c : ℕ) 
       ∙ ap (λ (z : ℤ). horizontal_pass (taps version (fraction v.column)) p (first_tap x v.column) z r c) (further y v.row)
       ∙ inter_level version p x y v r c level
 
-  pub patch_both : (rows columns : List ℤ) → IsAt q p x y v → rows ≡ taps version (fraction v.column) → columns ≡ taps version (fraction v.row)
-      → filter_six columns (λ k. patch_pass rows q (r + k) c) ≡ inter_pixel version p x y v r c
-  patch_both rows columns at e f =
-      at_place (λ s left top. filter_six columns (λ k. horizontal_pass rows s left top (r + k) c)) q p x y v at
-      ∙ ap (λ (w : List ℤ). filter_six columns (λ k. horizontal_pass w p (first_tap x v.column) (first_tap y v.row) (r + k) c)) e
+  pub patch_both : (horizontal vertical : List ℤ) → IsAt q p x y v → horizontal ≡ taps version (fraction v.column) → vertical ≡ taps version (fraction v.row)
+      → filter_six vertical (λ k. patch_pass horizontal q (r + k) c) ≡ inter_pixel version p x y v r c
+  patch_both horizontal vertical at e f =
+      at_place (λ s left top. filter_six vertical (λ k. horizontal_pass horizontal s left top (r + k) c)) q p x y v at
+      ∙ ap (λ (w : List ℤ). filter_six vertical (λ k. horizontal_pass w p (first_tap x v.column) (first_tap y v.row) (r + k) c)) e
       ∙ ap (λ (w : List ℤ). filter_six w (λ k. horizontal_pass (taps version (fraction v.column)) p (first_tap x v.column) (first_tap y v.row) (r + k) c)) f
       ∙ inter_passes version p x y v r c
 
 -- the horizontal pass by weights that are known
-pub patch_rows : (p : Raster) (x y : ℕ) (v : PlaneVector) (i c : ℕ) (q : Patch) (weights rows : List ℤ) → IsAt q p x y v → weights ≡ rows
-    → patch_pass weights q i c ≡ horizontal_pass rows p (first_tap x v.column) (first_tap y v.row) i c
-patch_rows p x y v i c q weights rows at e =
+pub patch_rows : (p : Raster) (x y : ℕ) (v : PlaneVector) (i c : ℕ) (q : Patch) (weights horizontal : List ℤ) → IsAt q p x y v → weights ≡ horizontal
+    → patch_pass weights q i c ≡ horizontal_pass horizontal p (first_tap x v.column) (first_tap y v.row) i c
+patch_rows p x y v i c q weights horizontal at e =
     at_place (λ s left top. horizontal_pass weights s left top i c) q p x y v at ∙ ap (λ (w : List ℤ). horizontal_pass w p (first_tap x v.column) (first_tap y v.row) i c) e
 
 -- at whole columns the horizontal pass does nothing
-pub patch_across : (version : ℕ) (p : Raster) (x y : ℕ) (v : PlaneVector) (i c : ℕ) (q : Patch) → IsAt q p (x + 2) y v → fraction v.column ≡ 0
+pub patch_horizontal : (version : ℕ) (p : Raster) (x y : ℕ) (v : PlaneVector) (i c : ℕ) (q : Patch) → IsAt q p (x + 2) y v → fraction v.column ≡ 0
     → ((column row : ℤ) → reference_pixel p column row ≤ 255)
     → patch_pixel q i c ≡ horizontal_pass (taps version (fraction v.column)) p (first_tap x v.column) (first_tap y v.row) i c
-patch_across version p x y v i c q at none bytes =
+patch_horizontal version p x y v i c q at none bytes =
     at_place (λ s left top. reference_pixel s (left +ℤ pos c) (top +ℤ pos i)) q p (x + 2) y v at
     ∙ ap (λ (z : ℤ). reference_pixel p (z +ℤ pos c) (first_tap y v.row +ℤ pos i)) (further x v.column)
-    ∙ across_whole version (fraction v.column) p (first_tap x v.column) (first_tap y v.row) i c none (bytes (first_tap x v.column +ℤ pos 2 +ℤ pos c) (first_tap y v.row +ℤ pos i))
+    ∙ horizontal_whole version (fraction v.column) p (first_tap x v.column) (first_tap y v.row) i c none (bytes (first_tap x v.column +ℤ pos 2 +ℤ pos c) (first_tap y v.row +ℤ pos i))
 
-pub patch_down : (version : ℕ) (p : Raster) (x y : ℕ) (v : PlaneVector) (r c : ℕ) (q : Patch) (columns : List ℤ) → IsAt q p (x + 2) y v → fraction v.column ≡ 0
-    → ((column row : ℤ) → reference_pixel p column row ≤ 255) → columns ≡ taps version (fraction v.row)
-    → filter_six columns (λ k. patch_pixel q (r + k) c) ≡ inter_pixel version p x y v r c
-patch_down version p x y v r c q columns at none bytes e =
+pub patch_vertical : (version : ℕ) (p : Raster) (x y : ℕ) (v : PlaneVector) (r c : ℕ) (q : Patch) (vertical : List ℤ) → IsAt q p (x + 2) y v → fraction v.column ≡ 0
+    → ((column row : ℤ) → reference_pixel p column row ≤ 255) → vertical ≡ taps version (fraction v.row)
+    → filter_six vertical (λ k. patch_pixel q (r + k) c) ≡ inter_pixel version p x y v r c
+patch_vertical version p x y v r c q vertical at none bytes e =
     ap (λ (w : List ℤ). filter_six w (λ k. patch_pixel q (r + k) c)) e
     ∙ filter_six-same (taps version (fraction v.row)) (λ k. patch_pixel q (r + k) c) (λ k. horizontal_pass (taps version (fraction v.column)) p (first_tap x v.column) (first_tap y v.row) (r + k) c)
-    (λ k kin. patch_across version p x y v (r + k) c q at none bytes)
+    (λ k kin. patch_horizontal version p x y v (r + k) c q at none bytes)
     ∙ inter_passes version p x y v r c
 
 -- a block that lies inside the reference and is moved by whole pixels

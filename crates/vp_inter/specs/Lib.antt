@@ -4,6 +4,6 @@ pub mod Narrow
 pub mod Inter
 pub mod Turns
 pub mod Filtered
-pub mod Strips
+pub mod Panels
 pub mod Patches
 pub mod Chroma

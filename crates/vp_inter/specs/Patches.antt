@@ -35,7 +35,7 @@ patch_pass weights p r c = horizontal_pass weights (raster p) p.left p.top r c
 
 -- the six weights in three vectors
 abbrev pub weights_of : PairWeights → List ℤ
-weights_of far = first_weights far.first far.second far.third
+weights_of pairs = first_weights pairs.first pairs.second pairs.third
 
 -- A row filter selects pixels beside those three to the right, from each of the first three of six on. The first of
 -- them is column `from` of the place.

@@ -10,12 +10,12 @@ ghost use Rattle.vp_inter.specs.Inter.{inter_pixel};
 ghost use Rattle.vp_inter.specs.Vectors.{fraction, first_tap};
 
 use crate::filter::{Weights, ends_are_zero, has_two_taps, pass, taps};
+use crate::panel::vertical_pass_8x8;
 use crate::patch::Patch;
 use crate::reference::{plain_row, reference_line};
 use crate::short_rows::rows_by_filter;
 use crate::six_tap_1d::horizontal_filter;
-use crate::six_tap_2d::{filter_columns_of_16, filter_wide_rows, six_tap_2d_block};
-use crate::strip::filter_columns_of_8;
+use crate::six_tap_2d::{horizontal_wide_rows, six_tap_2d_block, vertical_pass_16x16};
 use crate::vector::PlaneVector;
 use std::simd::prelude::*;
 use vp_base::{Picture, Plane};
@@ -97,7 +97,11 @@ pub fn predict_into16(
     ensures { picture.new ≡ with_plane picture.old k (with_block (plane_of picture.old k) x y 16 16
         (inter_pixel version reference.now x y vector)) }
 {
-    predict_into::<16, 336, 256>(picture, k, x, y, reference, vector, version);
+    if copy_whole::<16>(picture, k, x, y, reference, vector) {
+        return;
+    }
+    let block = predict::<16, 336, 256>(reference, x, y, vector, version);
+    picture.write_block::<16>(k, x, y, &block);
 }
 
 /// Predicts an 8x8 block as `predict_into16` does.
@@ -118,7 +122,11 @@ pub fn predict_into8(
     ensures { picture.new ≡ with_plane picture.old k (with_block (plane_of picture.old k) x y 8 8
         (inter_pixel version reference.now x y vector)) }
 {
-    predict_into::<8, 104, 64>(picture, k, x, y, reference, vector, version);
+    if copy_whole::<8>(picture, k, x, y, reference, vector) {
+        return;
+    }
+    let block = predict::<8, 104, 64>(reference, x, y, vector, version);
+    picture.write_block::<8>(k, x, y, &block);
 }
 
 /// Predicts a 4x4 block as `predict_into16` does.
@@ -139,36 +147,41 @@ pub fn predict_into4(
     ensures { picture.new ≡ with_plane picture.old k (with_block (plane_of picture.old k) x y 4 4
         (inter_pixel version reference.now x y vector)) }
 {
-    predict_into::<4, 36, 16>(picture, k, x, y, reference, vector, version);
+    if copy_whole::<4>(picture, k, x, y, reference, vector) {
+        return;
+    }
+    let block = predict::<4, 36, 16>(reference, x, y, vector, version);
+    picture.write_block::<4>(k, x, y, &block);
 }
 
-/// Predicts an `N` by `N` block into a picture. A block of whole pixels that the reference contains is copied from it.
+/// Copies a block for a vector of whole pixels, if the reference contains it. Returns whether it did.
 #[inline(always)]
-fn predict_into<const N: usize, const L: usize, const M: usize>(
+fn copy_whole<const N: usize>(
     picture: &mut Picture,
     k: usize,
     x: usize,
     y: usize,
     reference: &Plane,
     vector: PlaneVector,
-    version: u8,
-)
-    requires sizes { AreSizes N L M }
+) -> bool
+    requires size { N ≤ 16 }
     requires plane { k < 3 }
     requires columns { x + N ≤ (plane_of picture.old k).width }
     requires rows { y + N ≤ (plane_of picture.old k).height }
     requires wide { 0 < reference.now.width }
     requires high { 0 < reference.now.height }
-    ensures { picture.new ≡ with_plane picture.old k (with_block (plane_of picture.old k) x y N N
-        (inter_pixel version reference.now x y vector)) }
+    ensures written { (version : ℕ) → IsTrue result → picture.new ≡ with_plane picture.old k
+        (with_block (plane_of picture.old k) x y N N (inter_pixel version reference.now x y vector)) }
+    ensures kept { (IsTrue result → ⊥) → picture.new ≡ picture.old }
+    // A picture has at most 16,384 columns and rows.
+    ensures near { (x ≤ 16384) × (y ≤ 16384) }
 {
     let _known = [picture.plane(k).width(), picture.plane(k).height()];
-    if let Some((column, row)) = whole_place(reference, x, y, vector, N) {
-        picture.copy_block::<N>(k, x, y, reference, column, row);
-        return;
-    }
-    let block = predict::<N, L, M>(reference, x, y, vector, version);
-    picture.write_block::<N>(k, x, y, &block);
+    let Some((column, row)) = whole_place(reference, x, y, vector, N) else {
+        return false;
+    };
+    picture.copy_block::<N>(k, x, y, reference, column, row);
+    true
 }
 
 /// The column and row of the reference from which a block of `size` by `size` pixels at (`x`, `y`) is copied. None
@@ -190,7 +203,7 @@ pub(crate) fn whole_place(
     ensures place { IfSome result (λ at. (pos at.0 ≡ first_tap (x + 2) vector.column)
         × (pos at.1 ≡ first_tap (y + 2) vector.row)) }
 {
-    if vector.across() != 0 || vector.down() != 0 {
+    if vector.horizontal_fraction() != 0 || vector.vertical_fraction() != 0 {
         return None;
     }
     let patch = Patch::at(reference, x + 2, y + 2, vector);
@@ -230,25 +243,25 @@ fn predict<const N: usize, const L: usize, const M: usize>(
     ensures { (r c : ℕ) → r < N → c < N → slice_index result (r * N + c)
         ≡ inter_pixel version plane.now x y vector r c }
 {
-    let across = vector.across();
-    let down = vector.down();
-    let patch = Patch::at(plane, start(x, across), start(y, down), vector);
+    let horizontal = vector.horizontal_fraction();
+    let vertical = vector.vertical_fraction();
+    let patch = Patch::at(plane, start(x, horizontal), start(y, vertical), vector);
     let mut block = [0; M];
-    match (across, down) {
+    match (horizontal, vertical) {
         (0, 0) => copy_rows::<N>(&mut block, &patch, N),
-        (_, 0) => pass_rows::<N>(&mut block, &patch, taps(version, across), N),
-        (0, _) => pass_down::<N, L, M>(&mut block, &patch, taps(version, down)),
+        (_, 0) => horizontal_pass::<N>(&mut block, &patch, taps(version, horizontal), N),
+        (0, _) => vertical_pass_alone::<N, L, M>(&mut block, &patch, taps(version, vertical)),
         (_, _) => {
-            let (across, down) = (taps(version, across), taps(version, down));
-            pass_both::<N, L, M>(&mut block, &patch, across, down);
+            let (horizontal, vertical) = (taps(version, horizontal), taps(version, vertical));
+            both_passes::<N, L, M>(&mut block, &patch, horizontal, vertical);
         }
     }
     block
 }
 
-/// The vertical pass alone. The rows of a block inside the plane are copied to strips of eight columns, if it has eight
+/// The vertical pass alone. The rows of a block inside the plane are copied to panels of eight columns, if it has eight
 /// columns, or sixteen and more than two taps.
-fn pass_down<const N: usize, const L: usize, const M: usize>(
+fn vertical_pass_alone<const N: usize, const L: usize, const M: usize>(
     pixels: &mut [u8],
     patch: &Patch,
     weights: Weights,
@@ -259,38 +272,38 @@ fn pass_down<const N: usize, const L: usize, const M: usize>(
         (λ k. patch_pixel patch.now (r + k) c) }
 {
     if N == 8 && patch.is_inside(N, N + 5) {
-        filter_columns_of_8(pixels, patch, weights);
+        vertical_pass_8x8(pixels, patch, weights);
         return;
     }
     if N == 16 && !has_two_taps(weights.six) && patch.is_inside(N, N + 5) {
-        filter_columns_of_16(pixels, patch, weights);
+        vertical_pass_16x16(pixels, patch, weights);
         return;
     }
     let mut rows = [0; L];
     copy_rows::<N>(&mut rows, patch, N + 5);
-    pass_columns::<N, M>(pixels, &rows, weights.six);
+    vertical_pass::<N, M>(pixels, &rows, weights.six);
 }
 
 /// Both passes, with `N + 5` rows of `N` pixels, `L` in all, between them. A 16x16 block with more than two taps in a
 /// row uses `six_tap_2d_block`, if the plane has at least sixteen columns.
-fn pass_both<const N: usize, const L: usize, const M: usize>(
+fn both_passes<const N: usize, const L: usize, const M: usize>(
     pixels: &mut [u8],
     patch: &Patch,
-    across: Weights,
-    down: Weights,
+    horizontal: Weights,
+    vertical: Weights,
 )
     requires sizes { AreSizes N L M }
     requires whole { length pixels.old ≡ M }
     ensures { (r c : ℕ) → r < N → c < N → slice_index pixels.new (r * N + c)
-        ≡ filter_six down.six.now (λ k. patch_pass across.six.now patch.now (r + k) c) }
+        ≡ filter_six vertical.six.now (λ k. patch_pass horizontal.six.now patch.now (r + k) c) }
 {
-    if N == 16 && patch.width >= 16 && !has_two_taps(across.six) {
-        six_tap_2d_block(pixels, patch, across, down);
+    if N == 16 && patch.width >= 16 && !has_two_taps(horizontal.six) {
+        six_tap_2d_block(pixels, patch, horizontal, vertical);
         return;
     }
     let mut rows = [0; L];
-    pass_rows::<N>(&mut rows, patch, across, N + 5);
-    pass_columns::<N, M>(pixels, &rows, down.six);
+    horizontal_pass::<N>(&mut rows, patch, horizontal, N + 5);
+    vertical_pass::<N, M>(pixels, &rows, vertical.six);
 }
 
 /// Copies `rows` rows of the reference.
@@ -311,7 +324,7 @@ pub(crate) fn copy_rows<const N: usize>(pixels: &mut [u8], patch: &Patch, rows: 
 
 /// The horizontal pass over `rows` rows of the reference. Short rows of a plane of at least sixteen columns take the
 /// columns beyond the plane like any others.
-fn pass_rows<const N: usize>(pixels: &mut [u8], patch: &Patch, weights: Weights, rows: usize)
+fn horizontal_pass<const N: usize>(pixels: &mut [u8], patch: &Patch, weights: Weights, rows: usize)
     requires size { N ≤ 16 }
     requires rows { rows ≤ 21 }
     requires all { length pixels.old ≡ rows * N }
@@ -347,7 +360,7 @@ pub(crate) fn other_rows<const N: usize>(
             horizontal_rows::<N, false, 2>(pixels, patch, weights.six, rows);
         }
     } else if N == 16 && patch.width >= 16 {
-        filter_wide_rows(pixels, patch, weights, rows);
+        horizontal_wide_rows(pixels, patch, weights, rows);
     } else {
         horizontal_rows::<N, false, 6>(pixels, patch, weights.six, rows);
     }
@@ -401,7 +414,7 @@ fn horizontal_row<const N: usize, const INSIDE: bool, const COUNT: usize>(
 
 /// The vertical pass over rows of `N` pixels, five more than it produces.
 #[inline(never)]
-fn pass_columns<const N: usize, const M: usize>(pixels: &mut [u8], rows: &[u8], weights: &[i16; 6])
+fn vertical_pass<const N: usize, const M: usize>(pixels: &mut [u8], rows: &[u8], weights: &[i16; 6])
     requires sizes { AreSizes N (length rows.now) M }
     requires whole { length pixels.old ≡ M }
     requires gentle { SumsFitI16 weights.now }

@@ -9,10 +9,10 @@ ghost use Rattle.vp_inter.specs.Vectors.{fraction};
 
 use crate::block::{predict_into8, whole_place};
 use crate::filter::taps;
+use crate::panel::{empty_panel, horizontal_to_panel, panel_filter, vertical_from_panel};
 use crate::patch::Patch;
 use crate::short_rows::rows_by_filter;
 use crate::six_tap_1d::horizontal_filter;
-use crate::strip::{empty_strip, filter_strip, filter_to_strip, strip_filter};
 use crate::vector::PlaneVector;
 use vp_base::Picture;
 
@@ -41,11 +41,11 @@ pub fn predict_into_chroma(
     }
     let u = reference.plane(1);
     let v = reference.plane(2);
-    if vector.across() == 0 || u.width() < 16 {
+    if vector.horizontal_fraction() == 0 || u.width() < 16 {
         predict_into8(picture, 1, x, y, u, vector, version);
         predict_into8(picture, 2, x, y, v, vector, version);
-    } else if vector.down() == 0 {
-        across_into_chroma(picture, x, y, reference, vector, version);
+    } else if vector.vertical_fraction() == 0 {
+        horizontal_into_chroma(picture, x, y, reference, vector, version);
     } else {
         filter_into_chroma(picture, x, y, reference, vector, version);
     }
@@ -79,7 +79,7 @@ fn copy_chroma(
 }
 
 /// Predicts both chroma blocks by the horizontal pass alone.
-fn across_into_chroma(
+fn horizontal_into_chroma(
     picture: &mut Picture,
     x: usize,
     y: usize,
@@ -88,7 +88,7 @@ fn across_into_chroma(
     version: u8,
 )
     requires room { HasChroma picture.old x y }
-    requires across { 0 < fraction vector.column }
+    requires horizontal { 0 < fraction vector.column }
     requires level { fraction vector.row ≡ 0 }
     requires wide { 16 ≤ reference.now.u.width }
     ensures { picture.new ≡ with_chroma picture.old reference.now x y vector version }
@@ -99,7 +99,7 @@ fn across_into_chroma(
     let v = reference.plane(2);
     let from_u = Patch::at(u, x, y + 2, vector);
     let from_v = Patch::at(v, x, y + 2, vector);
-    let filter = horizontal_filter(&from_u, 0, taps(version, vector.across()));
+    let filter = horizontal_filter(&from_u, 0, taps(version, vector.horizontal_fraction()));
     let mut block = [0; 64];
     rows_by_filter::<8>(&mut block, &from_u, &filter, 8);
     picture.write_block::<8>(1, x, y, &block);
@@ -117,8 +117,8 @@ fn filter_into_chroma(
     version: u8,
 )
     requires room { HasChroma picture.old x y }
-    requires across { 0 < fraction vector.column }
-    requires down { 0 < fraction vector.row }
+    requires horizontal { 0 < fraction vector.column }
+    requires vertical { 0 < fraction vector.row }
     requires wide { 16 ≤ reference.now.u.width }
     ensures { picture.new ≡ with_chroma picture.old reference.now x y vector version }
 {
@@ -128,14 +128,14 @@ fn filter_into_chroma(
     let v = reference.plane(2);
     let from_u = Patch::at(u, x, y, vector);
     let from_v = Patch::at(v, x, y, vector);
-    let filter = horizontal_filter(&from_u, 0, taps(version, vector.across()));
-    let down = strip_filter(taps(version, vector.down()));
-    let mut strip = empty_strip();
+    let filter = horizontal_filter(&from_u, 0, taps(version, vector.horizontal_fraction()));
+    let vertical = panel_filter(taps(version, vector.vertical_fraction()));
+    let mut panel = empty_panel();
     let mut block = [0; 64];
-    filter_to_strip::<13>(&mut strip, &from_u, &filter);
-    filter_strip(&mut block, &strip, &down);
+    horizontal_to_panel::<13>(&mut panel, &from_u, &filter);
+    vertical_from_panel(&mut block, &panel, &vertical);
     picture.write_block::<8>(1, x, y, &block);
-    filter_to_strip::<13>(&mut strip, &from_v, &filter);
-    filter_strip(&mut block, &strip, &down);
+    horizontal_to_panel::<13>(&mut panel, &from_v, &filter);
+    vertical_from_panel(&mut block, &panel, &vertical);
     picture.write_block::<8>(2, x, y, &block);
 }

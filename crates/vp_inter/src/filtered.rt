@@ -7,7 +7,7 @@ ghost use Rattle.vp_inter.specs.Filtered.{AreFiltered};
 use crate::block::{copy_rows, other_rows};
 use crate::filter::taps;
 use crate::patch::Patch;
-use crate::six_tap_1d::{pair_rows, paired_weights, vertical_sixteen, wide_columns};
+use crate::six_tap_1d::{pair_rows, paired_weights, vertical_sixteen, vertical_wide_rows};
 use crate::vector::PlaneVector;
 use crate::weights::PairWeights;
 use std::marker::Model;
@@ -16,28 +16,28 @@ use vp_base::Plane;
 
 /// The weights of the vertical pass of version 0, for a fraction of a row.
 #[derive(Drop)]
-pub struct ColumnFilter {
-    far: PairWeights,
+pub struct VerticalFilter {
+    weights: PairWeights,
 }
 
-impl Model for ColumnFilter {
+impl Model for VerticalFilter {
     ghost use Rattle.std.specs.Prelude.{ℤ, List};
     ghost use Rattle.vp_inter.specs.Patches.{weights_of};
 
     ghost Value = { List ℤ };
 
-    ghost view = { λ f. weights_of f.far };
+    ghost view = { λ f. weights_of f.weights };
 }
 
-impl ColumnFilter {
+impl VerticalFilter {
     /// The weights for a fraction in eighths, which is not 0.
-    pub fn of(eighths: usize) -> ColumnFilter
+    pub fn of(eighths: usize) -> VerticalFilter
         requires some { 0 < eighths }
         requires bound { eighths < 8 }
         ensures { result ≡ taps 0 eighths }
     {
-        ColumnFilter {
-            far: paired_weights(taps(0, eighths)),
+        VerticalFilter {
+            weights: paired_weights(taps(0, eighths)),
         }
     }
 }
@@ -83,12 +83,12 @@ impl FilteredRows {
         requires high { 0 < plane.now.height }
         ensures { AreFiltered plane.now x y vector self.new }
     {
-        let across = vector.across();
-        if across == 0 {
+        let horizontal = vector.horizontal_fraction();
+        if horizontal == 0 {
             copy_rows::<16>(&mut self.rows, &Patch::at(plane, x + 2, y, vector), 22);
         } else {
             let patch = Patch::at(plane, x, y, vector);
-            other_rows::<16>(&mut self.rows, &patch, taps(0, across), 22);
+            other_rows::<16>(&mut self.rows, &patch, taps(0, horizontal), 22);
         }
         pair_rows::<19>(&mut self.pairs, &self.rows);
     }
@@ -102,21 +102,21 @@ impl FilteredRows {
 
     /// The vertical pass to one row, from row `r` and the five below it.
     #[inline(always)]
-    pub fn filtered_row(&self, filter: &ColumnFilter, r: usize) -> u8x16
+    pub fn filtered_row(&self, filter: &VerticalFilter, r: usize) -> u8x16
         requires { r ≤ 16 }
         ensures { (c : ℕ) → c < 16
             → slice_index result c ≡ filter_six filter.now (λ k. slice_index self.now ((r + k) * 16 + c)) }
     {
-        vertical_sixteen(&self.pairs, 32 * r, &filter.far)
+        vertical_sixteen(&self.pairs, 32 * r, &filter.weights)
     }
 
     /// The vertical pass to 17 rows: the blocks of two vectors, of which one lies a pixel below the other.
-    pub fn filtered_rows(&self, filter: &ColumnFilter) -> [u8; 272]
+    pub fn filtered_rows(&self, filter: &VerticalFilter) -> [u8; 272]
         ensures { (r c : ℕ) → r < 17 → c < 16 → slice_index result (r * 16 + c)
             ≡ filter_six filter.now (λ k. slice_index self.now ((r + k) * 16 + c)) }
     {
         let mut pixels = [0; 272];
-        wide_columns::<17>(&mut pixels, &self.pairs, &filter.far);
+        vertical_wide_rows::<17>(&mut pixels, &self.pairs, &filter.weights);
         pixels
     }
 }

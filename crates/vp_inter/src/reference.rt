@@ -34,8 +34,8 @@ fn are_bytes(pixels: &[u8])
 
 impl<'a> Patch<'a> {
     /// The first of the six rows and columns that the block at column `x` of row `y` is predicted from, displaced by
-    /// `vector`. Without a fraction only the third counts, which is that of `x + 2` or `y + 2`. The second clause states
-    /// that pixels are bytes, for callers that compute with them.
+    /// `vector`. Without a fraction only the third counts, which is that of `x + 2` or `y + 2`. The second clause
+    /// states that pixels are bytes, for callers that compute with them.
     #[inline(always)]
     pub(crate) fn at(plane: &'a Plane, x: usize, y: usize, vector: PlaneVector) -> Patch<'a>
         requires column { x ≤ 16400 }

@@ -5,7 +5,7 @@ ghost use Rattle.vp_inter.specs.Patches.{patch_pass, weights_of, HasRows, Select
 
 use crate::block::put_lanes;
 use crate::patch::Patch;
-use crate::six_tap_1d::{filtered_row, joined};
+use crate::six_tap_1d::{filtered_row, joined_halves};
 use crate::weights::HorizontalFilter;
 use std::simd::prelude::*;
 
@@ -70,19 +70,19 @@ fn filtered_rows<const N: usize, const INSIDE: bool>(
     requires inside { IsTrue INSIDE → HasRows patch.now rows }
     requires room { filter.now.start + 16 ≤ patch.now.width }
     ensures { Selects filter.now patch.now 0 → (i c : ℕ) → i < rows → c < N
-        → slice_index pixels.new (i * N + c) ≡ patch_pass (weights_of filter.now.far) patch.now i c }
+        → slice_index pixels.new (i * N + c) ≡ patch_pass (weights_of filter.now.weights) patch.now i c }
 {
     let here = *patch;
     let own = *filter;
     for i in 0..rows / 2 {
-        let pair = joined(
-            filtered_row::<INSIDE>(&here, 2 * i, &own, &filter.far),
-            filtered_row::<INSIDE>(&here, 2 * i + 1, &own, &filter.far),
+        let pair = joined_halves(
+            filtered_row::<INSIDE>(&here, 2 * i, &own, &filter.weights),
+            filtered_row::<INSIDE>(&here, 2 * i + 1, &own, &filter.weights),
         );
         put_two::<N>(pixels, i, pair);
     }
     if rows % 2 == 1 {
-        let row = filtered_row::<INSIDE>(&here, rows - 1, &own, &filter.far);
+        let row = filtered_row::<INSIDE>(&here, rows - 1, &own, &filter.weights);
         put_short::<N>(pixels, rows - 1, row);
     }
 }
@@ -101,7 +101,7 @@ pub(crate) fn rows_by_filter<const N: usize>(
     requires all { length pixels.old ≡ rows * N }
     requires room { filter.now.start + 16 ≤ patch.now.width }
     ensures { Selects filter.now patch.now 0 → (i c : ℕ) → i < rows → c < N
-        → slice_index pixels.new (i * N + c) ≡ patch_pass (weights_of filter.now.far) patch.now i c }
+        → slice_index pixels.new (i * N + c) ≡ patch_pass (weights_of filter.now.weights) patch.now i c }
 {
     if patch.has_rows(rows) {
         filtered_rows::<N, true>(pixels, patch, filter, rows);

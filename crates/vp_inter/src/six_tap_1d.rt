@@ -57,7 +57,7 @@ pub(crate) fn interleave(even: u8x8, odd: u8x8) -> u8x16
 }
 
 /// Concatenates both.
-pub(crate) fn joined(front: u8x8, back: u8x8) -> u8x16
+pub(crate) fn joined_halves(front: u8x8, back: u8x8) -> u8x16
     ensures front { (j : ℕ) → j < 8 → slice_index result j ≡ slice_index front j }
     ensures back { (j : ℕ) → j < 8 → slice_index result (8 + j) ≡ slice_index back j }
 {
@@ -66,44 +66,44 @@ pub(crate) fn joined(front: u8x8, back: u8x8) -> u8x16
 
 /// The weighted sums of six pixels each. Each vector interleaves pixels that are three apart in the direction of the
 /// pass: 0 and 3, 1 and 4, and 2 and 5.
-fn weighted_sums(a: u8x16, b: u8x16, c: u8x16, far: &PairWeights) -> i16x8
-    ensures { (j : ℕ) → j < 8 → lane result j ≡ sum_of_six (weights_of far.now)
+fn weighted_sums(a: u8x16, b: u8x16, c: u8x16, weights: &PairWeights) -> i16x8
+    ensures { (j : ℕ) → j < 8 → lane result j ≡ sum_of_six (weights_of weights.now)
         (λ k. slice_index (one_of_three a b c (k % 3)) (2 * j + k / 3)) }
 {
     sum_of_three(
-        pair_sums(a, far.first),
-        pair_sums(b, far.second),
-        pair_sums(c, far.third),
+        pair_sums(a, weights.first),
+        pair_sums(b, weights.second),
+        pair_sums(c, weights.third),
     )
 }
 
 /// Filters eight pixels, horizontally or vertically. Each vector interleaves pixels that are three apart in that
 /// direction.
-pub(crate) fn filtered_pairs(a: u8x16, b: u8x16, c: u8x16, far: &PairWeights) -> u8x8
-    ensures { (j : ℕ) → j < 8 → slice_index result j ≡ filter_six (weights_of far.now)
+pub(crate) fn filtered_pairs(a: u8x16, b: u8x16, c: u8x16, weights: &PairWeights) -> u8x8
+    ensures { (j : ℕ) → j < 8 → slice_index result j ≡ filter_six (weights_of weights.now)
         (λ k. slice_index (one_of_three a b c (k % 3)) (2 * j + k / 3)) }
 {
-    rounded_pixels::<8>(weighted_sums(a, b, c, far))
+    rounded_pixels::<8>(weighted_sums(a, b, c, weights))
 }
 
 /// Filters sixteen pixels vertically, from interleaved rows that are three apart.
-pub(crate) fn vertical_sixteen(pairs: &[u8], at: usize, far: &PairWeights) -> u8x16
+pub(crate) fn vertical_sixteen(pairs: &[u8], at: usize, weights: &PairWeights) -> u8x16
     requires { at + 96 ≤ length pairs.now }
-    ensures { (j : ℕ) → j < 16 → slice_index result j ≡ filter_six (weights_of far.now)
+    ensures { (j : ℕ) → j < 16 → slice_index result j ≡ filter_six (weights_of weights.now)
         (λ k. slice_index pairs.now (at + 32 * (k % 3) + (2 * j + k / 3))) }
 {
-    joined(
+    joined_halves(
         filtered_pairs(
             load(pairs, at),
             load(pairs, at + 32),
             load(pairs, at + 64),
-            far,
+            weights,
         ),
         filtered_pairs(
             load(pairs, at + 16),
             load(pairs, at + 48),
             load(pairs, at + 80),
-            far,
+            weights,
         ),
     )
 }
@@ -125,15 +125,19 @@ pub(crate) fn pair_rows<const ROWS: usize>(pairs: &mut [u8], rows: &[u8])
 
 /// The vertical pass to `ROWS` rows, over interleaved rows of sixteen pixels.
 #[inline(never)]
-pub(crate) fn wide_columns<const ROWS: usize>(pixels: &mut [u8], pairs: &[u8], far: &PairWeights)
+pub(crate) fn vertical_wide_rows<const ROWS: usize>(
+    pixels: &mut [u8],
+    pairs: &[u8],
+    weights: &PairWeights,
+)
     requires few { ROWS ≤ 17 }
     requires room { length pairs.now ≡ 32 * ROWS + 64 }
     requires whole { length pixels.old ≡ 16 * ROWS }
     ensures { (r c : ℕ) → r < ROWS → c < 16 → slice_index pixels.new (r * 16 + c) ≡ filter_six
-        (weights_of far.now) (λ k. slice_index pairs.now (32 * r + 32 * (k % 3) + (2 * c + k / 3))) }
+        (weights_of weights.now) (λ k. slice_index pairs.now (32 * r + 32 * (k % 3) + (2 * c + k / 3))) }
 {
     for i in 0..ROWS {
-        let row = vertical_sixteen(pairs, 32 * i, far);
+        let row = vertical_sixteen(pairs, 32 * i, weights);
         put_lanes::<16>(pixels, i, row);
     }
 }
@@ -144,7 +148,7 @@ pub(crate) fn horizontal_filter(patch: &Patch, from: usize, weights: Weights) ->
     requires near { from ≤ 8 }
     ensures room { result.start + 16 ≤ patch.now.width }
     ensures places { Selects result patch.now from }
-    ensures weights { weights_of result.far ≡ weights.six.now }
+    ensures weights { weights_of result.weights ≡ weights.six.now }
 {
     let Span { first, places } = span_of(patch.width, patch.left + from as i32);
     HorizontalFilter {
@@ -152,31 +156,31 @@ pub(crate) fn horizontal_filter(patch: &Patch, from: usize, weights: Weights) ->
         first: places.swizzle::<16>([0, 3, 1, 4, 2, 5, 3, 6, 4, 7, 5, 8, 6, 9, 7, 10]),
         second: places.swizzle::<16>([1, 4, 2, 5, 3, 6, 4, 7, 5, 8, 6, 9, 7, 10, 8, 11]),
         third: places.swizzle::<16>([2, 5, 3, 6, 4, 7, 5, 8, 6, 9, 7, 10, 8, 11, 9, 12]),
-        far: paired_weights(weights),
+        weights: paired_weights(weights),
     }
 }
 
-/// Filters eight pixels of row `i`, those that `filter` selects. If `INSIDE`, the row is inside the plane. `far` are
-/// the weights of `filter`, which the loop around this reloads from memory: with weights in registers the compiler
+/// Filters eight pixels of row `i`, those that `filter` selects. If `INSIDE`, the row is inside the plane. `weights`
+/// are those of `filter`, which the loop around this reloads from memory: with weights in registers the compiler
 /// doesn't select the multiply-add instruction.
 #[inline(always)]
 pub(crate) fn filtered_row<const INSIDE: bool>(
     patch: &Patch,
     i: usize,
     filter: &HorizontalFilter,
-    far: &PairWeights,
+    weights: &PairWeights,
 ) -> u8x8
     requires near { i ≤ 21 }
     requires inside { IsTrue INSIDE → HasRows patch.now (i + 1) }
     requires room { filter.now.start + 16 ≤ patch.now.width }
     ensures { (from : ℕ) → Selects filter.now patch.now from → (j : ℕ) → j < 8
-        → slice_index result j ≡ patch_pass (weights_of far.now) patch.now i (from + j) }
+        → slice_index result j ≡ patch_pass (weights_of weights.now) patch.now i (from + j) }
 {
     let pixels = load::<16>(patch.row::<INSIDE>(i), filter.start);
     filtered_pairs(
         shuffle(pixels, filter.first),
         shuffle(pixels, filter.second),
         shuffle(pixels, filter.third),
-        far,
+        weights,
     )
 }

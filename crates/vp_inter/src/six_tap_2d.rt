@@ -1,19 +1,19 @@
-//! Passes over 16x16 blocks, in two strips of eight columns (RFC 6386, chapter 18.3). The vertical pass processes three
+//! Passes over 16x16 blocks, in two panels of eight columns (RFC 6386, chapter 18.3). The vertical pass processes three
 //! rows in each iteration.
 
 ghost use Rattle.std.specs.Prelude.{◌≡◌, ℕ, ◌+◌, ◌*◌, ◌<◌, ◌≤◌, length, slice_index, IsTrue};
 ghost use Rattle.vp_inter.specs.Filter.{filter_six};
 ghost use Rattle.vp_inter.specs.Patches.{patch_pixel, patch_pass, weights_of, HasColumns, HasRows, Selects};
-ghost use Rattle.vp_inter.specs.Strips.{AreStrips, HoldsRows, Interleave, IsFilteredRow, IsPair};
+ghost use Rattle.vp_inter.specs.Panels.{ArePanels, HoldsRows, Interleave, IsFilteredRow, IsPair};
 
 use crate::block::put_lanes;
 use crate::filter::Weights;
+use crate::panel::{
+    Panel, PanelFilter, empty_panel, horizontal_to_panel, pair_of, panel_filter, put_halves,
+};
 use crate::patch::Patch;
 use crate::reference::plain_row;
-use crate::six_tap_1d::{filtered_pairs, filtered_row, horizontal_filter, joined};
-use crate::strip::{
-    Strip, StripFilter, empty_strip, filter_to_strip, pair_of, put_halves, strip_filter,
-};
+use crate::six_tap_1d::{filtered_pairs, filtered_row, horizontal_filter, joined_halves};
 use crate::weights::{HorizontalFilter, PairWeights};
 use std::simd::prelude::*;
 
@@ -24,12 +24,12 @@ pub(crate) struct Pair {
     pub(crate) right: u8x16,
 }
 
-/// Copies 21 rows of sixteen pixels, which are inside the plane, to two strips.
+/// Copies 21 rows of sixteen pixels, which are inside the plane, to two panels.
 #[inline(never)]
-fn copy_strips(left: &mut Strip, right: &mut Strip, patch: &Patch)
+fn copy_panels(left: &mut Panel, right: &mut Panel, patch: &Patch)
     requires columns { HasColumns patch.now 16 }
     requires rows { HasRows patch.now 21 }
-    ensures { AreStrips left.new right.new (patch_pixel patch.now) }
+    ensures { ArePanels left.new right.new (patch_pixel patch.now) }
 {
     let here = *patch;
     for e in 0..7 {
@@ -59,14 +59,14 @@ fn rows_to_block<const INSIDE: bool>(
     requires places { Selects left.now patch.now 0 }
     requires further { Selects right.now patch.now 8 }
     ensures { (i c : ℕ) → i < rows → c < 16
-        → slice_index pixels.new (i * 16 + c) ≡ patch_pass (weights_of left.now.far) patch.now i c }
+        → slice_index pixels.new (i * 16 + c) ≡ patch_pass (weights_of left.now.weights) patch.now i c }
 {
     let here = *patch;
     let (own, own_right) = (*left, *right);
     for i in 0..rows {
-        let row = joined(
-            filtered_row::<INSIDE>(&here, i, &own, &left.far),
-            filtered_row::<INSIDE>(&here, i, &own_right, &left.far),
+        let row = joined_halves(
+            filtered_row::<INSIDE>(&here, i, &own, &left.weights),
+            filtered_row::<INSIDE>(&here, i, &own_right, &left.weights),
         );
         put_lanes::<16>(pixels, i, row);
     }
@@ -74,7 +74,7 @@ fn rows_to_block<const INSIDE: bool>(
 
 /// The horizontal pass over `rows` rows of a plane of at least sixteen columns. It takes the columns beyond the plane
 /// like any others.
-pub(crate) fn filter_wide_rows(pixels: &mut [u8], patch: &Patch, weights: Weights, rows: usize)
+pub(crate) fn horizontal_wide_rows(pixels: &mut [u8], patch: &Patch, weights: Weights, rows: usize)
     requires rows { rows ≤ 22 }
     requires all { length pixels.old ≡ rows * 16 }
     requires columns { 16 ≤ patch.now.width }
@@ -108,22 +108,22 @@ fn pair_at(left: &[u8], right: &[u8], e: usize, places: u8x16) -> Pair
 
 /// Filters one row vertically, from three consecutive pairs of rows.
 #[inline(always)]
-fn vertical_row(a: &Pair, b: &Pair, c: &Pair, far: &PairWeights) -> u8x16
+fn vertical_row(a: &Pair, b: &Pair, c: &Pair, weights: &PairWeights) -> u8x16
     ensures { (pixel : ℕ → ℕ → ℕ) → (r : ℕ) → IsPair a.now pixel r → IsPair b.now pixel (r + 1)
-        → IsPair c.now pixel (r + 2) → IsFilteredRow (weights_of far.now) pixel r result }
+        → IsPair c.now pixel (r + 2) → IsFilteredRow (weights_of weights.now) pixel r result }
 {
-    joined(
-        filtered_pairs(a.left, b.left, c.left, far),
-        filtered_pairs(a.right, b.right, c.right, far),
+    joined_halves(
+        filtered_pairs(a.left, b.left, c.left, weights),
+        filtered_pairs(a.right, b.right, c.right, weights),
     )
 }
 
-/// The vertical pass to a 16x16 block, over two strips. Each iteration gives three rows from five pairs of rows.
+/// The vertical pass to a 16x16 block, over two panels. Each iteration gives three rows from five pairs of rows.
 #[inline(never)]
-fn filter_strips(pixels: &mut [u8], left: &Strip, right: &Strip, filter: &StripFilter)
+fn vertical_from_panels(pixels: &mut [u8], left: &Panel, right: &Panel, filter: &PanelFilter)
     requires { length pixels.old ≡ 256 }
-    ensures { (pixel : ℕ → ℕ → ℕ) → AreStrips left.now right.now pixel → (r c : ℕ) → r < 16 → c < 16
-        → slice_index pixels.new (r * 16 + c) ≡ filter_six (weights_of filter.now.far) (λ k. pixel (r + k) c) }
+    ensures { (pixel : ℕ → ℕ → ℕ) → ArePanels left.now right.now pixel → (r c : ℕ) → r < 16 → c < 16
+        → slice_index pixels.new (r * 16 + c) ≡ filter_six (weights_of filter.now.weights) (λ k. pixel (r + k) c) }
 {
     let places = filter.places;
     for e in 0..5 {
@@ -132,9 +132,9 @@ fn filter_strips(pixels: &mut [u8], left: &Strip, right: &Strip, filter: &StripF
         let c = pair_at(&left.third, &right.third, e, places);
         let d = pair_at(&left.first, &right.first, e + 1, places);
         let f = pair_at(&left.second, &right.second, e + 1, places);
-        let first = vertical_row(&a, &b, &c, &filter.far);
-        let second = vertical_row(&b, &c, &d, &filter.far);
-        let third = vertical_row(&c, &d, &f, &filter.far);
+        let first = vertical_row(&a, &b, &c, &filter.weights);
+        let second = vertical_row(&b, &c, &d, &filter.weights);
+        let third = vertical_row(&c, &d, &f, &filter.weights);
         put_lanes::<16>(pixels, 3 * e, first);
         put_lanes::<16>(pixels, 3 * e + 1, second);
         put_lanes::<16>(pixels, 3 * e + 2, third);
@@ -142,34 +142,39 @@ fn filter_strips(pixels: &mut [u8], left: &Strip, right: &Strip, filter: &StripF
     let a = pair_at(&left.first, &right.first, 5, places);
     let b = pair_at(&left.second, &right.second, 5, places);
     let c = pair_at(&left.third, &right.third, 5, places);
-    let last = vertical_row(&a, &b, &c, &filter.far);
+    let last = vertical_row(&a, &b, &c, &filter.weights);
     put_lanes::<16>(pixels, 15, last);
 }
 
 /// The vertical pass to a 16x16 block, over rows that are inside the plane.
-pub(crate) fn filter_columns_of_16(pixels: &mut [u8], patch: &Patch, weights: Weights)
+pub(crate) fn vertical_pass_16x16(pixels: &mut [u8], patch: &Patch, weights: Weights)
     requires whole { length pixels.old ≡ 256 }
     requires columns { HasColumns patch.now 16 }
     requires rows { HasRows patch.now 21 }
     ensures { (r c : ℕ) → r < 16 → c < 16 → slice_index pixels.new (r * 16 + c)
         ≡ filter_six weights.six.now (λ k. patch_pixel patch.now (r + k) c) }
 {
-    let mut left = empty_strip();
-    let mut right = empty_strip();
-    copy_strips(&mut left, &mut right, patch);
-    filter_strips(pixels, &left, &right, &strip_filter(weights));
+    let mut left = empty_panel();
+    let mut right = empty_panel();
+    copy_panels(&mut left, &mut right, patch);
+    vertical_from_panels(pixels, &left, &right, &panel_filter(weights));
 }
 
 /// Both passes over a block of a plane of at least sixteen columns.
-pub(crate) fn six_tap_2d_block(pixels: &mut [u8], patch: &Patch, rows: Weights, columns: Weights)
+pub(crate) fn six_tap_2d_block(
+    pixels: &mut [u8],
+    patch: &Patch,
+    horizontal: Weights,
+    vertical: Weights,
+)
     requires whole { length pixels.old ≡ 256 }
     requires width { 16 ≤ patch.now.width }
     ensures { (r c : ℕ) → r < 16 → c < 16 → slice_index pixels.new (r * 16 + c)
-        ≡ filter_six columns.six.now (λ k. patch_pass rows.six.now patch.now (r + k) c) }
+        ≡ filter_six vertical.six.now (λ k. patch_pass horizontal.six.now patch.now (r + k) c) }
 {
-    let mut left = empty_strip();
-    let mut right = empty_strip();
-    filter_to_strip::<21>(&mut left, patch, &horizontal_filter(patch, 0, rows));
-    filter_to_strip::<21>(&mut right, patch, &horizontal_filter(patch, 8, rows));
-    filter_strips(pixels, &left, &right, &strip_filter(columns));
+    let mut left = empty_panel();
+    let mut right = empty_panel();
+    horizontal_to_panel::<21>(&mut left, patch, &horizontal_filter(patch, 0, horizontal));
+    horizontal_to_panel::<21>(&mut right, patch, &horizontal_filter(patch, 8, horizontal));
+    vertical_from_panels(pixels, &left, &right, &panel_filter(vertical));
 }

@@ -14,16 +14,16 @@ pub struct PlaneVector {
 }
 
 impl PlaneVector {
-    /// The remaining eighths of a row, 0 to 7.
-    pub(crate) fn down(self) -> usize
+    /// The fraction that the vertical pass interpolates: the remaining eighths of a row, 0 to 7.
+    pub(crate) fn vertical_fraction(self) -> usize
         ensures value { result ≡ fraction self.row }
         ensures bound { result < 8 }
     {
         fraction(self.row)
     }
 
-    /// The remaining eighths of a column.
-    pub(crate) fn across(self) -> usize
+    /// The fraction that the horizontal pass interpolates: the remaining eighths of a column, 0 to 7.
+    pub(crate) fn horizontal_fraction(self) -> usize
         ensures value { result ≡ fraction self.column }
         ensures bound { result < 8 }
     {

@@ -26,6 +26,6 @@ pub(crate) struct HorizontalFilter {
     pub(crate) first: u8x16,
     pub(crate) second: u8x16,
     pub(crate) third: u8x16,
-    pub(crate) far: PairWeights,
+    pub(crate) weights: PairWeights,
     ghost lanes: { AreLanes first second third },
 }

@@ -94,7 +94,7 @@ fn block_at(plane: &Plane, at: usize) -> Option<[[u8; 4]; 4]>
 
 const LEAST: Block = Block {
     levels: [-2114; 16],
-    tokens: 16,
+    end: 16,
 };
 
 const FIRST_OF_ONES: [[u8; 4]; 4] = [
@@ -178,7 +178,7 @@ fn one_subblock(rt: HostRuntime) {
 /// Two levels; the product of the first one exceeds 16 bits.
 const GREAT: Block = Block {
     levels: [300, 1, 0, 0, 0, 0, 0, 0, 0, 0, 0, 0, 0, 0, 0, 0],
-    tokens: 2,
+    end: 2,
 };
 
 /// 300 times 157 is 47,100, an eighth of which exceeds 255 for each pixel. In 16 bits it would wrap to a negative
@@ -196,12 +196,12 @@ fn great_products_do_not_wrap(rt: HostRuntime) {
 
 const Y2: Block = Block {
     levels: [5, -3, 0, 0, 0, 0, 0, 0, 0, 0, 0, 0, 0, 0, 0, 0],
-    tokens: 2,
+    end: 2,
 };
 
 const SIXTH: Block = Block {
     levels: [0, 7, -9, 0, 0, 0, 0, 0, 0, 0, 0, 0, 0, 0, 0, 0],
-    tokens: 3,
+    end: 3,
 };
 
 fn tokens_of_two_blocks() -> Tokens {
@@ -242,13 +242,13 @@ fn first_coefficients_of_y2(rt: HostRuntime) {
 
 const OTHER: Block = Block {
     levels: [3, 0, 0, 40, 0, -25, 0, 0, 0, 0, 0, 0, 0, 0, 0, 0],
-    tokens: 6,
+    end: 6,
 };
 
 /// Its coefficients are too large for the path for pairs of subblocks.
 const LARGE: Block = Block {
     levels: [0, 600, 0, 0, 0, 0, 0, 0, 0, 0, 0, 0, 0, 0, 0, 0],
-    tokens: 2,
+    end: 2,
 };
 
 /// Returns a block with only a DC level.
@@ -258,7 +258,7 @@ fn first_alone(level: i16) -> Block
 {
     let mut levels = [0; 16];
     levels[0] = level;
-    Block { levels, tokens: 1 }
+    Block { levels, end: 1 }
 }
 
 /// Pairs of adjacent subblocks: both with AC levels, both with DC only, one of each, and one too large.

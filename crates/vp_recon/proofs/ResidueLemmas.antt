@@ -51,7 +51,7 @@ within_set b (y ∷ zs) (suc k) z small fits (suc i) = within_set b zs k z (λ j
 
 module _ (b : Block) (is : IsBlock b) where
   -- with at most one token there is no level but the first
-  alone : b.tokens ≤ 1 → b.levels ≡ get_or b.levels 0 (pos 0) ∷ replicate 15 (pos 0)
+  alone : b.end ≤ 1 → b.levels ≡ get_or b.levels 0 (pos 0) ∷ replicate 15 (pos 0)
   alone few = ext_get_or (pos 0) b.levels (get_or b.levels 0 (pos 0) ∷ replicate 15 (pos 0)) is.whole (λ i below. elim (cases_lt 0 i) [
     | inl some ↦
         is.behind i (omega arith)
@@ -62,24 +62,24 @@ module _ (b : Block) (is : IsBlock b) where
         ∙ ap (λ (j : ℕ). get_or (get_or b.levels 0 (pos 0) ∷ replicate 15 (pos 0)) j (pos 0)) (let e : 0 ≡ i = omega arith in e)
   ])
 
-  pub first_alone : (first : ℤ) (ac : ℕ) → b.tokens ≤ 1 → first ∷ replicate 15 (pos 0) ≡ set (dequantised b.levels 0 ac) 0 first
+  pub first_alone : (first : ℤ) (ac : ℕ) → b.end ≤ 1 → first ∷ replicate 15 (pos 0) ≡ set (dequantised b.levels 0 ac) 0 first
   unfolding dequantised
   first_alone first ac few =
       ap (λ (w : ℤ). first ∷ replicate 15 w) (sym (zero-*ℤ (pos ac)))
       ∙ ap (λ (zs : List ℤ). set (dequantised zs 0 ac) 0 first) (sym (alone few))
 
   -- with none there is none at all
-  no_coefficients : (dc ac : ℕ) → b.tokens ≡ 0 → dequantised b.levels dc ac ≡ replicate 16 (pos 0)
+  no_coefficients : (dc ac : ℕ) → b.end ≡ 0 → dequantised b.levels dc ac ≡ replicate 16 (pos 0)
   unfolding dequantised
   no_coefficients dc ac none =
       ap (λ (zs : List ℤ). dequantised zs dc ac) (alone (omega arith) ∙ ap (λ (z : ℤ). z ∷ replicate 15 (pos 0)) (is.behind 0 (omega arith)))
       ∙ ap (λ (w : ℤ). w ∷ replicate 15 (pos 0 *ℤ pos ac)) (zero-*ℤ (pos dc))
       ∙ ap (λ (w : ℤ). pos 0 ∷ replicate 15 w) (zero-*ℤ (pos ac))
 
-  pub no_residue : (dc ac : ℕ) → b.tokens ≡ 0 → residue b.levels dc ac ≡ replicate 16 (pos 0)
+  pub no_residue : (dc ac : ℕ) → b.end ≡ 0 → residue b.levels dc ac ≡ replicate 16 (pos 0)
   no_residue dc ac none = ap idct (no_coefficients dc ac none) ∙ idct-first_alone (pos 0)
 
-  pub no_dcs : (dc ac : ℕ) → b.tokens ≡ 0 → iwht (dequantised b.levels dc ac) ≡ replicate 16 (pos 0)
+  pub no_dcs : (dc ac : ℕ) → b.end ≡ 0 → iwht (dequantised b.levels dc ac) ≡ replicate 16 (pos 0)
   no_dcs dc ac none = ap iwht (no_coefficients dc ac none) ∙ iwht-first_alone (pos 0)
 
 -- a first coefficient from its own level
@@ -161,7 +161,7 @@ module _ (t : Tokens) (f g : Factors) (b : Block) (first : ℤ) (same : g ≡ f)
       ∙ sym (from_level b.levels g.y2_dc g.y2_ac first made))
 
   -- the first alone
-  pub y2_even : (z : ℤ) → b.tokens ≤ 1 → iwht (first ∷ replicate 15 (pos 0)) ≡ replicate 16 z → luma_dcs t f ≡ replicate 16 z
+  pub y2_even : (z : ℤ) → b.end ≤ 1 → iwht (first ∷ replicate 15 (pos 0)) ≡ replicate 16 z → luma_dcs t f ≡ replicate 16 z
   y2_even z few even = y2_values ∙ ap iwht (sym (first_alone b is first g.y2_ac few)) ∙ even
 
 pub nothing_of : (zs : List ℤ) → zs ≡ replicate 16 (pos 0) → IsNothing zs

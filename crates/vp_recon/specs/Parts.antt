@@ -13,7 +13,7 @@ use Rattle.vp_recon.specs.declared.residue_inputs.LargeResidues.{LargeResidues}
 
 -- a block with at most n tokens
 abbrev pub HasUpTo : ℕ → Block → Type 0
-HasUpTo n b = IsBlock b × (b.tokens ≤ n)
+HasUpTo n b = IsBlock b × (b.end ≤ n)
 
 -- ---- DC coefficients
 

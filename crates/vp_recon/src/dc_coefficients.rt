@@ -43,7 +43,7 @@ fn dcs_from_y2(tokens: &Tokens, factors: &SegmentFactors) -> Option<[i16; 16]>
 {
     let block = block_of(tokens, 0);
     let dc = scaled_dc(&block.levels, factors.raw.y2_dc);
-    if block.tokens <= 1 {
+    if block.end <= 1 {
         return sixteen_times(iwht_of_dc(dc));
     }
     if dc.unsigned_abs() > 8191 {

@@ -38,7 +38,7 @@ pub(crate) fn ends_in(tokens: &Tokens, start: usize, count: usize) -> u8
 {
     let mut ends = 0;
     for i in 0..count {
-        ends |= block_of(tokens, start + i).tokens;
+        ends |= block_of(tokens, start + i).end;
     }
     ends
 }
@@ -48,7 +48,7 @@ pub(crate) fn ends_in(tokens: &Tokens, start: usize, count: usize) -> u8
 pub(crate) fn y2_end(y2: bool, tokens: &Tokens) -> u8
     ensures { y2 ≡ true → HasUpTo result (block_of tokens.now 0) }
 {
-    if y2 { block_of(tokens, 0).tokens } else { 0 }
+    if y2 { block_of(tokens, 0).end } else { 0 }
 }
 
 /// Returns the DC coefficient of a block, dequantised.
@@ -93,7 +93,7 @@ pub(crate) fn with_residue(prediction: u8x16, block: &Block, factors: &SegmentFa
     ensures { (r c : ℕ) → r < 4 → c < 4 → slice_index result (r * 4 + c) ≡ summed (slice_index prediction (r * 4 + c))
         (slice_index_or (residue block.now.levels factors.now.y_dc factors.now.y_ac) (4 * r + c) (pos 0)) }
 {
-    if block.tokens == 0 {
+    if block.end == 0 {
         return prediction;
     }
     let numbers = own_residue(block, factors);
@@ -110,7 +110,7 @@ fn own_residue(block: &Block, factors: &SegmentFactors) -> [i16; 16]
         return large_residue(block, dc, factors.raw.y_ac);
     }
     let small = dc as i16;
-    if block.tokens <= 1 {
+    if block.end <= 1 {
         return [dc_residue(small); 16];
     }
     match factors.y_ac.coefficients(block.levels, small) {

@@ -10,7 +10,7 @@ use crate::difference::sad_up_to;
 use crate::kernel::{FourRows, four_differences, load_rows};
 use crate::rows::Block;
 use vp_base::Place;
-use vp_inter::{ColumnFilter, FilteredRows};
+use vp_inter::{FilteredRows, VerticalFilter};
 
 /// The cost of the vector `down` quarter pixels below the one that `rows` were filtered for, whose row is in whole
 /// pixels. If it is above `limit`, returns some number above `limit`.
@@ -30,7 +30,7 @@ pub(crate) fn cost_of_row(block: &Block, rows: &FilteredRows, down: usize, limit
         &mut sum,
         block,
         rows,
-        &ColumnFilter::of(eighths),
+        &VerticalFilter::of(eighths),
         skip,
         limit,
     );
@@ -63,7 +63,7 @@ pub(crate) fn costs_above_and_below(
             cost_of_row(block, rows, down + 1, limit),
         ];
     }
-    let both = rows.filtered_rows(&ColumnFilter::of(4));
+    let both = rows.filtered_rows(&VerticalFilter::of(4));
     [
         sad_up_to(block, &both, 0, 16, limit),
         sad_up_to(block, &both, 16, 16, limit),
@@ -78,7 +78,7 @@ fn add_cost(
     sum: &mut u32,
     block: &Block,
     rows: &FilteredRows,
-    filter: &ColumnFilter,
+    filter: &VerticalFilter,
     skip: usize,
     limit: u32,
 )
@@ -100,7 +100,7 @@ fn add_cost(
 fn four_filtered(
     block: &Block,
     rows: &FilteredRows,
-    filter: &ColumnFilter,
+    filter: &VerticalFilter,
     skip: usize,
     i: usize,
 ) -> u32

@@ -11,7 +11,7 @@ use vp_bool::{BoolDecoder, BoolEncoder};
 use vp_head::PacketFault;
 use vp_tables::coefficient_probabilities;
 use vp_tokens::{
-    Block, Contexts, Partitions, Tokens, pass_macroblock, read_macroblock, write_macroblock,
+    Block, Contexts, Partitions, Tokens, read_macroblock, skip_macroblock, write_macroblock,
 };
 
 #[test]
@@ -67,7 +67,7 @@ fn first_tokens_of_ones(rt: &impl Abort, alloc: Global, has_y2: bool, skipped: b
 
 const ONES: Block = Block {
     levels: [-2114; 16],
-    tokens: 16,
+    end: 16,
 };
 
 /// Returns the first block that isn't the one that bools of 1 give, and its place.
@@ -145,7 +145,7 @@ fn bytes_below_y2(rt: &impl Abort, alloc: Global) -> Vec<u8> {
 fn bytes_below_skipped(rt: &impl Abort, alloc: Global, has_y2: bool) -> Vec<u8> {
     let mut contexts = new_contexts(rt, alloc, 1);
     let _known = tokens_of_ones(&mut contexts, true, false);
-    pass_macroblock(&mut contexts, Place { column: 0, row: 1 }, has_y2);
+    skip_macroblock(&mut contexts, Place { column: 0, row: 1 }, has_y2);
     bytes_below(rt, alloc, &mut contexts)
 }
 
@@ -178,7 +178,7 @@ const ROW: [u8; 12] = [183, 180, 245, 129, 148, 100, 0, 0, 108, 1, 80, 0];
 fn start(block: &Block, count: usize) -> (&[i16], u8)
     requires { count ≤ 16 }
 {
-    (&block.levels[..count], block.tokens)
+    (&block.levels[..count], block.end)
 }
 
 fn level(block: &Block, position: usize) -> i16
@@ -200,7 +200,7 @@ fn check_second(rt: &impl Abort, blocks: &[Block; 25]) {
 
 fn check_third(rt: &impl Abort, blocks: &[Block; 25]) {
     let last = &blocks[14];
-    equal!(rt; (blocks[0], level(last, 10), last.tokens), (Block::NONE, 1, 11));
+    equal!(rt; (blocks[0], level(last, 10), last.end), (Block::NONE, 1, 11));
 }
 
 /// Reads the tokens of a macroblock of the row; it isn't skipped.
@@ -315,5 +315,5 @@ fn puts_empty_parts(rt: HostRuntime) {
 fn tokens_end_with_the_last_level(rt: HostRuntime) {
     let block = Block::of_levels(&[0, -3, 0, 2114, 0, 0, 0, 0, 0, 0, 0, 0, 0, 0, 0, 0]);
     let tokens = Tokens::of_levels(&[[-2114; 16]; 25]);
-    equal!(&rt; (block.tokens, first_other(&tokens.blocks)), (4, None));
+    equal!(&rt; (block.end, first_other(&tokens.blocks)), (4, None));
 }

@@ -30,7 +30,7 @@ module _ (bands : List (List (List ℕ))) where
   pub level_written : (i context from : ℕ) (own : List ℕ) (z : ℤ) (b : Block) {old new : Interval} → i < 16 → own ≡ row bands i context
       → IsLevelWritten (walk_from EndOfBlock TOKEN_TREE own from) (unsigned_abs z) z old new
       → Continues (tokens_from bands (16 - i) i context from b)
-      (tokens_from bands (16 - (i + 1)) (i + 1) (context_after (unsigned_abs z)) (pair_after (unsigned_abs z)) (record { levels = slice_set b.levels i z; tokens = i + 1 })) old new
+      (tokens_from bands (16 - (i + 1)) (i + 1) (context_after (unsigned_abs z)) (pair_after (unsigned_abs z)) (record { levels = slice_set b.levels i z; end = i + 1 })) old new
   unfolding tokens_from token
   level_written i context from own z b lt same w =
       let k : 16 - i ≡ suc (16 - (i + 1)) = omega arith in
@@ -50,21 +50,21 @@ block_begun p kind context old = Continues-same (λ s. sym (tokens_from-block p 
 
 -- what is told of a block before position i
 unfoldable pub so_far : ℕ → ℕ → Block → Block
-so_far first i b = record { levels = padded_prefix (pos 0) i b.levels; tokens = (if nat_lt first i then i else 0) }
+so_far first i b = record { levels = padded_prefix (pos 0) i b.levels; end = (if nat_lt first i then i else 0) }
 
 pub so_far-none : (kind : BlockKind) (b : Block) → length b.levels ≡ 16 → IsSpelledBlock kind b → so_far (first_of kind) (first_of kind) b ≡ no_tokens
 unfolding so_far
 so_far-none kind b whole spelled = λ j. record {
   levels = (front-none (pos 0) (first_of kind) b.levels spelled.before ∙ ap (λ n. replicate n (pos 0)) whole) j;
-  tokens = cond (le-ltb (first_of kind) (first_of kind) (omega arith) j) (first_of kind) 0;
+  end = cond (le-ltb (first_of kind) (first_of kind) (omega arith) j) (first_of kind) 0;
 }
 
 pub so_far-more : (first i : ℕ) (b : Block) → first ≤ i → i < length b.levels
-    → record { levels = slice_set (so_far first i b).levels i (level_of b i); tokens = i + 1 } ≡ so_far first (i + 1) b
+    → record { levels = slice_set (so_far first i b).levels i (level_of b i); end = i + 1 } ≡ so_far first (i + 1) b
 unfolding so_far
 so_far-more first i b low within = λ j. record {
   levels = front-more (pos 0) i b.levels within j;
-  tokens = cond (sym (lt-ltb first (i + 1) (omega arith)) j) (i + 1) 0;
+  end = cond (sym (lt-ltb first (i + 1) (omega arith)) j) (i + 1) 0;
 }
 
 told-all : (first i tokens : ℕ) → first ≤ i → tokens ≤ i → (first < i → i ≤ tokens) → (0 < tokens → first < tokens) → (if nat_lt first i then i else 0) ≡ tokens
@@ -76,12 +76,12 @@ told-all first i tokens low end before begun = elim (cases_lt first i) [
   ])
 ]
 
-pub so_far-all : (kind : BlockKind) (i : ℕ) (b : Block) → IsBlock b → IsSpelledBlock kind b → first_of kind ≤ i → b.tokens ≤ i → (first_of kind < i → i ≤ b.tokens)
+pub so_far-all : (kind : BlockKind) (i : ℕ) (b : Block) → IsBlock b → IsSpelledBlock kind b → first_of kind ≤ i → b.end ≤ i → (first_of kind < i → i ≤ b.end)
     → so_far (first_of kind) i b ≡ b
 unfolding so_far
 so_far-all kind i b good spelled low end before = λ j. record {
   levels = front-all (pos 0) i b.levels (λ k a _. good.behind k (omega arith)) j;
-  tokens = told-all (first_of kind) i b.tokens low end before spelled.begun j;
+  end = told-all (first_of kind) i b.end low end before spelled.begun j;
 }
 
 -- ---- where the next walk starts
@@ -91,11 +91,11 @@ abs_zero (pos n) e = ap pos e
 abs_zero (negsuc n) e = absurd cc
 
 -- a level that is 0 isn't the last one before the end
-pub not_last : (kind : BlockKind) (b : Block) (i : ℕ) → IsSpelledBlock kind b → i < b.tokens → unsigned_abs (level_of b i) ≡ 0 → i + 1 < 16 → i + 1 < b.tokens
-not_last kind b i spelled lt none small = elim (cases_lt (i + 1) b.tokens) [
+pub not_last : (kind : BlockKind) (b : Block) (i : ℕ) → IsSpelledBlock kind b → i < b.end → unsigned_abs (level_of b i) ≡ 0 → i + 1 < 16 → i + 1 < b.end
+not_last kind b i spelled lt none small = elim (cases_lt (i + 1) b.end) [
   | inl more ↦ more
   | inr le ↦
-      let at : b.tokens - 1 ≡ i = omega arith in
+      let at : b.end - 1 ≡ i = omega arith in
       absurd (spelled.ended (omega arith) (omega arith) (rw at (abs_zero (level_of b i) none)))
 ]
 

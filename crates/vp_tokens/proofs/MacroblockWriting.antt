@@ -147,10 +147,10 @@ zeros levels h = sym (front-all (pos 0) 0 levels (λ k a b. h k)) ∙ front-none
 
 pub no_tokens-is : (b : Block) → IsBlock b → has_token b ≡ false → b ≡ no_tokens
 no_tokens-is b good h =
-    let nothing : b.tokens ≡ 0 = not_below b.tokens h in
+    let nothing : b.end ≡ 0 = not_below b.end h in
     λ j. record {
       levels = (zeros b.levels (λ i. good.behind i (omega arith)) ∙ ap (λ n. replicate n (pos 0)) good.whole) j;
-      tokens = nothing j;
+      end = nothing j;
     }
 
 pub none_had : (blocks : List Block) → ((k : ℕ) → k < length blocks → IsBlock (get_or blocks k no_tokens)) → list_any has_token blocks ≡ false → blocks ≡ replicate (length blocks) no_tokens

@@ -19,10 +19,10 @@ pub record IsMade (levels : List ℤ) (b : Block) : Type 0 where
 pub level-made : (levels : List ℤ) (b : Block) (i : ℕ) → IsMade levels b → get_or levels i (pos 0) ≡ pos 0 → level_of b i ≡ pos 0
 level-made levels b i made h = ap (λ (l : List ℤ). get_or l i (pos 0)) made.same ∙ h
 
-begun : (first : ℕ) (b : Block) → IsTight b → ((i : ℕ) → i < first → level_of b i ≡ pos 0) → 0 < b.tokens → first < b.tokens
-begun first b tight before some = elim (cases_lt first b.tokens) [
+begun : (first : ℕ) (b : Block) → IsTight b → ((i : ℕ) → i < first → level_of b i ≡ pos 0) → 0 < b.end → first < b.end
+begun first b tight before some = elim (cases_lt first b.end) [
   | inl more ↦ more
-  | inr le ↦ absurd (tight some (before (b.tokens - 1) (omega arith)))
+  | inr le ↦ absurd (tight some (before (b.end - 1) (omega arith)))
 ]
 
 spelled-made : (kind : BlockKind) (levels : List ℤ) (b : Block) → IsMade levels b → ((i : ℕ) → i < first_of kind → get_or levels i (pos 0) ≡ pos 0) → IsSpelledBlock kind b
@@ -31,9 +31,9 @@ spelled-made kind levels b made before =
     record { before = none; begun = begun (first_of kind) b made.tight none; ended = λ some _. made.tight some }
 
 none-made : (levels : List ℤ) (b : Block) → IsMade levels b → ((i : ℕ) → get_or levels i (pos 0) ≡ pos 0) → b ≡ no_tokens
-none-made levels b made zeros = elim (cases_lt 0 b.tokens) [
-  | inl some ↦ absurd (made.tight some (level-made levels b (b.tokens - 1) made (zeros (b.tokens - 1))))
-  | inr nothing ↦ no_tokens-is b made.good (le-ltb 0 b.tokens nothing)
+none-made levels b made zeros = elim (cases_lt 0 b.end) [
+  | inl some ↦ absurd (made.tight some (level-made levels b (b.end - 1) made (zeros (b.end - 1))))
+  | inr nothing ↦ no_tokens-is b made.good (le-ltb 0 b.end nothing)
 ]
 
 module _ (levels : List (List ℤ)) (blocks : List Block) (whole : length blocks ≡ 25) (each : (k : ℕ) → k < 25 → IsMade (levels_of levels k) (get_or blocks k no_tokens)) where

@@ -106,18 +106,18 @@ first_pair n h = rw (ne_eqb n 0 (λ e. absurd (omega arith))) refl
 module _ (bands : List (List (List ℕ))) where
   -- the block after these levels: a token that isn't 0 follows, or none at all
   unfoldable pub from_nonzero : List ℤ → Option NonzeroAt → Reader Block
-  from_nonzero levels None = give (record { levels = levels; tokens = 16 })
+  from_nonzero levels None = give (record { levels = levels; end = 16 })
   from_nonzero levels (Some next) = do
     t ← nonzero next.row
     s ← size t
     level ← signed_level s
-    tokens_from bands (16 - (next.position + 1)) (next.position + 1) (context_after s) 0 (record { levels = slice_set levels next.position level; tokens = next.position + 1 })
+    tokens_from bands (16 - (next.position + 1)) (next.position + 1) (context_after s) 0 (record { levels = slice_set levels next.position level; end = next.position + 1 })
 
   abbrev after : ℕ → ℕ → Block → Token → Reader Block
   after n i b t = if is_end t then give b else (do
     s ← size t
     level ← signed_level s
-    tokens_from bands n (i + 1) (context_after s) (pair_after s) (record { levels = slice_set b.levels i level; tokens = i + 1 }))
+    tokens_from bands n (i + 1) (context_after s) (pair_after s) (record { levels = slice_set b.levels i level; end = i + 1 }))
 
   token-more : (i context : ℕ) (s : State) → token bands i context 2 s ≡ more (row bands i context) s
   unfolding token end_of_block
@@ -133,29 +133,29 @@ module _ (bands : List (List (List ℕ))) where
       rw (goes_on t.0 here, first_pair (size t.0 t.1).0 (large t.0 t.1 here), left) refl
 
   after-zero : (n i : ℕ) (b : Block) (u : State) → level_of b i ≡ pos 0
-      → after n i b token_is.Zero u ≡ tokens_from bands n (i + 1) 0 2 (record { levels = b.levels; tokens = i + 1 }) u
+      → after n i b token_is.Zero u ≡ tokens_from bands n (i + 1) 0 2 (record { levels = b.levels; end = i + 1 }) u
   unfolding reader.bind size bits signed_level least_size extra_probabilities
   after-zero n i b u none =
       let same : slice_set b.levels i (pos 0) ≡ b.levels = ap (λ (z : ℤ). slice_set b.levels i z) (sym none) ∙ set-get_or b.levels i (pos 0) in
-      ap (λ (levels : List ℤ). tokens_from bands n (i + 1) 0 2 (record { levels = levels; tokens = i + 1 }) u) same
+      ap (λ (levels : List ℤ). tokens_from bands n (i + 1) 0 2 (record { levels = levels; end = i + 1 }) u) same
 
   split : (n i context : ℕ) (b : Block) (going : Bool) (u : State) → i + suc n ≡ 16 → level_of b i ≡ pos 0
-      → ((v : State) → tokens_from bands n (i + 1) 0 2 (record { levels = b.levels; tokens = i + 1 }) v ≡ (let z = zeros bands n (i + 1) 0 v in from_nonzero b.levels z.0 z.1))
+      → ((v : State) → tokens_from bands n (i + 1) 0 2 (record { levels = b.levels; end = i + 1 }) v ≡ (let z = zeros bands n (i + 1) 0 v in from_nonzero b.levels z.0 z.1))
       → (let t = (if going then nonzero (row bands i context) else give token_is.Zero) u in after n i b t.0 t.1)
       ≡ (let z = (if going then give (Some (record { position = i; row = row bands i context })) else zeros bands n (i + 1) 0) u in from_nonzero b.levels z.0 z.1)
   split n i context b true u all none others = after-nonzero n i context b u all
   split n i context b false u all none others = after-zero n i b u none ∙ others u
 
-  pub zeros-passed : (n i context : ℕ) (b : Block) (s : State) → i + n ≡ 16 → ((k : ℕ) → i ≤ k → level_of b k ≡ pos 0) → (n ≡ 0 → b.tokens ≡ i)
+  pub zeros-passed : (n i context : ℕ) (b : Block) (s : State) → i + n ≡ 16 → ((k : ℕ) → i ≤ k → level_of b k ≡ pos 0) → (n ≡ 0 → b.end ≡ i)
       → tokens_from bands n i context 2 b s ≡ (let z = zeros bands n i context s in from_nonzero b.levels z.0 z.1)
   unfolding tokens_from zeros from_nonzero more reader.bind
   zeros-passed zero i context b s all none ends =
-      let full : b.tokens ≡ 16 = ends refl ∙ omega arith in
-      ap (λ (n : ℕ). let w : Block = record { levels = b.levels; tokens = n } in (w, s)) full
+      let full : b.end ≡ 16 = ends refl ∙ omega arith in
+      ap (λ (n : ℕ). let w : Block = record { levels = b.levels; end = n } in (w, s)) full
   zeros-passed (suc n) i context b s all none ends =
       let r = read (slice_index (row bands i context) 1) s in
       ap (λ (t : Token × State). after n i b t.0 t.1) (token-more i context s)
-      ∙ split n i context b r.0 r.1 all (none i (omega arith)) (λ v. zeros-passed n (i + 1) 0 (record { levels = b.levels; tokens = i + 1 }) v (omega arith) (λ k h. none k (omega arith)) (λ e. refl))
+      ∙ split n i context b r.0 r.1 all (none i (omega arith)) (λ v. zeros-passed n (i + 1) 0 (record { levels = b.levels; end = i + 1 }) v (omega arith) (λ k h. none k (omega arith)) (λ e. refl))
 
   -- ---- what the loops read
 
@@ -202,19 +202,19 @@ module _ (bands : List (List (List ℕ))) where
       let k : 16 - i ≡ suc (16 - (i + 1)) = omega arith in
       rw k (ap (λ (t : Token × State). after (16 - (i + 1)) i b t.0 t.1) (token-after i context r s u e h v))
 
-  pub passed : (i context : ℕ) (b : Block) (z : Option NonzeroAt) (s u : State) → i < 16 → IsBlock b → b.tokens ≤ i → z ≡ (zeros bands (16 - i) i context s).0 → u ≡ (zeros bands (16 - i) i context s).1
+  pub passed : (i context : ℕ) (b : Block) (z : Option NonzeroAt) (s u : State) → i < 16 → IsBlock b → b.end ≤ i → z ≡ (zeros bands (16 - i) i context s).0 → u ≡ (zeros bands (16 - i) i context s).1
       → tokens_from bands (16 - i) i context 2 b s ≡ from_nonzero b.levels z u
   passed i context b z s u lt good below p q =
       zeros-passed (16 - i) i context b s (omega arith) (λ k h. good.behind k (omega arith)) (λ e. absurd (omega arith))
       ∙ sym (λ j. from_nonzero b.levels (p j) (q j))
 
-  pub all_zeros : (levels : List ℤ) (u : State) → from_nonzero levels None u ≡ (let b : Block = record { levels = levels; tokens = 16 } in (b, u))
+  pub all_zeros : (levels : List ℤ) (u : State) → from_nonzero levels None u ≡ (let b : Block = record { levels = levels; end = 16 } in (b, u))
   unfolding from_nonzero
   all_zeros levels u = refl
 
   pub nonzero-read : (levels : List ℤ) (next : NonzeroAt) (n : ℕ) (t : Token) (level : ℤ) (s u v w : State) → t ≡ (nonzero next.row s).0 → u ≡ (nonzero next.row s).1
       → n ≡ (size t u).0 → v ≡ (size t u).1 → level ≡ (signed_level n v).0 → w ≡ (signed_level n v).1
       → from_nonzero levels (Some next) s
-      ≡ tokens_from bands (16 - (next.position + 1)) (next.position + 1) (context_after n) 0 (record { levels = slice_set levels next.position level; tokens = next.position + 1 }) w
+      ≡ tokens_from bands (16 - (next.position + 1)) (next.position + 1) (context_after n) 0 (record { levels = slice_set levels next.position level; end = next.position + 1 }) w
   unfolding from_nonzero reader.bind
   nonzero-read levels next n t level s u v w p q x y z a = rw (a, z, y, x, q, p) refl

@@ -6,15 +6,15 @@ use Rattle.std.specs.Prelude.{unsigned_abs}
 -- that is 0 if there is no such token, even if the first position is 1
 pub record Block : Type 0 where
   pub levels : List ℤ
-  pub tokens : ℕ
+  pub end : ℕ
 
 -- a block without tokens
 abbrev pub no_tokens : Block
-no_tokens = record { levels = replicate 16 (pos 0); tokens = 0 }
+no_tokens = record { levels = replicate 16 (pos 0); end = 0 }
 
 -- whether the block has a token before its end
 abbrev pub has_token : Block → Bool
-has_token b = nat_lt 0 b.tokens
+has_token b = nat_lt 0 b.end
 
 -- the level at a position in zigzag order
 abbrev pub level_of : Block → ℕ → ℤ
@@ -24,9 +24,9 @@ level_of b i = slice_index_or b.levels i (pos 0)
 pub record IsBlock (b : Block) : Type 0 where
   pub whole : length b.levels ≡ 16
   pub within : (i : ℕ) → unsigned_abs (level_of b i) ≤ 2114
-  pub behind : (i : ℕ) → b.tokens ≤ i → level_of b i ≡ pos 0
-  pub count : b.tokens ≤ 16
+  pub behind : (i : ℕ) → b.end ≤ i → level_of b i ≡ pos 0
+  pub count : b.end ≤ 16
 
 -- the last token of the block is a nonzero level, if it has a token
 abbrev pub IsTight : Block → Type 0
-IsTight b = 0 < b.tokens → level_of b (b.tokens - 1) ≢ pos 0
+IsTight b = 0 < b.end → level_of b (b.end - 1) ≢ pos 0

@@ -10,8 +10,8 @@ use Rattle.vp_tokens.specs.Blocks.{kind_of}
 -- unless it is at the last position.
 pub record IsSpelledBlock (kind : BlockKind) (b : Block) : Type 0 where
   pub before : (i : ℕ) → i < first_of kind → level_of b i ≡ pos 0
-  pub begun : 0 < b.tokens → first_of kind < b.tokens
-  pub ended : 0 < b.tokens → b.tokens < 16 → level_of b (b.tokens - 1) ≢ pos 0
+  pub begun : 0 < b.end → first_of kind < b.end
+  pub ended : 0 < b.end → b.end < 16 → level_of b (b.end - 1) ≢ pos 0
 
 -- the blocks of a macroblock can be written; without a Y2 block the first one has no tokens
 pub record AreSpelled (has_y2 : Bool) (blocks : List Block) : Type 0 where

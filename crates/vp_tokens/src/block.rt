@@ -19,7 +19,7 @@ pub struct Block {
     /// The levels in zigzag order, as they are coded.
     pub levels: [i16; 16],
     /// The end of block (libvpx: eob): the position after the last token; 0 if the block has no token.
-    pub tokens: u8,
+    pub end: u8,
 }
 
 impl Model for Block {
@@ -27,11 +27,11 @@ impl Model for Block {
 
     ghost Value = { Block };
 
-    ghost view = { λ b. record { levels = b.levels; tokens = b.tokens } };
+    ghost view = { λ b. record { levels = b.levels; end = b.end } };
 
-    ghost invariant = { λ b. IsBlock (record { levels = b.levels; tokens = b.tokens }) };
+    ghost invariant = { λ b. IsBlock (record { levels = b.levels; end = b.end }) };
 
-    ghost inverse = { λ b. record { levels = b.levels; tokens = b.tokens } };
+    ghost inverse = { λ b. record { levels = b.levels; end = b.end } };
 }
 
 /// The type of a block, which selects its token probabilities (RFC 6386, chapter 13.3).
@@ -51,7 +51,7 @@ impl Block {
     /// A block without tokens: all levels are 0.
     pub const NONE: Block = Block {
         levels: [0; 16],
-        tokens: 0,
+        end: 0,
     };
 
     /// The block of these levels. Its last token is the last nonzero level.
@@ -61,13 +61,13 @@ impl Block {
         ensures tight { IsTight result }
         ensures block { IsBlock result }
     {
-        let mut tokens = 16;
-        while tokens > 0 && levels[tokens - 1] == 0 {
-            tokens -= 1;
+        let mut end = 16;
+        while end > 0 && levels[end - 1] == 0 {
+            end -= 1;
         }
         Block {
             levels: *levels,
-            tokens: tokens as u8,
+            end: end as u8,
         }
     }
 
@@ -75,27 +75,27 @@ impl Block {
     pub fn has_token(&self) -> bool
         ensures { result ≡ has_token self.now }
     {
-        self.tokens > 0
+        self.end > 0
     }
 
     /// Stores the level of the next token.
     #[inline(always)]
     fn put(&mut self, position: usize, level: i16)
         requires position { position < 16 }
-        requires behind { self.old.tokens ≤ position }
+        requires behind { self.old.end ≤ position }
         requires within { unsigned_abs level ≤ 2114 }
-        ensures { self.new ≡ record { levels = slice_set self.old.levels position level; tokens = position + 1 } }
+        ensures { self.new ≡ record { levels = slice_set self.old.levels position level; end = position + 1 } }
     {
         self.levels[position] = level;
-        self.tokens = position as u8 + 1;
+        self.end = position as u8 + 1;
     }
 
     /// Ends the block after its last position: the levels that are left are 0.
     #[inline(always)]
-    fn end(&mut self)
-        ensures { self.new ≡ record { levels = self.old.levels; tokens = 16 } }
+    fn end_after_last(&mut self)
+        ensures { self.new ≡ record { levels = self.old.levels; end = 16 } }
     {
-        self.tokens = 16;
+        self.end = 16;
     }
 }
 
@@ -193,7 +193,7 @@ pub(crate) fn read_block(
             return;
         }
         let Some(next) = pass_zeros(bands, i, context, d) else {
-            found.end();
+            found.end_after_last();
             return;
         };
         let token = nonzero(next.row, d);

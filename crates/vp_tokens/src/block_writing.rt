@@ -41,7 +41,7 @@ pub(crate) fn write_block(
     ensures { OnOk result (Writes (coefficient_block probabilities.now kind context) e.old e.new what.now) }
 {
     let bands = bands_of(probabilities, kind);
-    let end = what.tokens as usize;
+    let end = what.end as usize;
     let mut context = context;
     let mut from = 0;
     for i in first_of(kind)..16 {

@@ -16,6 +16,6 @@ mod writing;
 
 pub use block::Block;
 pub use contexts::{Contexts, Tokens};
-pub use macroblock::{pass_macroblock, read_macroblock};
+pub use macroblock::{read_macroblock, skip_macroblock};
 pub use partitions::Partitions;
 pub use writing::write_macroblock;

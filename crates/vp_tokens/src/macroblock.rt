@@ -184,10 +184,10 @@ pub fn read_macroblock(
 }
 
 /// Updates the contexts for the skipped macroblock at `place`, whose tokens are [`Tokens::NONE`], as
-/// [`read_macroblock`] does. The macroblocks of a frame must be passed or read in raster order.
+/// [`read_macroblock`] does. The macroblocks of a frame must be skipped or read in raster order.
 ///
 /// `has_y2` is false for luma modes `B_PRED` and `SPLITMV`.
-pub fn pass_macroblock(contexts: &mut Contexts, place: Place, has_y2: bool)
+pub fn skip_macroblock(contexts: &mut Contexts, place: Place, has_y2: bool)
     requires { place.column < length contexts.old.above }
     ensures value { (g : Grid Blocks) (d : State) (probabilities : Probabilities) → AreContextsAt g place contexts.old
         → macroblock probabilities g place has_y2 true d ≡ (without_tokens, d) }

@@ -6,7 +6,8 @@ ghost use Rattle.vp_tables.specs.declared.modes.Token.TheVariants as token_is;
 ghost use Rattle.vp_tables.specs.declared.trees.TheConstants.{TOKEN_TREE};
 ghost use Rattle.vp_tree.specs.Tree.{walk_from};
 ghost use Rattle.vp_tokens.specs.Levels.{is_end};
-ghost use Rattle.vp_tokens.specs.Walks.{categories_3_6, any_category, two_to_four, above_one, nonzero, more, end_of_block};
+ghost use Rattle.vp_tokens.specs.Walks.{categories_3_6, any_category, two_to_four, above_one, nonzero, more};
+ghost use Rattle.vp_tokens.specs.Walks.{end_of_block};
 ghost use Rattle.vp_tokens.specs.Walks.{is_categories_3_6, is_any_category, is_two_to_four, is_above_one, is_nonzero};
 
 use std::alloc::AllocError;

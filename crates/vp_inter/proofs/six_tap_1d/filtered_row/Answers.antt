@@ -21,7 +21,7 @@ returns g c from selects j h =
     let lanes = c.args.filter.now.lanes in
     let at = λ (place n m : ℕ). at_place (raster q) c.row.result.now q.left row place n m c.row.ensures.value c.row.ensures.len q.wide.0 in
     c.filtered_pairs.ensures j h
-    ∙ from_three (weights_of c.args.far.now) c.shuffle.result c.shuffle-2.result c.shuffle-3.result (2 * j) (λ k. reference_pixel (raster q) (q.left +ℤ pos (from + j + k)) row)
+    ∙ from_three (weights_of c.args.weights.now) c.shuffle.result c.shuffle-2.result c.shuffle-3.result (2 * j) (λ k. reference_pixel (raster q) (q.left +ℤ pos (from + j + k)) row)
     (λ t tin. let s = selects (2 * j + t) (omega arith) in
     c.shuffle.ensures (2 * j + t) (omega arith) ∙ c.load-pixels.ensures _ (lanes (2 * j + t) (omega arith)).0 ∙ at _ _ (from + j + 3 * t) s.0 (omega arith))
     (λ t tin. let s = selects (2 * j + t) (omega arith) in

@@ -42,35 +42,35 @@ bytes xs long all i m = (lane_fits (Fits w8) 0 16 xs long all i m).fits
 pub pair_sums-requires : goal.pair_sums-requires
 pair_sums-requires c j h =
     let byte = bytes c.args.a c.fits-a.0 c.fits-a.1 in
-    turned_fits c.args.a c.args.far.now.first c.args.far.now.turns.0 (pairables (weights_of c.args.far.now) c.args.far.now.gentle).0 j h (byte (2 * j + 0) (omega arith)) (byte (2 * j + 1) (omega arith))
+    turned_fits c.args.a c.args.weights.now.first c.args.weights.now.turns.0 (pairables (weights_of c.args.weights.now) c.args.weights.now.gentle).0 j h (byte (2 * j + 0) (omega arith)) (byte (2 * j + 1) (omega arith))
 
 pub pair_sums-requires-2 : goal.pair_sums-requires-2
 pair_sums-requires-2 c j h =
     let byte = bytes c.args.b c.fits-b.0 c.fits-b.1 in
-    turned_fits c.args.b c.args.far.now.second c.args.far.now.turns.1 (pairables (weights_of c.args.far.now) c.args.far.now.gentle).1 j h (byte (2 * j + 0) (omega arith)) (byte (2 * j + 1) (omega arith))
+    turned_fits c.args.b c.args.weights.now.second c.args.weights.now.turns.1 (pairables (weights_of c.args.weights.now) c.args.weights.now.gentle).1 j h (byte (2 * j + 0) (omega arith)) (byte (2 * j + 1) (omega arith))
 
 pub pair_sums-requires-3 : goal.pair_sums-requires-3
 pair_sums-requires-3 c j h =
     let byte = bytes c.args.c c.fits-c.0 c.fits-c.1 in
-    turned_fits c.args.c c.args.far.now.third c.args.far.now.turns.2 (pairables (weights_of c.args.far.now) c.args.far.now.gentle).2 j h (byte (2 * j + 0) (omega arith)) (byte (2 * j + 1) (omega arith))
+    turned_fits c.args.c c.args.weights.now.third c.args.weights.now.turns.2 (pairables (weights_of c.args.weights.now) c.args.weights.now.gentle).2 j h (byte (2 * j + 0) (omega arith)) (byte (2 * j + 1) (omega arith))
 
 pub sum_of_three-requires : goal.sum_of_three-requires
 sum_of_three-requires c =
-    let far = c.args.far.now in
-    let fit = pairables (weights_of far) far.gentle in
-    let all = λ (j : ℕ) (h : j < 8). summed_fits (weights_of far) c.args.a c.args.b c.args.c far.gentle j _ _ _
-    (passed w16 8 c.pair_sums.result _ c.pair_sums.type_inv j h ∙ c.pair_sums.ensures j h ∙ turned c.args.a far.first far.turns.0 fit.0 j h)
-    (passed w16 8 c.pair_sums-2.result _ c.pair_sums-2.type_inv j h ∙ c.pair_sums-2.ensures j h ∙ turned c.args.b far.second far.turns.1 fit.1 j h)
-    (passed w16 8 c.pair_sums-3.result _ c.pair_sums-3.type_inv j h ∙ c.pair_sums-3.ensures j h ∙ turned c.args.c far.third far.turns.2 fit.2 j h)
+    let weights = c.args.weights.now in
+    let fit = pairables (weights_of weights) weights.gentle in
+    let all = λ (j : ℕ) (h : j < 8). summed_fits (weights_of weights) c.args.a c.args.b c.args.c weights.gentle j _ _ _
+    (passed w16 8 c.pair_sums.result _ c.pair_sums.type_inv j h ∙ c.pair_sums.ensures j h ∙ turned c.args.a weights.first weights.turns.0 fit.0 j h)
+    (passed w16 8 c.pair_sums-2.result _ c.pair_sums-2.type_inv j h ∙ c.pair_sums-2.ensures j h ∙ turned c.args.b weights.second weights.turns.1 fit.1 j h)
+    (passed w16 8 c.pair_sums-3.result _ c.pair_sums-3.type_inv j h ∙ c.pair_sums-3.ensures j h ∙ turned c.args.c weights.third weights.turns.2 fit.2 j h)
     h (bytes c.args.a c.fits-a.0 c.fits-a.1) (bytes c.args.b c.fits-b.0 c.fits-b.1) (bytes c.args.c c.fits-c.0 c.fits-c.1) in
     record { first = λ j h. (all j h).0; both = λ j h. (all j h).1; all = λ j h. (all j h).2 }
 
 pub returns : goal.returns
 returns c j h =
-    let far = c.args.far.now in
-    let fit = pairables (weights_of far) far.gentle in
+    let weights = c.args.weights.now in
+    let fit = pairables (weights_of weights) weights.gentle in
     passed w16 8 c.sum_of_three.result _ c.sum_of_three.type_inv j h ∙ c.sum_of_three.ensures j h
-    ∙ summed (weights_of far) c.args.a c.args.b c.args.c far.gentle j _ _ _
-    (passed w16 8 c.pair_sums.result _ c.pair_sums.type_inv j h ∙ c.pair_sums.ensures j h ∙ turned c.args.a far.first far.turns.0 fit.0 j h)
-    (passed w16 8 c.pair_sums-2.result _ c.pair_sums-2.type_inv j h ∙ c.pair_sums-2.ensures j h ∙ turned c.args.b far.second far.turns.1 fit.1 j h)
-    (passed w16 8 c.pair_sums-3.result _ c.pair_sums-3.type_inv j h ∙ c.pair_sums-3.ensures j h ∙ turned c.args.c far.third far.turns.2 fit.2 j h)
+    ∙ summed (weights_of weights) c.args.a c.args.b c.args.c weights.gentle j _ _ _
+    (passed w16 8 c.pair_sums.result _ c.pair_sums.type_inv j h ∙ c.pair_sums.ensures j h ∙ turned c.args.a weights.first weights.turns.0 fit.0 j h)
+    (passed w16 8 c.pair_sums-2.result _ c.pair_sums-2.type_inv j h ∙ c.pair_sums-2.ensures j h ∙ turned c.args.b weights.second weights.turns.1 fit.1 j h)
+    (passed w16 8 c.pair_sums-3.result _ c.pair_sums-3.type_inv j h ∙ c.pair_sums-3.ensures j h ∙ turned c.args.c weights.third weights.turns.2 fit.2 j h)

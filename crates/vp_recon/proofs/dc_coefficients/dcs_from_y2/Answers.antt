@@ -10,7 +10,7 @@ use Rattle.vp_recon.proofs.dc_coefficients.dcs_from_y2.Goals as goal
 
 pub returns-then-block-le1-clause-value : goal.returns-then-block-le1-clause-value
 returns-then-block-le1-clause-value c dcs is k below =
-    let b : Block = record { levels = c.block.inside.levels; tokens = c.block.inside.tokens } in
+    let b : Block = record { levels = c.block.inside.levels; end = c.block.inside.end } in
     let dc : ℤ = c.scaled_dc-dc.result in
     let z : ℤ = c.iwht_of_dc.result in
     let same = exact dc (omega (arith, c.scaled_dc-dc.ensures.within)) in
@@ -39,7 +39,7 @@ iwht_short-dcs-requires c =
 
 pub returns-then-greatest-le2200-clause-value : goal.returns-then-greatest-le2200-clause-value
 returns-then-greatest-le2200-clause-value c dcs is k below =
-    let b : Block = record { levels = c.block.inside.levels; tokens = c.block.inside.tokens } in
+    let b : Block = record { levels = c.block.inside.levels; end = c.block.inside.end } in
     let dc : ℤ = c.scaled_dc-dc.result in
     let are : c.iwht_short-dcs.result ≡ dcs = cc in
     ap (λ (zs : List ℤ). get_or zs k (pos 0)) (sym are ∙ c.iwht_short-dcs.ensures.value

@@ -7,8 +7,8 @@ use Rattle.vp_recon.proofs.residue.ends_in.Goals as goal
 
 pub loop-i-preserved : goal.loop-i-preserved
 loop-i-preserved c j below =
-    let l = le_or_l c.loop-i.ends c.behind-tokens.inside.tokens in
-    let r = le_or_r c.loop-i.ends c.behind-tokens.inside.tokens in
+    let l = le_or_l c.loop-i.ends c.behind-tokens.inside.end in
+    let r = le_or_r c.loop-i.ends c.behind-tokens.inside.end in
     elim (cases_lt j c.loop-i.i) [
       | inl early ↦ let before = c.loop-i.invariant j early in (before.0, omega (arith, before.1, l))
       | inr late ↦
@@ -16,6 +16,6 @@ loop-i-preserved c j below =
           let is : IsBlock c.block_of.result.now = subst IsBlock c.behind-tokens.view_is c.behind-tokens.invariant in
           let here : c.block_of.result.now ≡ block_of c.args.tokens.now (c.args.start + j) =
           c.block_of.ensures ∙ ap (λ (i : ℕ). block_of c.args.tokens.now (c.args.start + i)) last in
-          let count : c.behind-tokens.inside.tokens ≡ (block_of c.args.tokens.now (c.args.start + j)).tokens = ap (λ (b : Block). b.tokens) (c.behind-tokens.view_is ∙ here) in
+          let count : c.behind-tokens.inside.end ≡ (block_of c.args.tokens.now (c.args.start + j)).end = ap (λ (b : Block). b.end) (c.behind-tokens.view_is ∙ here) in
           (subst IsBlock here is, omega (arith, count, r))
     ]

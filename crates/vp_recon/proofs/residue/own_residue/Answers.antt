@@ -28,7 +28,7 @@ returns-then-block-le1-clause-value c =
     let first : ℤ = coded c.scaled_dc-dc.result in
     let same = exact c.scaled_dc-dc.result (omega (arith, c.scaled_dc-dc.ensures.within)) in
     let small : unsigned_abs (coded c.scaled_dc-dc.result) ≤ 2200 = let e = c.unsigned_abs.ensures.value in omega (arith, e, c.if-unsigned_abs-gt2200.false) in
-    let few : HasUpTo 1 c.args.block.now = (subst IsBlock c.block.view_is c.block.invariant, (let e : c.block.inside.tokens ≡ c.args.block.now.tokens = ap (λ (a : Block). a.tokens) c.block.view_is in omega (arith, e, c.if-block-le1.true))) in
+    let few : HasUpTo 1 c.args.block.now = (subst IsBlock c.block.view_is c.block.invariant, (let e : c.block.inside.end ≡ c.args.block.now.end = ap (λ (a : Block). a.end) c.block.view_is in omega (arith, e, c.if-block-le1.true))) in
     equal_sums _ (residue b.levels c.args.factors.now.y_dc c.args.factors.now.y_ac)
     (ap (λ (z : ℤ). replicate 16 z) (short_coded c.dc_residue.result (let w = c.dc_residue.ensures.within in omega arith) ∙ c.dc_residue.ensures.value
     ∙ ap (λ (z : ℤ). rounded z) (short_coded first (omega arith)))

@@ -12,7 +12,7 @@ pub returns-then-block-eq0 : goal.returns-then-block-eq0
 returns-then-block-eq0 c =
     let b : Block = c.args.block.now in
     let is : IsBlock c.args.block.now = subst IsBlock c.block.view_is c.block.invariant in
-    let none : c.args.block.now.tokens ≡ 0 = ap (λ (b : Block). b.tokens) (sym c.block.view_is) ∙ c.if-block-eq0.true in
+    let none : c.args.block.now.end ≡ 0 = ap (λ (b : Block). b.end) (sym c.block.view_is) ∙ c.if-block-eq0.true in
     nothing_added c.args.prediction c.args.prediction (residue b.levels c.args.factors.now.y_dc c.args.factors.now.y_ac)
     (nothing_of _ (no_residue b is c.args.factors.now.y_dc c.args.factors.now.y_ac none))
     refl (λ i below. let b = byte_lane c.args.prediction c.fits-prediction i below in omega arith)

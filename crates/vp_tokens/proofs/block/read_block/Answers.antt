@@ -37,7 +37,7 @@ returns-in_default c =
     let goes = block-goes_on c.args.bands.now l.i l.context _ l.found _ _ c.loop-i-test.true c.row_of.ensures (sym c.end_of_block.ensures.value ∙ c.if-end_of_block.false) c.end_of_block.ensures.rest in
     let all = passed c.args.bands.now l.i l.context l.found None _ _ c.loop-i-test.true l.invariant.good l.invariant.before none c.pass_zeros.ensures.rest in
     let g = gives _ _ _ (sym l.invariant.so_far ∙ goes ∙ all ∙ all_zeros c.args.bands.now l.found.levels c.pass_zeros.new.d) in
-    record { value = c.end.ensures ∙ g.value; rest = g.rest }
+    record { value = c.end_after_last.ensures ∙ g.value; rest = g.rest }
 
 pub loop-i-preserved : goal.loop-i-preserved
 loop-i-preserved c =

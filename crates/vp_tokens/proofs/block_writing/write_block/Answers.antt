@@ -25,7 +25,7 @@ loop-i-preserved c =
     let i = c.loop-i.i in
     let first = first_of c.args.kind in
     let good : IsBlock v = subst (λ (b : Block). IsBlock b) c.what.view_is c.what.invariant in
-    let end : c.what.inside.tokens ≡ v.tokens = ap (λ (b : Block). b.tokens) c.what.view_is in
+    let end : c.what.inside.end ≡ v.end = ap (λ (b : Block). b.end) c.what.view_is in
     let z = get_or c.what.inside.levels i (pos 0) in
     let here : z ≡ level_of v i = ap (λ (b : Block). level_of b i) c.what.view_is in
     let fits : SFits w16 z = search rules in
@@ -38,7 +38,7 @@ loop-i-preserved c =
     let more = so_far-more first i v low (omega arith) in
     record {
       context_in = omega (arith, next);
-      from_in = start_next _ _ start (λ e small. let n : i + 1 < v.tokens = not_last c.args.kind v i c.requires.spelled (omega arith) (rw here at e) small in omega arith);
+      from_in = start_next _ _ start (λ e small. let n : i + 1 < v.end = not_last c.args.kind v i c.requires.spelled (omega arith) (rw here at e) small in omega arith);
       before = λ h. omega arith;
       left = rw (next, start, here, ← more) (Continues-then c.loop-i.invariant.left (rw here at one));
     }
@@ -49,7 +49,7 @@ returns-then-i-end c =
     let i = c.loop-i.i in
     let first = first_of c.args.kind in
     let good : IsBlock v = subst (λ (b : Block). IsBlock b) c.what.view_is c.what.invariant in
-    let end : c.what.inside.tokens ≡ v.tokens = ap (λ (b : Block). b.tokens) c.what.view_is in
+    let end : c.what.inside.end ≡ v.end = ap (λ (b : Block). b.end) c.what.view_is in
     let low : first ≤ i = omega (arith, c.first_of-i.ensures.value) in
     let all = so_far-all c.args.kind i v good c.requires.spelled low (omega arith) (λ h. let b = c.loop-i.invariant.before h in omega arith) in
     let root : c.loop-i.from ≡ 0 = elim c.loop-i.invariant.from_in [
@@ -65,7 +65,7 @@ returns c =
     let i = c.loop-i.i in
     let first = first_of c.args.kind in
     let good : IsBlock v = subst (λ (b : Block). IsBlock b) c.what.view_is c.what.invariant in
-    let end : c.what.inside.tokens ≡ v.tokens = ap (λ (b : Block). b.tokens) c.what.view_is in
+    let end : c.what.inside.end ≡ v.end = ap (λ (b : Block). b.end) c.what.view_is in
     let low : first ≤ i = omega (arith, c.first_of-i.ensures.value) in
     let few = good.count in
     let all = so_far-all c.args.kind i v good c.requires.spelled low (omega arith) (λ h. let b = c.loop-i.invariant.before h in omega arith) in

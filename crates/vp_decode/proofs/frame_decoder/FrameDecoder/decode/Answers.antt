@@ -36,7 +36,7 @@ kept c = elim c.if-modes.branch [
       rw w.self-inside-is (record {
         info = refl;
         levels = refl;
-        contexts = w.pass_macroblock.ensures.columns;
+        contexts = w.skip_macroblock.ensures.columns;
         width = ap (λ (p : Image). p.width) made;
         height = ap (λ (p : Image). p.height) made;
       })
@@ -61,11 +61,11 @@ step c g levels has stands here elsewhere =
     let skips = ap (λ (m : Modes). m.skip) (c.modes.view_is ∙ at.modes) in
     elim c.if-modes.branch [
       | then-modes+then-not-has_sub_modes w ↦
-          let none = w.pass_macroblock.ensures.value g c.args.d.now f.header.probabilities.coefficients stands in
+          let none = w.skip_macroblock.ensures.value g c.args.d.now f.header.probabilities.coefficients stands in
           rw (w.self-inside-is, w.d-is)
           (step_made f c.args.place g c.args.d.now c.args.d.now (before c) _ (predictor_of c.args.macroblock.now.predictor) _ _ _ without_tokens (factors_at f c.args.place)
           at.predictor refl c.has_y2-has_y2.ensures (sym w.if-modes.true ∙ skips) refl (λ i. (sym none i).0) (λ i. (sym none i).1)
-          (w.pass_macroblock.ensures.stands g has stands) (w.predict_macroblock.ensures without_tokens (factors_at f c.args.place) refl)
+          (w.skip_macroblock.ensures.stands g has stands) (w.predict_macroblock.ensures without_tokens (factors_at f c.args.place) refl)
           (here without_tokens w.coded-is) elsewhere)
       | else-modes w ↦
           let read = w.read_macroblock in
