@@ -6,42 +6,34 @@ ghost use Rattle.vp_base.specs.Near.{IsBefore, value};
 ghost use Rattle.vp_motion.specs.Map.{above_block, left_block, block_vector};
 ghost use Rattle.vp_motion.specs.Vector.{zero_vector};
 
-use crate::map::VectorMap;
-use crate::vector::{MacroblockMotion, STILL, Vector};
+use crate::grid::MotionGrid;
+use crate::vector::{STILL, Vector};
 use vp_base::{Near, Place};
 
-/// The vector of block `b` of a macroblock; zero if it is intra.
-#[tactic(auto, unfolding(crate::specs::Map::block_vector))]
-fn vector_in(entry: &MacroblockMotion, b: usize) -> Vector
-    requires { b < 16 }
-    ensures { result ≡ block_vector entry.now b }
-{
-    if entry.reference.is_intra() {
-        STILL
-    } else {
-        entry.vectors[b]
-    }
-}
-
 /// The vector of a block near the macroblock at `place`. `found` contains the vectors of that macroblock read so far.
-fn vector_near(map: &VectorMap, place: Place, found: &[Vector; 16], near: Near) -> Vector
-    requires place { Has map.now place }
+fn vector_near<G: MotionGrid>(map: &G, place: Place, found: &[Vector; 16], near: Near) -> Vector
+    requires place { Has (G.grid map.now) place }
     requires lower_bound { IsBefore place near }
-    ensures { result ≡ value block_vector zero_vector map.now found.now near }
+    ensures { result ≡ value block_vector zero_vector (G.grid map.now) found.now near }
 {
     match near {
         Near::Here(b) => found[b],
-        Near::There(other, b) => vector_in(map.get(other), b),
+        Near::There(other, b) => map.vector(other, b),
         Near::Outside => STILL,
     }
 }
 
 /// The vector above block `b` of the macroblock at `place`. `found` contains the vectors of its blocks before `b`.
 #[tactic(auto, unfolding(crate::specs::Map::above_block))]
-pub(crate) fn vector_above(map: &VectorMap, place: Place, found: &[Vector; 16], b: usize) -> Vector
-    requires place { Has map.now place }
+pub(crate) fn vector_above<G: MotionGrid>(
+    map: &G,
+    place: Place,
+    found: &[Vector; 16],
+    b: usize,
+) -> Vector
+    requires place { Has (G.grid map.now) place }
     requires block { b < 16 }
-    ensures { result ≡ above_block map.now place found.now b }
+    ensures { result ≡ above_block (G.grid map.now) place found.now b }
 {
     vector_near(map, place, found, place.above_block(b))
 }
@@ -49,10 +41,15 @@ pub(crate) fn vector_above(map: &VectorMap, place: Place, found: &[Vector; 16], 
 /// The vector to the left of block `b` of the macroblock at `place`. `found` contains the vectors of its blocks before
 /// `b`.
 #[tactic(auto, unfolding(crate::specs::Map::left_block))]
-pub(crate) fn vector_left(map: &VectorMap, place: Place, found: &[Vector; 16], b: usize) -> Vector
-    requires place { Has map.now place }
+pub(crate) fn vector_left<G: MotionGrid>(
+    map: &G,
+    place: Place,
+    found: &[Vector; 16],
+    b: usize,
+) -> Vector
+    requires place { Has (G.grid map.now) place }
     requires block { b < 16 }
-    ensures { result ≡ left_block map.now place found.now b }
+    ensures { result ≡ left_block (G.grid map.now) place found.now b }
 {
     vector_near(map, place, found, place.left_block(b))
 }

@@ -9,7 +9,7 @@ ghost use Rattle.vp_motion.specs.Near.{negated, same, splits, split_count, weigh
 ghost use Rattle.vp_motion.specs.Counting.{candidates_by, weighted_vector, AreLight};
 
 use crate::counting::count;
-use crate::map::VectorMap;
+use crate::grid::MotionGrid;
 use crate::packed::PackedVector;
 use crate::vector::{Candidates, MacroblockMotion, Nearby, Vector};
 use vp_base::Place;
@@ -50,9 +50,9 @@ fn clamp(low: i32, high: i32, z: i32) -> i32
 
 /// Clamps a vector so that the block lies at most one macroblock outside the frame.
 #[tactic(auto, unfolding(crate::specs::Near::clamped_vector))]
-pub(crate) fn clamp_vector(map: &VectorMap, place: Place, vector: Vector) -> Vector
-    requires place { Has map.now place }
-    ensures value { result ≡ clamped_vector map.now place vector }
+pub(crate) fn clamp_vector<G: MotionGrid>(map: &G, place: Place, vector: Vector) -> Vector
+    requires place { Has (G.grid map.now) place }
+    ensures value { result ≡ clamped_vector (G.grid map.now) place vector }
     ensures short { IsWithin 65536 result }
 {
     let (columns, rows) = (map.columns(), map.rows());
@@ -153,15 +153,15 @@ fn seen_vector(
 
 /// The count of the neighbours of the macroblock at `place`.
 #[inline(always)]
-pub(crate) fn nearby(
-    map: &VectorMap,
+pub(crate) fn nearby<G: MotionGrid>(
+    map: &G,
     place: Place,
     reference: Reference,
     biases: SignBiases,
 ) -> Nearby
-    requires place { Has map.now place }
-    ensures value { candidates_by (clamped_vector map.now place) (split_count map.now place) result
-        ≡ candidates map.now place reference biases }
+    requires place { Has (G.grid map.now) place }
+    ensures value { candidates_by (clamped_vector (G.grid map.now) place) (split_count (G.grid map.now) place) result
+        ≡ candidates (G.grid map.now) place reference biases }
     ensures light { AreLight result }
 {
     let (above, corner) = map.row_above(place);
@@ -176,9 +176,9 @@ pub(crate) fn nearby(
 /// The weights of the neighbours with split vectors. It is seldom needed, and so not inlined.
 #[inline(never)]
 #[tactic(auto, unfolding(crate::specs::Near::split_count))]
-pub(crate) fn split_count(map: &VectorMap, place: Place) -> u8
-    requires { Has map.now place }
-    ensures value { result ≡ split_count map.now place }
+pub(crate) fn split_count<G: MotionGrid>(map: &G, place: Place) -> u8
+    requires { Has (G.grid map.now) place }
+    ensures value { result ≡ split_count (G.grid map.now) place }
     ensures light { result < 6 }
 {
     let (above, corner) = map.row_above(place);
@@ -191,9 +191,14 @@ pub(crate) fn split_count(map: &VectorMap, place: Place) -> u8
 ///
 /// `reference` is the reference frame of the macroblock. A neighbour's vector is negated if its reference frame has
 /// the other sign bias.
-pub fn near(map: &VectorMap, place: Place, reference: Reference, biases: SignBiases) -> Candidates
-    requires place { Has map.now place }
-    ensures { result ≡ candidates map.now place reference biases }
+pub fn near<G: MotionGrid>(
+    map: &G,
+    place: Place,
+    reference: Reference,
+    biases: SignBiases,
+) -> Candidates
+    requires place { Has (G.grid map.now) place }
+    ensures { result ≡ candidates (G.grid map.now) place reference biases }
 {
     let found = nearby(map, place, reference, biases);
     Candidates {

@@ -9,7 +9,7 @@ ghost use Rattle.vp_motion.specs.Near.{split_count};
 ghost use Rattle.vp_motion.specs.Counting.{weights_of, AreLight};
 
 use crate::candidates::split_count;
-use crate::map::VectorMap;
+use crate::grid::MotionGrid;
 use crate::vector::Nearby;
 use vp_base::Place;
 use vp_bool::BoolDecoder;
@@ -28,11 +28,16 @@ fn mode_probability(weight: u8, i: usize) -> u8
 /// The walk from the pair at index 6.
 #[inline(always)]
 #[tactic(auto, unfolding(crate::specs::ModeWalk::above_near, vp_bool::specs::Reader::bind))]
-fn above_near(map: &VectorMap, place: Place, found: &Nearby, d: &mut BoolDecoder) -> VectorMode
-    requires place { Has map.now place }
+fn above_near<G: MotionGrid>(
+    map: &G,
+    place: Place,
+    found: &Nearby,
+    d: &mut BoolDecoder,
+) -> VectorMode
+    requires place { Has (G.grid map.now) place }
     requires light { AreLight found.now }
-    ensures value { result ≡ (above_near (weights_of (split_count map.now place) found.now) d.old).0 }
-    ensures rest { d.new ≡ (above_near (weights_of (split_count map.now place) found.now) d.old).1 }
+    ensures value { result ≡ (above_near (weights_of (split_count (G.grid map.now) place) found.now) d.old).0 }
+    ensures rest { d.new ≡ (above_near (weights_of (split_count (G.grid map.now) place) found.now) d.old).1 }
 {
     if d.read(mode_probability(split_count(map, place), 3)) {
         VectorMode::Split
@@ -44,11 +49,16 @@ fn above_near(map: &VectorMap, place: Place, found: &Nearby, d: &mut BoolDecoder
 /// The walk from the pair at index 4.
 #[inline(always)]
 #[tactic(auto, unfolding(crate::specs::ModeWalk::above_nearest, vp_bool::specs::Reader::bind))]
-fn above_nearest(map: &VectorMap, place: Place, found: &Nearby, d: &mut BoolDecoder) -> VectorMode
-    requires place { Has map.now place }
+fn above_nearest<G: MotionGrid>(
+    map: &G,
+    place: Place,
+    found: &Nearby,
+    d: &mut BoolDecoder,
+) -> VectorMode
+    requires place { Has (G.grid map.now) place }
     requires light { AreLight found.now }
-    ensures value { result ≡ (above_nearest (weights_of (split_count map.now place) found.now) d.old).0 }
-    ensures rest { d.new ≡ (above_nearest (weights_of (split_count map.now place) found.now) d.old).1 }
+    ensures value { result ≡ (above_nearest (weights_of (split_count (G.grid map.now) place) found.now) d.old).0 }
+    ensures rest { d.new ≡ (above_nearest (weights_of (split_count (G.grid map.now) place) found.now) d.old).1 }
 {
     if d.read(mode_probability(found.near.weight, 2)) {
         above_near(map, place, found, d)
@@ -60,11 +70,16 @@ fn above_nearest(map: &VectorMap, place: Place, found: &Nearby, d: &mut BoolDeco
 /// The walk from the pair at index 2.
 #[inline(always)]
 #[tactic(auto, unfolding(crate::specs::ModeWalk::above_zero, vp_bool::specs::Reader::bind))]
-fn above_zero(map: &VectorMap, place: Place, found: &Nearby, d: &mut BoolDecoder) -> VectorMode
-    requires place { Has map.now place }
+fn above_zero<G: MotionGrid>(
+    map: &G,
+    place: Place,
+    found: &Nearby,
+    d: &mut BoolDecoder,
+) -> VectorMode
+    requires place { Has (G.grid map.now) place }
     requires light { AreLight found.now }
-    ensures value { result ≡ (above_zero (weights_of (split_count map.now place) found.now) d.old).0 }
-    ensures rest { d.new ≡ (above_zero (weights_of (split_count map.now place) found.now) d.old).1 }
+    ensures value { result ≡ (above_zero (weights_of (split_count (G.grid map.now) place) found.now) d.old).0 }
+    ensures rest { d.new ≡ (above_zero (weights_of (split_count (G.grid map.now) place) found.now) d.old).1 }
 {
     if d.read(mode_probability(found.nearest.weight, 1)) {
         above_nearest(map, place, found, d)
@@ -76,11 +91,11 @@ fn above_zero(map: &VectorMap, place: Place, found: &Nearby, d: &mut BoolDecoder
 /// The walk from the root.
 #[inline(always)]
 #[tactic(auto, unfolding(crate::specs::ModeWalk::any_mode, vp_bool::specs::Reader::bind))]
-fn any_mode(map: &VectorMap, place: Place, found: &Nearby, d: &mut BoolDecoder) -> VectorMode
-    requires place { Has map.now place }
+fn any_mode<G: MotionGrid>(map: &G, place: Place, found: &Nearby, d: &mut BoolDecoder) -> VectorMode
+    requires place { Has (G.grid map.now) place }
     requires light { AreLight found.now }
-    ensures value { result ≡ (any_mode (weights_of (split_count map.now place) found.now) d.old).0 }
-    ensures rest { d.new ≡ (any_mode (weights_of (split_count map.now place) found.now) d.old).1 }
+    ensures value { result ≡ (any_mode (weights_of (split_count (G.grid map.now) place) found.now) d.old).0 }
+    ensures rest { d.new ≡ (any_mode (weights_of (split_count (G.grid map.now) place) found.now) d.old).1 }
 {
     if d.read(mode_probability(found.zeros, 0)) {
         above_zero(map, place, found, d)
@@ -91,16 +106,16 @@ fn any_mode(map: &VectorMap, place: Place, found: &Nearby, d: &mut BoolDecoder) 
 
 /// Reads a vector mode. The compiler follows each mode from where it is read: no mode is looked at again.
 #[inline(always)]
-pub(crate) fn read_mode(
-    map: &VectorMap,
+pub(crate) fn read_mode<G: MotionGrid>(
+    map: &G,
     place: Place,
     found: &Nearby,
     d: &mut BoolDecoder,
 ) -> VectorMode
-    requires place { Has map.now place }
+    requires place { Has (G.grid map.now) place }
     requires light { AreLight found.now }
-    ensures value { result ≡ (vector_mode (weights_of (split_count map.now place) found.now) d.old).0 }
-    ensures rest { d.new ≡ (vector_mode (weights_of (split_count map.now place) found.now) d.old).1 }
+    ensures value { result ≡ (vector_mode (weights_of (split_count (G.grid map.now) place) found.now) d.old).0 }
+    ensures rest { d.new ≡ (vector_mode (weights_of (split_count (G.grid map.now) place) found.now) d.old).1 }
 {
     any_mode(map, place, found, d)
 }
