@@ -11,8 +11,8 @@ use vp_bool::{BoolDecoder, BoolEncoder};
 use vp_head::{Header, Reference, Saved, SignBiases, Tag};
 use vp_modes::{ModeMap, Place, read_modes};
 use vp_motion::{
-    MacroblockMotion, Motion, Vector, VectorMap, near, read_into, read_motion, read_split,
-    read_vector, write_motion, write_vector,
+    MacroblockMotion, Motion, Vector, VectorMap, near, read_motion, read_split, read_vector,
+    write_motion, write_vector,
 };
 use vp_tables::VectorMode::{self, Near, Nearest, New, Split, Zero};
 
@@ -245,7 +245,8 @@ fn put_next(
     let i = place.row * 3 + place.column;
     let reference = REFERENCES[i];
     let motion = next_motion(header, map, place, reference, d);
-    read_into(header, map, place, reference, d);
+    let read = read_motion(header, map, place, reference, d);
+    map.set(place, reference, read.mode, &read.vectors);
     check_motion(rt, i, &motion, map.get(place));
 }
 

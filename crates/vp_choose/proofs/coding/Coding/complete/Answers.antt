@@ -1,6 +1,8 @@
 use Rattle.std.proofs.Common.{◌≡◌, ◌∙◌, Option, Some, None, true, is_some, sym, ap, subst, true≢false}
 use Rattle.std.specs.Prelude.{IfSome}
+use Rattle.vp_quant.specs.declared.factors.Factors.{Factors}
 use Rattle.vp_recon.specs.Predictor.{macroblock_of}
+use Rattle.vp_choose.specs.Coding.{HasPrediction, HasLevels}
 use Rattle.vp_recon.specs.Given.{IsGiven}
 use Rattle.vp_choose.specs.declared.subblocks.Subblocks.{Subblocks}
 use Rattle.vp_choose.specs.declared.coding.Coding.{Coding}
@@ -25,4 +27,6 @@ returns-clause-rebuilt c predictor pred =
     (subst (λ (a : Coding). IsGiven (macroblock_of predictor tokens c.args.factors.now) c.args.place c.args.picture.now a.prediction) (sym c.self.view_is) given)
 
 pub returns-clause-levels : goal.returns-clause-levels
-returns-clause-levels c original predictor cut pred = c.tokens-tokens.ensures.levels original c.args.picture.now c.args.place predictor cut pred
+returns-clause-levels c original predictor cut pred =
+    subst (λ (f : Factors). HasPrediction predictor f c.args.place c.args.picture.now c.args.self.now → HasLevels original predictor f c.args.place c.args.picture.now c.args.self.now c.tokens-tokens.result) c.raw.ensures
+    (c.tokens-tokens.ensures.levels original c.args.picture.now c.args.place predictor cut) pred
