@@ -1,20 +1,21 @@
--- A row of a frame's modes and motion is a part of their entries.
-use Rattle.std.proofs.Common.{◌≡◌, ◌∙◌, ℕ, ◌+◌, ◌-◌, ◌*◌, ◌<◌, ◌≤◌, List, length, take, drop, Some, ap, subst, sym, arith, length-drop}
-use Rattle.std.specs.Prelude.{slice_get}
+-- A row of a frame's macroblocks is a part of their entries.
+use Rattle.std.proofs.Common.{◌≡◌, ◌∙◌, ℕ, ◌+◌, ◌-◌, ◌*◌, ◌<◌, ◌≤◌, List, length, take, drop, Some, refl, ap, sym, inl, inr, arith, length-drop}
+use Rattle.std.specs.Prelude.{nat_lt, option_map, unwrap_or, slice_get, slice_index_or}
+use Rattle.std.proofs.lemmas.Bool.{cases_Bool}
 use Rattle.std.proofs.lemmas.List.{get_or-take, get_or-drop, length-take-le}
 use Rattle.std.proofs.lemmas.Nat.{row_fits}
-use Rattle.std.proofs.lemmas.Option.{slice_get-get_or}
-use Rattle.vp_base.specs.Grid.{Grid, entry}
+use Rattle.std.proofs.lemmas.Option.{slice_get-get_or, slice_get-map, slice_get_read}
+use Rattle.vp_base.specs.declared.place.Place.{Place}
+use Rattle.vp_base.specs.Grid.{Grid, Has, entry, mapped}
 use Rattle.vp_base.proofs.GridLemmas.{entry-inside}
-use Rattle.vp_modes.specs.Entry.{Modes, plain}
+use Rattle.vp_modes.specs.Entry.{plain}
 use Rattle.vp_motion.specs.Map.{intra}
-use Rattle.vp_motion.specs.Vector.{MacroblockMotion}
-use Rattle.vp_decode.specs.declared.frame_info.MacroblockRow.{MacroblockRow}
-use Rattle.vp_decode.specs.MacroblockMaps.{MacroblockMaps, place}
+use Rattle.vp_decode.specs.declared.macroblocks.Macroblock.{Macroblock}
+use Rattle.vp_decode.specs.MacroblockMaps.{MacroblockMaps, modes_in, motion_in, place}
 use Rattle.vp_decode.specs.FrameDecoder.{IsMacroblockRow}
 
 -- n entries of a list, from a row's first one on
-abbrev part : {A : Type 0} → ℕ → ℕ → List A → List A
+abbrev pub part : {A : Type 0} → ℕ → ℕ → List A → List A
 part row n xs = take (row * n + n - row * n) (drop (row * n) xs)
 
 -- xs are the entries of a grid with n columns
@@ -43,19 +44,36 @@ part_entry {A} d g row n column xs all below inside =
     ∙ ap Some (sym (get_or-drop (row * n) xs column d) ∙ sym (get_or-take (row * n + n - row * n) (drop (row * n) xs) column d (omega (arith, inside))))
     ∙ sym (slice_get-get_or (part row n xs) column d (omega (arith, long, inside)))
 
-pub row_made : (m maps : MacroblockMaps) (row n : ℕ) (r : MacroblockRow) (xs : List Modes) (ys : List MacroblockMotion) → m ≡ maps
-    → n ≡ m.modes.columns → m.motion.columns ≡ m.modes.columns → m.motion.rows ≡ m.modes.rows → xs ≡ m.modes.entries → ys ≡ m.motion.entries
-    → length xs ≡ m.modes.rows * m.modes.columns → length ys ≡ m.motion.rows * m.motion.columns → row < maps.modes.rows
-    → r.modes.now ≡ part row n xs → r.motion.now ≡ part row n ys → IsMacroblockRow maps row r
-row_made m maps row n r xs ys same wide columns rows modes motion whole_modes whole_motion within here there =
-    let below : row < m.modes.rows = subst (λ (k : MacroblockMaps). row < k.modes.rows) (sym same) within in
-    let first : IsGrid m.modes n xs = record { columns = wide; entries = modes; whole = whole_modes } in
-    let second : IsGrid m.motion n ys = record { columns = wide ∙ sym columns; entries = motion; whole = whole_motion } in
-    let below' : row < m.motion.rows = omega (arith, rows, below) in
-    subst (λ (k : MacroblockMaps). IsMacroblockRow k row r) same (record {
-      modes = λ column inside. part_entry plain m.modes row n column xs first below (omega (arith, wide, inside)) ∙ ap (λ (es : List Modes). slice_get es column) (sym here);
-      motion = λ column inside.
-          part_entry intra m.motion row n column ys second below' (omega (arith, wide, inside)) ∙ ap (λ (es : List MacroblockMotion). slice_get es column) (sym there);
-      modes_length = ap length here ∙ part_length m.modes row n xs first below ∙ wide;
-      motion_length = ap length there ∙ part_length m.motion row n ys second below' ∙ wide;
-    })
+-- ---- a row of macroblocks
+
+entry-mapped : {A B : Type 0} (f : A → B) (g : Grid A) (p : Place) → entry (mapped f g) p ≡ option_map f (entry g p)
+unfolding entry
+entry-mapped f g p = elim (cases_Bool (nat_lt p.column g.columns)) [
+  | inl inside ↦ rw inside (slice_get-map f g.entries (p.row * g.columns + p.column))
+  | inr outside ↦ rw outside refl
+]
+
+-- any macroblock
+other : Macroblock
+other = record { modes = plain; motion = intra }
+
+pub row_made : (g : Grid Macroblock) (row n : ℕ) (r : List Macroblock) → length g.entries ≡ g.rows * g.columns → n ≡ g.columns → row < g.rows
+    → r ≡ part row n g.entries → IsMacroblockRow (record { modes = mapped (λ m. m.modes) g; motion = mapped (λ m. m.motion) g }) row r
+row_made g row n r whole wide below here =
+    let all : IsGrid g n g.entries = record { columns = wide; entries = refl; whole = whole } in
+    record {
+      modes = λ column inside. entry-mapped (λ m. m.modes) g (place row column)
+          ∙ ap (λ o. option_map (λ m. m.modes) o) (part_entry other g row n column g.entries all below (omega (arith, wide, inside)) ∙ ap (λ es. slice_get es column) (sym here));
+      motion = λ column inside. entry-mapped (λ m. m.motion) g (place row column)
+          ∙ ap (λ o. option_map (λ m. m.motion) o) (part_entry other g row n column g.entries all below (omega (arith, wide, inside)) ∙ ap (λ es. slice_get es column) (sym here));
+      whole = ap length here ∙ part_length g row n g.entries all below ∙ wide;
+    }
+
+-- the macroblock at a place of a row
+pub item_at : (m : MacroblockMaps) (p : Place) (r : List Macroblock) (a : Macroblock) → IsMacroblockRow m p.row r → Has m.modes p → a ≡ slice_index_or r p.column a
+    → (a.modes ≡ modes_in m p) × (a.motion ≡ motion_in m p)
+item_at m p r a row has is =
+    let here : slice_get r p.column ≡ Some a = slice_get_read r (length r) p.column a refl (let whole = row.whole in omega (arith, has.column, whole)) is in (
+      ap (λ o. unwrap_or o plain) (sym (row.modes p.column has.column ∙ ap (λ o. option_map (λ a. a.modes) o) here)),
+      ap (λ o. unwrap_or o intra) (sym (row.motion p.column has.column ∙ ap (λ o. option_map (λ a. a.motion) o) here)),
+    )

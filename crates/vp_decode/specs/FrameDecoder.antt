@@ -1,6 +1,6 @@
 -- Private to the crate: a macroblock that is looked up; a frame whose rows are being rebuilt; how one macroblock and
 -- one row change it; the state after a number of rows.
-use Rattle.std.specs.Prelude.{◌≡◌, ◌≢◌, ◌<◌, ℕ, List, Some, length, slice_get}
+use Rattle.std.specs.Prelude.{◌≡◌, ◌≢◌, ◌<◌, ℕ, List, Some, length, option_map, slice_get}
 use Rattle.vp_bool.specs.Bools.{State}
 use Rattle.vp_base.specs.declared.place.Place.{Place}
 use Rattle.vp_base.specs.Grid.{Grid, entry}
@@ -11,8 +11,8 @@ use Rattle.vp_tokens.specs.Contexts.{Contexts, AreContextsAt, right}
 use Rattle.vp_recon.specs.Predictor.{predictor_of}
 use Rattle.vp_recon.specs.Rebuilt.{rebuilt}
 use Rattle.vp_loop.specs.declared.strength.Level.{Level}
-use Rattle.vp_decode.specs.declared.frame_info.Macroblock.{Macroblock}
-use Rattle.vp_decode.specs.declared.frame_info.MacroblockRow.{MacroblockRow}
+use Rattle.vp_decode.specs.declared.frame_info.MacroblockInfo.{MacroblockInfo}
+use Rattle.vp_decode.specs.declared.macroblocks.Macroblock.{Macroblock}
 use Rattle.vp_decode.specs.MacroblockMaps.{MacroblockMaps, modes_in, place}
 use Rattle.vp_decode.specs.Frame.{FrameInfo, predictor_at, tokens_of, macroblock_at, level_at}
 use Rattle.vp_decode.specs.TokenRows.{tokens_at, seen_read, row_seen, row_tokens, readings}
@@ -33,18 +33,17 @@ pub record IsOneFrame (b : FrameDecoder) : Type 0 where
   pub contexts : length b.contexts.above ≡ macroblocks b.picture.width
 
 -- m is the macroblock at p: its modes, and what it is predicted from
-pub record IsMacroblockAt (f : FrameInfo) (p : Place) (m : Macroblock) : Type 0 where
+pub record IsMacroblockAt (f : FrameInfo) (p : Place) (m : MacroblockInfo) : Type 0 where
   pub modes : m.modes.now ≡ modes_in f.maps p
   pub predictor : predictor_of m.predictor ≡ predictor_at f p
 
--- r has the modes and the motion of each macroblock of a row
-pub record IsMacroblockRow (m : MacroblockMaps) (row : ℕ) (r : MacroblockRow) : Type 0 where
+-- r has the macroblocks of a row
+pub record IsMacroblockRow (m : MacroblockMaps) (row : ℕ) (r : List Macroblock) : Type 0 where
   pub modes : (column : ℕ) → column < m.modes.columns
-      → entry m.modes (place row column) ≡ slice_get r.modes.now column
+      → entry m.modes (place row column) ≡ option_map (λ a. a.modes) (slice_get r column)
   pub motion : (column : ℕ) → column < m.modes.columns
-      → entry m.motion (place row column) ≡ slice_get r.motion.now column
-  pub modes_length : length r.modes.now ≡ m.modes.columns
-  pub motion_length : length r.motion.now ≡ m.modes.columns
+      → entry m.motion (place row column) ≡ option_map (λ a. a.motion) (slice_get r column)
+  pub whole : length r ≡ m.modes.columns
 
 -- what changes while the macroblock at p is rebuilt and its level is computed. g has the blocks before p. s and t are
 -- the states of the partition before and after.

@@ -12,7 +12,7 @@ ghost use Rattle.vp_decode.specs.Step.{frame_info_of, frame_of_packet, shown_aft
 use crate::frame_buffers::FrameBuffers;
 use crate::frame_decoder::{DecodedPicture, decode_picture};
 use crate::frame_info::{FrameInfo, all_factors};
-use crate::macroblock_maps::MacroblockMaps;
+use crate::macroblocks::Macroblocks;
 use crate::parsed_packet::ParsedPacket;
 use crate::rebuilt_frame::filter_rebuilt;
 use std::alloc::{AllocError, Global};
@@ -54,22 +54,22 @@ fn shown_after(
 
 /// Reads the modes and the motion of a frame's macroblocks, reusing the memory of `buffers`. Tells too whether the
 /// first partition is past its end after them.
-fn read_maps(
+fn read_macroblocks(
     alloc: Global,
     buffers: &mut FrameBuffers,
     parsed: &ParsedPacket,
-) -> Result<(MacroblockMaps, bool), AllocError>
+) -> Result<(Macroblocks, bool), AllocError>
     ensures maps { IfOk result (λ r. r.0 ≡ (frame_info_of parsed.now).maps) }
     ensures past { IfOk result (λ r. r.1 ≡ (first_after parsed.now).past) }
     ensures columns { IfOk result (λ r. r.0.modes.columns ≡ parsed.now.context.modes.columns) }
     ensures rows { IfOk result (λ r. r.0.modes.rows ≡ parsed.now.context.modes.rows) }
 {
-    let kept = mem::replace(&mut buffers.maps, MacroblockMaps::empty(alloc));
+    let kept = mem::replace(&mut buffers.macroblocks, Vec::new(alloc));
     let mut first = parsed.first.copy();
     let context = &parsed.context;
-    let mut maps = context.maps_before(kept)?;
-    maps.read(parsed.header, &mut first);
-    Ok((maps, first.is_past_end()))
+    let reader = context.macroblock_reader(kept)?;
+    let macroblocks = reader.read(parsed.header, &mut first);
+    Ok((macroblocks, first.is_past_end()))
 }
 
 /// Decodes or filters the picture of a parsed packet, given what is known of its frame. A picture that is only filtered
@@ -150,15 +150,21 @@ pub(crate) fn decode_frame<F: RowFilter>(
 {
     // A law, no work: each pixel is its prediction and its residue, whatever the order of macroblocks.
     unfiltered_picture_solves_its_equation();
-    let (maps, past) = read_maps(alloc, buffers, parsed)?;
+    let (macroblocks, past) = read_macroblocks(alloc, buffers, parsed)?;
     let kept = mem::replace(&mut buffers.segments, Grid::empty(alloc));
-    let segments = maps.modes.segments_in(kept)?;
+    let segments = macroblocks.segments_in(kept)?;
     let context = &parsed.context;
     let version = parsed.tag.version;
     let factors = all_factors(parsed.header);
-    let info = FrameInfo::new(parsed.header, version, context.references, &maps, &factors);
+    let info = FrameInfo::new(
+        parsed.header,
+        version,
+        context.references,
+        &macroblocks,
+        &factors,
+    );
     let decoded = picture_of_packet(alloc, buffers, parsed, filter, rebuilt, &info)?;
-    buffers.maps = maps;
+    buffers.macroblocks = macroblocks.into_list();
     let corrupt = past | decoded.corrupt;
     let show = parsed.tag.show;
     frame_of_picture(

@@ -4,7 +4,7 @@ ghost use Rattle.std.specs.Prelude.{◌≡◌, ◌≤◌, None, IfOk};
 ghost use Rattle.vp_base.specs.Image.{AreWhole};
 ghost use Rattle.vp_decode.specs.RowBands.{IsShaped};
 
-use crate::macroblock_maps::MacroblockMaps;
+use crate::macroblocks::Macroblock;
 use std::alloc::{AllocError, Global};
 use std::mem;
 use vp_base::{Dim, Grid, Picture};
@@ -23,7 +23,7 @@ const NO_LEVEL: Level = Level {
 /// The memory of earlier frames, for reuse by the next one. Its contents have no meaning.
 #[derive(Drop)]
 pub(crate) struct FrameBuffers {
-    pub maps: MacroblockMaps,
+    pub macroblocks: Vec<Macroblock>,
     pub segments: Grid<Segment>,
     pub contexts: Contexts,
     pub levels: Grid<Level>,
@@ -49,7 +49,7 @@ impl FrameBuffers {
         ensures other_picture { result.other_picture ≡ None }
     {
         FrameBuffers {
-            maps: MacroblockMaps::empty(alloc),
+            macroblocks: Vec::new(alloc),
             segments: Grid::empty(alloc),
             contexts: Contexts::empty(alloc),
             levels: Grid::empty(alloc),

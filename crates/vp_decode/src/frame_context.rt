@@ -1,20 +1,22 @@
 //! The context that a frame is decoded in: defaults for a key frame, the saved state for an inter frame.
 
-ghost use Rattle.std.specs.Prelude.{◌≡◌, ◌≤◌, Ok, Err, IfOk, MatchResult};
+ghost use Rattle.std.specs.Prelude.{◌≡◌, ◌≤◌, Ok, Err, IfOk, MatchResult, []};
 ghost use Rattle.std.specs.Option.{ok_or};
 ghost use Rattle.vp_head.specs.Header.{header};
 ghost use Rattle.vp_head.specs.declared.fault.PacketFault.TheVariants.{NoReference};
-ghost use Rattle.vp_decode.specs.Step.{context_of, maps_before};
+ghost use Rattle.vp_decode.specs.MacroblockReader.{modes_before};
+ghost use Rattle.vp_decode.specs.Step.{context_of};
 
 use crate::decoder::DecoderState;
-use crate::macroblock_maps::MacroblockMaps;
+use crate::macroblock_reader::MacroblockReader;
+use crate::macroblocks::Macroblock;
 use std::alloc::AllocError;
 use std::marker::Model;
 use std::rc::Rc;
 use vp_base::{Dim, Grid, Picture};
 use vp_bool::BoolDecoder;
 use vp_head::{Header, KeyTag, PacketFault, Saved, Tag};
-use vp_modes::{ModeMap, Segment};
+use vp_modes::Segment;
 use vp_refs::Refs;
 
 /// The context that a frame is decoded in. A key frame uses only its own size; an inter frame uses the decoder's state.
@@ -106,22 +108,20 @@ impl<'a> FrameContext<'a> {
         Header::read(saved, tag, first)
     }
 
-    /// Returns the macroblock info before the frame, in the memory of `buffers`.
-    pub(crate) fn maps_before(&self, buffers: MacroblockMaps) -> Result<MacroblockMaps, AllocError>
-        ensures { IfOk result (λ m. m ≡ maps_before self.now.modes) }
+    /// Returns a reader of the frame's macroblocks, in the memory of `room`. Allocates only if it is too small.
+    pub(crate) fn macroblock_reader(
+        &self,
+        room: Vec<Macroblock>,
+    ) -> Result<MacroblockReader<'a>, AllocError>
+        ensures before { IfOk result (λ r. modes_before r ≡ self.now.modes) }
+        ensures read { IfOk result (λ r. r.read ≡ []) }
     {
-        let modes = self.modes(buffers.modes)?;
-        let motion = buffers.motion.refill(self.dim)?;
-        Ok(MacroblockMaps { modes, motion })
-    }
-
-    /// Returns the modes before the frame, in the memory of `buffers`.
-    fn modes(&self, buffers: ModeMap) -> Result<ModeMap, AllocError>
-        ensures { IfOk result (λ m. m ≡ self.now.modes) }
-    {
-        match self.segments {
-            Some(segments) => buffers.refill_of(segments),
-            None => buffers.refill(self.dim),
-        }
+        let columns = usize::from(self.dim.mb_cols());
+        let rows = usize::from(self.dim.mb_rows());
+        let kept = match self.segments {
+            Some(segments) => Some(segments.as_slice()),
+            None => None,
+        };
+        MacroblockReader::new(columns, rows, kept, room)
     }
 }

@@ -14,7 +14,7 @@ ghost use Rattle.vp_decode.specs.RowBands.{IsShaped};
 ghost use Rattle.vp_decode.specs.Corrupt.{any_past, tokens_after};
 
 use crate::frame_buffers::FrameBuffers;
-use crate::frame_info::{FrameInfo, Macroblock};
+use crate::frame_info::{FrameInfo, MacroblockInfo};
 use crate::laws::unfiltered_picture_is_the_one_solution;
 use std::alloc::{AllocError, Global};
 use std::marker::Model;
@@ -65,7 +65,7 @@ impl<'a> FrameDecoder<'a> {
     /// Decodes the macroblock at a place: reads its tokens, rebuilds it, and computes its filter level. Inlined, so that
     /// the compiler sees where the predictor comes from.
     #[inline(always)]
-    fn decode(&mut self, macroblock: &Macroblock, place: Place, d: &mut BoolDecoder)
+    fn decode(&mut self, macroblock: &MacroblockInfo, place: Place, d: &mut BoolDecoder)
         requires place { Has self.old.info.maps.modes place }
         requires macroblock { IsMacroblockAt self.old.info place macroblock.now }
         ensures info { self.new.info ≡ self.old.info }
@@ -124,7 +124,7 @@ impl<'a> FrameDecoder<'a> {
         let macroblocks = info.row(row);
         for column in 0..info.columns() {
             let place = Place { column, row };
-            let macroblock = info.macroblock(&macroblocks, place);
+            let macroblock = info.macroblock(macroblocks, place);
             self.decode(&macroblock, place, d);
         }
     }

@@ -11,7 +11,7 @@ ghost use Rattle.vp_decode.specs.Frame.{predictor_by, predictor_at, factors_of, 
 ghost use Rattle.vp_decode.specs.Frame.{inter_mode_class, mode_class_of, level_at};
 ghost use Rattle.vp_decode.specs.FrameDecoder.{IsMacroblockAt, IsMacroblockRow};
 
-use crate::macroblock_maps::MacroblockMaps;
+use crate::macroblocks::{Macroblock, Macroblocks};
 use std::marker::Model;
 use vp_base::Place;
 use vp_head::Header;
@@ -31,7 +31,7 @@ pub(crate) struct FrameInfo<'a> {
     version: u8,
     /// None for a key frame.
     references: Option<&'a Refs>,
-    maps: &'a MacroblockMaps,
+    macroblocks: &'a Macroblocks,
     /// The dequantisation factors of the four segments, made ready.
     factors: &'a [SegmentFactors; 4],
     levels: LevelTable,
@@ -48,23 +48,16 @@ impl<'a> Model for FrameInfo<'a> {
       header = f.header.now;
       version = f.version;
       references = option_map (λ r. r.now) f.references;
-      maps = f.maps.now;
+      maps = f.macroblocks.now;
     } };
 
     ghost invariant = { λ f. (f.factors.now ≡ factors_of f.header.now 0 ∷ factors_of f.header.now 1
         ∷ factors_of f.header.now 2 ∷ factors_of f.header.now 3 ∷ []) × AreFrameLevels f.header.now f.levels };
 }
 
-/// The modes and the motion of a row of macroblocks, from left to right.
+/// What is known of a macroblock: its modes, and what it is predicted from.
 #[derive(Drop)]
-pub(crate) struct MacroblockRow<'a> {
-    pub modes: &'a [Modes],
-    pub motion: &'a [MacroblockMotion],
-}
-
-/// A macroblock of a frame: its modes, and what it is predicted from.
-#[derive(Drop)]
-pub(crate) struct Macroblock<'a> {
+pub(crate) struct MacroblockInfo<'a> {
     pub modes: &'a Modes,
     pub predictor: Predictor<'a>,
 }
@@ -145,21 +138,12 @@ pub(crate) fn all_factors(header: &Header) -> [SegmentFactors; 4]
     ]
 }
 
-/// Returns an item of a row.
-#[inline(always)]
-fn item<'a, T>(row: &'a [T], column: usize) -> &'a T
-    requires { column < length row.now }
-    ensures { slice_get row.now column ≡ Some result.now }
-{
-    &row[column]
-}
-
 impl<'a> FrameInfo<'a> {
     pub(crate) fn new(
         header: &'a Header,
         version: u8,
         references: Option<&'a Refs>,
-        maps: &'a MacroblockMaps,
+        macroblocks: &'a Macroblocks,
         factors: &'a [SegmentFactors; 4],
     ) -> FrameInfo<'a>
         requires { factors.now ≡ factors_of header.now 0 ∷ factors_of header.now 1 ∷ factors_of header.now 2
@@ -168,14 +152,14 @@ impl<'a> FrameInfo<'a> {
           header = header.now;
           version = version;
           references = option_map (λ r. r.now) references.entry;
-          maps = maps.now;
+          maps = macroblocks.now;
         } }
     {
         FrameInfo {
             header,
             version,
             references,
-            maps,
+            macroblocks,
             factors,
             levels: LevelTable::of(header),
         }
@@ -186,8 +170,7 @@ impl<'a> FrameInfo<'a> {
         ensures value { result ≡ self.now.maps.modes.columns }
         ensures bound { result ≤ 1024 }
     {
-        let maps = self.maps;
-        maps.modes.columns()
+        self.macroblocks.columns()
     }
 
     /// The height of the frame in macroblocks.
@@ -195,8 +178,7 @@ impl<'a> FrameInfo<'a> {
         ensures value { result ≡ self.now.maps.modes.rows }
         ensures bound { result ≤ 1024 }
     {
-        let maps = self.maps;
-        maps.modes.rows()
+        self.macroblocks.rows()
     }
 
     /// The frame header.
@@ -207,31 +189,23 @@ impl<'a> FrameInfo<'a> {
     }
 
     /// Returns a row of macroblocks.
-    pub(crate) fn row(&self, row: usize) -> MacroblockRow<'a>
+    pub(crate) fn row(&self, row: usize) -> &'a [Macroblock]
         requires { row < self.now.maps.modes.rows }
-        ensures { IsMacroblockRow self.now.maps row result }
+        ensures { IsMacroblockRow self.now.maps row result.now }
     {
-        let maps = self.maps;
-        let _known = maps.modes.rows();
-        let columns = maps.modes.columns();
-        let from = row * columns;
-        MacroblockRow {
-            modes: &maps.modes.as_slice()[from..from + columns],
-            motion: &maps.motion.as_slice()[from..from + columns],
-        }
+        self.macroblocks.row(row)
     }
 
-    /// Returns the macroblock at a place of a row.
+    /// Returns what is known of the macroblock at a place of a row.
     #[inline(always)]
     #[tactic(auto, unfolding(crate::specs::Frame::predictor_at))]
-    pub(crate) fn macroblock(&self, row: &MacroblockRow<'a>, place: Place) -> Macroblock<'a>
+    pub(crate) fn macroblock(&self, row: &'a [Macroblock], place: Place) -> MacroblockInfo<'a>
         requires place { Has self.now.maps.modes place }
         requires row { IsMacroblockRow self.now.maps place.row row.now }
         ensures { IsMacroblockAt self.now place result }
     {
-        let modes = item(row.modes, place.column);
-        let motion = item(row.motion, place.column);
-        Macroblock {
+        let Macroblock { modes, motion } = &row[place.column];
+        MacroblockInfo {
             modes,
             predictor: predictor_by(self.references, self.version, modes, motion),
         }
@@ -239,7 +213,7 @@ impl<'a> FrameInfo<'a> {
 
     /// Returns the dequantisation factors of a macroblock.
     #[tactic(auto, unfolding(crate::specs::Frame::factors_at))]
-    pub(crate) fn factors(&self, macroblock: &Macroblock) -> &'a SegmentFactors
+    pub(crate) fn factors(&self, macroblock: &MacroblockInfo) -> &'a SegmentFactors
         ensures { (place : Place) → IsMacroblockAt self.now place macroblock.now
             → result.now ≡ factors_at self.now place }
     {
@@ -250,7 +224,7 @@ impl<'a> FrameInfo<'a> {
 
     /// Returns the loop filter level of a macroblock. `coded` says whether it has any token.
     #[tactic(auto, unfolding(crate::specs::Frame::level_at))]
-    pub(crate) fn level(&self, macroblock: &Macroblock, coded: bool) -> Level
+    pub(crate) fn level(&self, macroblock: &MacroblockInfo, coded: bool) -> Level
         ensures { (place : Place) (tokens : Tokens) → IsMacroblockAt self.now place macroblock.now
             → coded ≡ any_token tokens → result ≡ level_at self.now place tokens }
     {

@@ -20,7 +20,7 @@ fn level_by_skip(info: &FrameInfo, place: Place) -> Level
     requires { Has info.now.maps.modes place }
     ensures { (tokens : Tokens) → IsSkipOf info.now place tokens → result ≡ level_at info.now place tokens }
 {
-    let macroblock = info.macroblock(&info.row(place.row), place);
+    let macroblock = info.macroblock(info.row(place.row), place);
     let modes = macroblock.modes;
     info.level(&macroblock, !modes.skip)
 }

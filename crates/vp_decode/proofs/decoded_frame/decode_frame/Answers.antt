@@ -11,10 +11,10 @@ always (Err e) X x = tt
 
 pub picture_of_packet-requires-clause-info : goal.picture_of_packet-requires-clause-info
 unfolding frame_info_of
-picture_of_packet-requires-clause-info g c = rw (← c.in_ok-maps.ensures.maps, ← c.parsed.view_is, ← c.context.view_is) c.new-info.ensures
+picture_of_packet-requires-clause-info g c = rw (← c.in_ok-macroblocks.ensures.maps, ← c.parsed.view_is, ← c.context.view_is) c.new-info.ensures
 
 pub returns-clause-segments : goal.returns-clause-segments
-returns-clause-segments g c = rw (← c.in_ok-maps.ensures.maps, ← c.maps.view_is, ← c.in_ok-segments.ensures) c.frame_of_picture.ensures.segments
+returns-clause-segments g c = rw (← c.in_ok-macroblocks.ensures.maps, ← c.in_ok-segments.ensures) c.frame_of_picture.ensures.segments
 
 pub returns-clause-picture : goal.returns-clause-picture
 returns-clause-picture g c = rw (← c.in_ok-decoded.ensures.picture) c.frame_of_picture.ensures.picture
@@ -30,4 +30,4 @@ returns-clause-one_size g c =
 
 pub returns-clause-corrupt : goal.returns-clause-corrupt
 unfolding is_corrupt
-returns-clause-corrupt g c = λ given. rw (← c.in_ok-decoded.ensures.corrupt given, ← c.in_ok-maps.ensures.past) c.frame_of_picture.ensures.corrupt
+returns-clause-corrupt g c = λ given. rw (← c.in_ok-decoded.ensures.corrupt given, ← c.in_ok-macroblocks.ensures.past) c.frame_of_picture.ensures.corrupt

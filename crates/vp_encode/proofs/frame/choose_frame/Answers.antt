@@ -9,7 +9,7 @@ returns-clause-told c =
     c.requires.allowed c.requires.width c.requires.height c.requires.segments
     (λ i. record {
       source = c.in_ok-source.ensures.value i;
-      factors = (c.of-factors.ensures.value ∙ ap (factors c.args.settings.now.qi) c.quantiser.ensures) i;
+      factors = (c.of-factors.ensures ∙ c.of.ensures.value ∙ ap (factors c.args.settings.now.qi) c.quantiser.ensures) i;
       search = c.search_in.ensures.value i;
     })
     c.in_ok-macroblocks.ensures.chosen (c.saved_in.ensures c.args.dim) (none_is c.args.kept c.is_none.result c.is_none.ensures) c.header_over-header.ensures
