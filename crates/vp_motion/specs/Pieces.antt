@@ -10,8 +10,11 @@ use Rattle.vp_tables.specs.declared.modes.PartMode.TheVariants as part_is
 use Rattle.vp_tables.specs.declared.modes.SplitKind.{SplitKind}
 use Rattle.vp_tables.specs.declared.modes.SplitKind.TheVariants as kind_is
 use Rattle.vp_tables.specs.declared.trees.TheConstants.{PART_TREE, SHORT_VECTOR_TREE, SPLIT_TREE}
-use Rattle.vp_motion.specs.Vector.{Vector}
-use Rattle.vp_motion.specs.Motion.{split_context}
+use Rattle.vp_tables.specs.declared.modes.VectorMode.{VectorMode}
+use Rattle.vp_base.specs.declared.place.Place.{Place}
+use Rattle.vp_base.specs.Grid.{Grid}
+use Rattle.vp_motion.specs.Vector.{Vector, MacroblockMotion, Motion, Candidates}
+use Rattle.vp_motion.specs.Motion.{split_context, vectors_by}
 
 -- the value of bit i of a long magnitude
 unfoldable pub bit : List ℕ → ℕ → Reader ℕ
@@ -45,3 +48,9 @@ part_mode l a = walk_from part_is.Left PART_TREE (slice_index_or PART_PROBABILIT
 -- how a macroblock is divided into parts
 abbrev pub split_kind : Reader SplitKind
 split_kind = walk_from kind_is.Sixteenths SPLIT_TREE SPLIT_PROBABILITIES 0
+
+-- the motion, by the vector mode
+abbrev pub motion_of_mode : List (List ℕ) → Grid MacroblockMotion → Place → Candidates → VectorMode → Reader Motion
+motion_of_mode probabilities g p c mode = do
+  vectors ← vectors_by probabilities g p c mode
+  give (record { mode = mode; vectors = vectors })
