@@ -3,13 +3,14 @@ use Rattle.std.proofs.Common.{◌≡◌, ◌∙◌, refl, ℕ, ◌+◌, ◌-◌,
 use Rattle.std.proofs.lemmas.Int.{ints}
 use Rattle.std.proofs.lemmas.Nat.{row_fits}
 use Rattle.std.proofs.lemmas.Bool.{cases_lt}
+use Rattle.std.proofs.lemmas.Bool.Decides.{nat_tests}
 use Rattle.vp_base.specs.Raster.{Raster, pixel}
 use Rattle.vp_inter.specs.declared.vector.PlaneVector.{PlaneVector}
 use Rattle.vp_inter.specs.Vectors.{fraction, first_tap}
 use Rattle.vp_inter.specs.Filter.{taps, filter_six}
 use Rattle.vp_inter.specs.Inter.{reference_pixel, horizontal_pass, inter_pixel}
 use Rattle.vp_inter.specs.declared.patch.Patch.{Patch}
-use Rattle.vp_inter.specs.Patches.{raster, IsAt, patch_pixel, patch_pass}
+use Rattle.vp_inter.specs.Patches.{raster, IsAt, IsFor, first_read, patch_pixel, patch_pass}
 use Rattle.vp_inter.proofs.FilterLemmas.{filter_six-same, filter_six-whole_pixels, filtered_bound}
 
 -- from column 0 on
@@ -150,6 +151,16 @@ module _ (version : ℕ) (p : Raster) (x y : ℕ) (v : PlaneVector) (r c : ℕ) 
       ∙ ap (λ (w : List ℤ). filter_six vertical (λ k. horizontal_pass w p (first_tap x v.column) (first_tap y v.row) (r + k) c)) e
       ∙ ap (λ (w : List ℤ). filter_six w (λ k. horizontal_pass (taps version (fraction v.column)) p (first_tap x v.column) (first_tap y v.row) (r + k) c)) f
       ∙ inter_passes version p x y v r c
+
+-- where a block is read, by its fractions
+pub read_own : (at h n : ℕ) → h ≡ n → h ≡ 0 → first_read at n ≡ at + 2
+read_own at h n same none = ap (first_read at) (sym same ∙ none)
+
+pub read_first : (at h n : ℕ) → h ≡ n → (h ≡ 0 → ⊥) → first_read at n ≡ at
+read_first at h n same some = let none : n ≡ 0 → ⊥ = λ e. some (same ∙ e) in grind (arith, nat_tests)
+
+pub reads : (q : Patch) (p : Raster) (x y : ℕ) (v : PlaneVector) (i j : ℕ) → IsFor q p x y v → first_read x (fraction v.column) ≡ i → first_read y (fraction v.row) ≡ j → IsAt q p i j v
+reads q p x y v i j is left top = (is.0.0, is.0.1 ∙ ap (λ (n : ℕ). first_tap n v.column) left, is.0.2 ∙ ap (λ (n : ℕ). first_tap n v.row) top)
 
 -- the horizontal pass by weights that are known
 pub patch_rows : (p : Raster) (x y : ℕ) (v : PlaneVector) (i c : ℕ) (q : Patch) (weights horizontal : List ℤ) → IsAt q p x y v → weights ≡ horizontal

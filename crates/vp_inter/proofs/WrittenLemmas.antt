@@ -1,11 +1,18 @@
--- Lemmas on a block that is written to a picture.
-use Rattle.std.proofs.Common.{◌≡◌, ◌∙◌, ℕ, ◌+◌, ◌*◌, ◌<◌, List, get_or, ap}
-use Rattle.vp_base.specs.Raster.{Raster}
-use Rattle.vp_base.specs.Block.{with_block}
+-- Lemmas on blocks that are written to a picture, and on rows of them.
+use Rattle.std.proofs.Common.{◌≡◌, ◌∙◌, ℕ, ◌+◌, ◌-◌, ◌*◌, ◌<◌, ◌≤◌, Bool, true, cond, List, ◌++◌, length, take, drop, get_or, refl, ap, sym, arith, length-append, length-drop}
+use Rattle.std.proofs.lemmas.Simd.{put_chunk_is, length-put_chunk}
+use Rattle.std.proofs.lemmas.List.{length-take, take_all, take-append-le}
+use Rattle.std.proofs.lemmas.Nat.{row_fits}
+use Rattle.std.proofs.lemmas.Bool.Decides.{nat_tests}
+use lib.Lanes.{put_chunk}
+use Rattle.vp_base.specs.Raster.{Raster, pixel_index, overlay, with_pixels}
+use Rattle.vp_base.specs.Block.{IsWhole, is_in_block, with_block, written}
 use Rattle.vp_base.specs.Image.{Image, plane_of, with_plane}
-use Rattle.vp_base.proofs.BlockLemmas.{with_block_same}
+use Rattle.vp_base.proofs.BlockLemmas.{pixel-with_block, with_block_none, with_block_more, with_block_same}
+use Rattle.vp_base.proofs.RasterLemmas.{raster}
 use Rattle.vp_inter.specs.declared.vector.PlaneVector.{PlaneVector}
 use Rattle.vp_inter.specs.Inter.{inter_pixel}
+use Rattle.vp_inter.specs.Written.{IsBlockWritten}
 
 -- a block of n by n pixels that was predicted, written to a picture that nothing was copied to
 pub predicted : (version : ℕ) (reference : Raster) (x y : ℕ) (v : PlaneVector) (n k : ℕ) (old now new : Image) (block : List ℕ) → now ≡ old
@@ -16,3 +23,86 @@ predicted version reference x y v n k old now new block kept written pixels =
     written
     ∙ ap (with_plane now k) (with_block_same (plane_of now k) x y n n (λ i j. get_or block (i * n + j) 0) (inter_pixel version reference x y v) pixels)
     ∙ ap (λ (p : Image). with_plane p k (with_block (plane_of p k) x y n n (inter_pixel version reference x y v))) kept
+
+-- ---- rows of a block
+
+put_over : (xs : List ℕ) (i : ℕ) (vs : List ℕ) → i + length vs ≤ length xs → put_chunk i xs vs ≡ overlay xs i vs
+unfolding overlay
+put_over xs i vs fits =
+    let long : length (take i xs ++ (vs ++ drop (length vs) (drop i xs))) ≡ length xs = simp (length-append, length-take, length-drop) (omega arith) in
+    put_chunk_is i xs vs fits ∙ sym (take_all (length xs) (take i xs ++ (vs ++ drop (length vs) (drop i xs))) (omega arith))
+
+place_is : (p : Raster) (x y r at stride : ℕ) → p.width ≡ stride → at ≡ pixel_index p x y → at + r * stride ≡ pixel_index p x (y + r)
+place_is p x y r at stride wide start =
+    let same : r * p.width ≡ r * stride = ap (λ (k : ℕ). r * k) wide in
+    omega arith
+
+pub none_written : (n : ℕ) (bytes : List ℕ) (at stride : ℕ) (f : ℕ → ℕ → ℕ) → IsBlockWritten n 0 bytes bytes at stride f
+none_written n bytes at stride f = record {
+  value = λ p x y lies. sym lies.same ∙ sym (ap (λ (q : Raster). q.pixels) (with_block_none p x y n f lies.whole));
+  len = refl;
+}
+
+-- one row more
+pub row_written : (n h : ℕ) (first now next row : List ℕ) (at stride : ℕ) (f : ℕ → ℕ → ℕ) → IsBlockWritten n h first now at stride f
+    → at + h * stride + n ≤ length now → next ≡ put_chunk (at + h * stride) now row → length row ≡ n → ((c : ℕ) → c < n → get_or row c 0 ≡ f h c)
+    → IsBlockWritten n (h + 1) first next at stride f
+row_written n h first now next row at stride f done room put size value = record {
+  value = λ p x y lies.
+      let high = lies.rows in
+      put
+      ∙ put_over now (at + h * stride) row (omega arith)
+      ∙ ap (λ (i : ℕ). overlay now i row) (place_is p x y h at stride lies.wide lies.start)
+      ∙ ap (λ (ns : List ℕ). overlay ns (pixel_index p x (y + h)) row)
+      (done.value p x y (record { whole = lies.whole; same = lies.same; wide = lies.wide; start = lies.start; columns = lies.columns; rows = omega arith }))
+      ∙ ap (λ (q : Raster). q.pixels) (with_block_more p x y n h f row lies.columns (omega arith) size value);
+  len = ap length put ∙ length-put_chunk (at + h * stride) now row ∙ done.len;
+}
+
+-- rows of the same pixels
+pub written_alike : (n h : ℕ) (old new : List ℕ) (at stride : ℕ) (f g : ℕ → ℕ → ℕ) → IsBlockWritten n h old new at stride f
+    → ((r c : ℕ) → r < h → c < n → f r c ≡ g r c) → IsBlockWritten n h old new at stride g
+written_alike n h old new at stride f g done same = record {
+  value = λ p x y lies. done.value p x y lies ∙ ap (λ (q : Raster). q.pixels) (with_block_same p x y n h f g same);
+  len = done.len;
+}
+
+-- ---- rows one after the other
+
+in_whole : (n h x y : ℕ) → x < n → y < h → is_in_block 0 0 n h x y ≡ true
+in_whole n h x y xin yin = grind (arith, nat_tests)
+
+pub array_room : (n h size : ℕ) → size ≡ h * n → (r : ℕ) → r < h → 0 + r * n + n ≤ size
+array_room n h size whole r below = let room : r * n + n ≤ h * n = row_fits r n h n below (omega arith) in omega arith
+
+-- all bytes are written
+pub in_array : (n h : ℕ) (old new : List ℕ) (f : ℕ → ℕ → ℕ) → length old ≡ h * n → IsBlockWritten n h old new 0 n f
+    → (r c : ℕ) → r < h → c < n → get_or new (r * n + c) 0 ≡ f r c
+in_array n h old new f whole done r c rin cin =
+    ap (λ (ns : List ℕ). get_or ns (r * n + c) 0)
+    (done.value (raster n h old) 0 0 (record { whole = whole; same = refl; wide = refl; start = omega arith; columns = omega arith; rows = omega arith }))
+    ∙ pixel-with_block (raster n h old) 0 0 n h f c r cin rin
+    ∙ ap (λ (b : Bool). cond b (f (r - 0) (c - 0)) (get_or old (r * n + c) 0)) (in_whole n h c r cin rin)
+    ∙ ap (λ (k : ℕ). f k (c - 0)) (let e : r - 0 ≡ r = omega arith in e)
+    ∙ ap (f r) (let e : c - 0 ≡ c = omega arith in e)
+
+-- ---- rows of a plane
+
+over_all : (xs vs : List ℕ) → length vs ≡ length xs → overlay xs 0 vs ≡ vs
+unfolding overlay
+over_all xs vs same = ap (λ (n : ℕ). take n (vs ++ drop (length vs) xs)) (sym same) ∙ take-append-le (length vs) vs (drop (length vs) xs) (omega arith) ∙ take_all (length vs) vs (omega arith)
+
+pub plane_room : (p : Raster) (x y n h stride size : ℕ) → stride ≡ p.width → size ≡ p.height * p.width → x + n ≤ p.width → y + h ≤ p.height
+    → (r : ℕ) → r < h → (y * stride + x) + r * stride + n ≤ size
+plane_room p x y n h stride size wide whole columns rows r below =
+    let room : (y + r) * p.width + p.width ≤ p.height * p.width = row_fits (y + r) p.width p.height p.width (omega arith) (omega arith) in
+    rw wide (omega arith)
+
+-- a block is written in the bytes of a plane, which are lent and put back
+pub block_put : (p : Image) (k x y n h stride : ℕ) (f : ℕ → ℕ → ℕ) (bytes new : List ℕ) → let q : Raster = plane_of p k in IsWhole q → stride ≡ q.width → bytes ≡ q.pixels → x + n ≤ q.width → y + h ≤ q.height
+    → IsBlockWritten n h bytes new (y * stride + x) stride f → with_plane p k (with_pixels q new) ≡ with_plane p k (with_block q x y n h f)
+block_put p k x y n h stride f bytes new whole wide same columns rows done =
+    let q : Raster = plane_of p k in
+    let start : y * stride + x ≡ y * q.width + x = ap (λ (w : ℕ). y * w + x) wide in
+    ap (λ (ns : List ℕ). with_plane p k (raster q.width q.height ns)) (over_all q.pixels new (done.len ∙ ap length same)
+    ∙ done.value q x y (record { whole = whole; same = sym same; wide = sym wide; start = start; columns = columns; rows = rows }))

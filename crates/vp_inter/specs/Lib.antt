@@ -6,4 +6,5 @@ pub mod Turns
 pub mod Filtered
 pub mod Panels
 pub mod Patches
+pub mod Written
 pub mod Chroma

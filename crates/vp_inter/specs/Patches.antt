@@ -1,5 +1,6 @@
 -- Private to the crate: what is read from a place in a reference plane.
-use Rattle.std.specs.Prelude.{◌≡◌, ◌+◌, ◌*◌, ◌/◌, ◌%◌, ◌<◌, ◌≤◌, ℕ, ℤ, pos, ◌+ℤ◌, ◌≤ℤ◌, List, slice_index}
+use Rattle.std.specs.Prelude.{◌≡◌, ◌+◌, ◌*◌, ◌/◌, ◌%◌, ◌<◌, ◌≤◌, ℕ, ℤ, pos, ◌+ℤ◌, ◌≤ℤ◌, ◌==◌, List, slice_index}
+use Rattle.std.specs.Prelude.{if◌then◌else◌}
 use Rattle.vp_base.specs.Raster.{Raster}
 use Rattle.vp_inter.specs.declared.patch.Patch.{Patch}
 use Rattle.vp_inter.specs.declared.vector.PlaneVector.{PlaneVector}
@@ -7,7 +8,7 @@ use Rattle.vp_inter.specs.declared.weights.PairWeights.{PairWeights}
 use Rattle.vp_inter.specs.declared.weights.HorizontalFilter.{HorizontalFilter}
 use Rattle.vp_inter.specs.Inter.{nearest, reference_pixel, horizontal_pass}
 use Rattle.vp_inter.specs.Turns.{first_weights}
-use Rattle.vp_inter.specs.Vectors.{first_tap}
+use Rattle.vp_inter.specs.Vectors.{fraction, first_tap}
 
 -- the plane
 abbrev pub raster : Patch → Raster
@@ -16,6 +17,17 @@ raster p = record { width = p.width; height = p.height; pixels = p.pixels.now }
 -- a place at the first pixel that the block at column x of row y is predicted from, displaced by vector v
 abbrev pub IsAt : Patch → Raster → ℕ → ℕ → PlaneVector → Type 0
 IsAt p plane x y v = (raster p ≡ plane) × (p.left ≡ first_tap x v.column) × (p.top ≡ first_tap y v.row)
+
+-- the first column or row that is read for a block at `at`: without a fraction it is the block's own, which is two
+-- after the first of six
+abbrev pub first_read : ℕ → ℕ → ℕ
+first_read at eighths = if eighths == 0 then at + 2 else at
+
+-- the place that the block at column x of row y is predicted from, displaced by vector v, in a plane of bytes
+abbrev pub IsFor : Patch → Raster → ℕ → ℕ → PlaneVector → Type 0
+IsFor p plane x y v =
+    IsAt p plane (first_read x (fraction v.column)) (first_read y (fraction v.row)) v
+    × ((column row : ℤ) → reference_pixel plane column row ≤ 255)
 
 -- the first n columns are inside the plane
 abbrev pub HasColumns : Patch → ℕ → Type 0

@@ -1,21 +1,24 @@
 //! Inter prediction of square blocks, returned or written to a picture (RFC 6386, chapter 18).
 
-ghost use Rattle.std.specs.Prelude.{◌≡◌, ◌≢◌, ℕ, pos, ◌+◌, ◌*◌, ◌<◌, ◌≤◌, length, slice_index, IfSome, IsTrue};
+ghost use Rattle.std.specs.Prelude.{◌≡◌, ℕ, pos, ◌+◌, ◌*◌, ◌/◌, ◌<◌, ◌≤◌, List, length, slice_index};
+ghost use Rattle.std.specs.Prelude.{IfSome, IsTrue};
 ghost use Rattle.vp_base.specs.Block.{with_block};
 ghost use Rattle.vp_base.specs.Image.{plane_of, with_plane};
 ghost use Rattle.vp_inter.specs.Filter.{filter_six};
 ghost use Rattle.vp_inter.specs.Narrow.{OuterWeightsAreZero, SumsFitI16};
-ghost use Rattle.vp_inter.specs.Patches.{patch_pass, patch_pixel, AreSizes, HasColumns, HasRows};
+ghost use Rattle.vp_inter.specs.Patches.{first_read, patch_pass, patch_pixel, AreSizes, HasColumns, HasRows, IsFor};
 ghost use Rattle.vp_inter.specs.Inter.{inter_pixel};
 ghost use Rattle.vp_inter.specs.Vectors.{fraction, first_tap};
+ghost use Rattle.vp_inter.specs.Written.{HasRoomForBlock, IsBlockWritten};
 
+use crate::block16::predict_16x16;
 use crate::filter::{Weights, ends_are_zero, has_two_taps, pass, taps};
 use crate::panel::vertical_pass_8x8;
 use crate::patch::Patch;
 use crate::reference::{plain_row, reference_line};
 use crate::short_rows::rows_by_filter;
 use crate::six_tap_1d::horizontal_filter;
-use crate::six_tap_2d::{horizontal_wide_rows, six_tap_2d_block, vertical_pass_16x16};
+use crate::six_tap_2d::horizontal_wide_rows;
 use crate::vector::PlaneVector;
 use std::simd::prelude::*;
 use vp_base::{Picture, Plane};
@@ -37,7 +40,10 @@ pub fn predict_block16(
     ensures { (r c : ℕ) → r < 16 → c < 16 → slice_index result (r * 16 + c)
         ≡ inter_pixel version plane.now x y vector r c }
 {
-    predict::<16, 336, 256>(plane, x, y, vector, version)
+    let mut block = [0; 256];
+    let patch = patch_for(plane, x, y, vector);
+    predict_16x16(&mut block, 0, 16, &patch, vector, version);
+    block
 }
 
 /// Predicts an 8x8 block as `predict_block16` does.
@@ -100,8 +106,10 @@ pub fn predict_into16(
     if copy_whole::<16>(picture, k, x, y, reference, vector) {
         return;
     }
-    let block = predict::<16, 336, 256>(reference, x, y, vector, version);
-    picture.write_block::<16>(k, x, y, &block);
+    let patch = patch_for(reference, x, y, vector);
+    let stride = picture.plane(k).width();
+    let at = y * stride + x;
+    predict_16x16(picture.pixels_mut(k), at, stride, &patch, vector, version);
 }
 
 /// Predicts an 8x8 block as `predict_into16` does.
@@ -217,11 +225,24 @@ pub(crate) fn whole_place(
 #[inline(always)]
 fn start(at: usize, fraction: usize) -> usize
     requires { at ≤ 16384 }
-    ensures whole { fraction ≡ 0 → result ≡ at + 2 }
-    ensures between { fraction ≢ 0 → result ≡ at }
+    ensures value { result ≡ first_read at fraction }
     ensures bound { result ≤ 16400 }
 {
     if fraction == 0 { at + 2 } else { at }
+}
+
+/// The place that the block at column `x` of row `y`, displaced by `vector`, is predicted from.
+#[inline(always)]
+fn patch_for<'a>(plane: &'a Plane, x: usize, y: usize, vector: PlaneVector) -> Patch<'a>
+    requires columns { x ≤ 16384 }
+    requires rows { y ≤ 16384 }
+    requires wide { 0 < plane.now.width }
+    requires high { 0 < plane.now.height }
+    ensures { IsFor result plane.now x y vector }
+{
+    let column = start(x, vector.horizontal_fraction());
+    let row = start(y, vector.vertical_fraction());
+    Patch::at(plane, column, row, vector)
 }
 
 /// Predicts a block of `N` by `N` pixels. The horizontal pass gives `N + 5` rows, `L` pixels in all, to the vertical
@@ -245,7 +266,7 @@ fn predict<const N: usize, const L: usize, const M: usize>(
 {
     let horizontal = vector.horizontal_fraction();
     let vertical = vector.vertical_fraction();
-    let patch = Patch::at(plane, start(x, horizontal), start(y, vertical), vector);
+    let patch = patch_for(plane, x, y, vector);
     let mut block = [0; M];
     match (horizontal, vertical) {
         (0, 0) => copy_rows::<N>(&mut block, &patch, N),
@@ -259,8 +280,7 @@ fn predict<const N: usize, const L: usize, const M: usize>(
     block
 }
 
-/// The vertical pass alone. The rows of a block inside the plane are copied to panels of eight columns, if it has eight
-/// columns, or sixteen and more than two taps.
+/// The vertical pass alone. The rows of a block of eight columns inside the plane are copied to a panel.
 fn vertical_pass_alone<const N: usize, const L: usize, const M: usize>(
     pixels: &mut [u8],
     patch: &Patch,
@@ -275,17 +295,12 @@ fn vertical_pass_alone<const N: usize, const L: usize, const M: usize>(
         vertical_pass_8x8(pixels, patch, weights);
         return;
     }
-    if N == 16 && !has_two_taps(weights.six) && patch.is_inside(N, N + 5) {
-        vertical_pass_16x16(pixels, patch, weights);
-        return;
-    }
     let mut rows = [0; L];
     copy_rows::<N>(&mut rows, patch, N + 5);
     vertical_pass::<N, M>(pixels, &rows, weights.six);
 }
 
-/// Both passes, with `N + 5` rows of `N` pixels, `L` in all, between them. A 16x16 block with more than two taps in a
-/// row uses `six_tap_2d_block`, if the plane has at least sixteen columns.
+/// Both passes, with `N + 5` rows of `N` pixels, `L` in all, between them.
 fn both_passes<const N: usize, const L: usize, const M: usize>(
     pixels: &mut [u8],
     patch: &Patch,
@@ -297,28 +312,41 @@ fn both_passes<const N: usize, const L: usize, const M: usize>(
     ensures { (r c : ℕ) → r < N → c < N → slice_index pixels.new (r * N + c)
         ≡ filter_six vertical.six.now (λ k. patch_pass horizontal.six.now patch.now (r + k) c) }
 {
-    if N == 16 && patch.width >= 16 && !has_two_taps(horizontal.six) {
-        six_tap_2d_block(pixels, patch, horizontal, vertical);
-        return;
-    }
     let mut rows = [0; L];
     horizontal_pass::<N>(&mut rows, patch, horizontal, N + 5);
     vertical_pass::<N, M>(pixels, &rows, vertical.six);
 }
 
-/// Copies `rows` rows of the reference.
-#[inline(never)]
+/// Copies `rows` rows of the reference, one after the other.
+#[inline(always)]
 pub(crate) fn copy_rows<const N: usize>(pixels: &mut [u8], patch: &Patch, rows: usize)
     requires size { N ≤ 16 }
     requires rows { rows ≤ 22 }
     requires all { length pixels.old ≡ rows * N }
     ensures { (r c : ℕ) → r < rows → c < N → slice_index pixels.new (r * N + c) ≡ patch_pixel patch.now r c }
 {
+    copy_rows_at::<N>(pixels, 0, N, patch, rows);
+}
+
+/// Copies `rows` rows of the reference. The first is written at index `at`; rows are `stride` apart.
+#[inline(never)]
+pub(crate) fn copy_rows_at<const N: usize>(
+    pixels: &mut [u8],
+    at: usize,
+    stride: usize,
+    patch: &Patch,
+    rows: usize,
+)
+    requires size { N ≤ 16 }
+    requires rows { rows ≤ 22 }
+    requires room { HasRoomForBlock N rows pixels.old at stride }
+    ensures { IsBlockWritten N rows pixels.old pixels.new at stride (patch_pixel patch.now) }
+{
     let inside = patch.is_inside(N, rows);
     let here = *patch;
     for r in 0..rows {
         let row = plain_row::<N>(&here, inside, r);
-        put_lanes(pixels, r, row);
+        put_row(pixels, at, stride, r, row);
     }
 }
 
@@ -338,9 +366,8 @@ fn horizontal_pass<const N: usize>(pixels: &mut [u8], patch: &Patch, weights: We
     }
 }
 
-/// The horizontal pass over long rows, and over rows of narrow planes. Whether the block is inside the plane, and how
-/// many weights are nonzero, is tested before the loop over the rows.
-#[inline(never)]
+/// The horizontal pass over long rows, and over rows of narrow planes, one after the other.
+#[inline(always)]
 pub(crate) fn other_rows<const N: usize>(
     pixels: &mut [u8],
     patch: &Patch,
@@ -353,16 +380,35 @@ pub(crate) fn other_rows<const N: usize>(
     ensures { (i c : ℕ) → i < rows → c < N → slice_index pixels.new (i * N + c)
         ≡ patch_pass weights.six.now patch.now i c }
 {
+    other_rows_at::<N>(pixels, 0, N, patch, weights, rows);
+}
+
+/// The horizontal pass as `other_rows` makes it. The first row is written at index `at`; rows are `stride` apart.
+/// Whether the block is inside the plane, and how many weights are nonzero, is tested before the loop over the rows.
+#[inline(never)]
+pub(crate) fn other_rows_at<const N: usize>(
+    pixels: &mut [u8],
+    at: usize,
+    stride: usize,
+    patch: &Patch,
+    weights: Weights,
+    rows: usize,
+)
+    requires size { N ≤ 16 }
+    requires rows { rows ≤ 22 }
+    requires room { HasRoomForBlock N rows pixels.old at stride }
+    ensures { IsBlockWritten N rows pixels.old pixels.new at stride (patch_pass weights.six.now patch.now) }
+{
     if has_two_taps(weights.six) {
         if patch.is_inside(N + 5, rows) {
-            horizontal_rows::<N, true, 2>(pixels, patch, weights.six, rows);
+            horizontal_rows::<N, true, 2>(pixels, at, stride, patch, weights.six, rows);
         } else {
-            horizontal_rows::<N, false, 2>(pixels, patch, weights.six, rows);
+            horizontal_rows::<N, false, 2>(pixels, at, stride, patch, weights.six, rows);
         }
     } else if N == 16 && patch.width >= 16 {
-        horizontal_wide_rows(pixels, patch, weights, rows);
+        horizontal_wide_rows(pixels, at, stride, patch, weights, rows);
     } else {
-        horizontal_rows::<N, false, 6>(pixels, patch, weights.six, rows);
+        horizontal_rows::<N, false, 6>(pixels, at, stride, patch, weights.six, rows);
     }
 }
 
@@ -371,24 +417,25 @@ pub(crate) fn other_rows<const N: usize>(
 #[inline(always)]
 fn horizontal_rows<const N: usize, const INSIDE: bool, const COUNT: usize>(
     pixels: &mut [u8],
+    at: usize,
+    stride: usize,
     patch: &Patch,
     weights: &[i16; 6],
     rows: usize,
 )
     requires size { N ≤ 16 }
     requires rows { rows ≤ 22 }
-    requires all { length pixels.old ≡ rows * N }
+    requires room { HasRoomForBlock N rows pixels.old at stride }
     requires gentle { SumsFitI16 weights.now }
     requires inside { IsTrue INSIDE → HasColumns patch.now (N + 5) × HasRows patch.now rows }
     requires few { OuterWeightsAreZero weights.now COUNT }
-    ensures { (i c : ℕ) → i < rows → c < N → slice_index pixels.new (i * N + c)
-        ≡ patch_pass weights.now patch.now i c }
+    ensures { IsBlockWritten N rows pixels.old pixels.new at stride (patch_pass weights.now patch.now) }
 {
     let own = *weights;
     let here = *patch;
     for i in 0..rows {
         let row = horizontal_row::<N, INSIDE, COUNT>(&here, i, &own);
-        put_lanes(pixels, i, row);
+        put_row(pixels, at, stride, i, row);
     }
 }
 
@@ -413,7 +460,7 @@ fn horizontal_row<const N: usize, const INSIDE: bool, const COUNT: usize>(
 }
 
 /// The vertical pass over rows of `N` pixels, five more than it produces.
-#[inline(never)]
+#[inline(always)]
 fn vertical_pass<const N: usize, const M: usize>(pixels: &mut [u8], rows: &[u8], weights: &[i16; 6])
     requires sizes { AreSizes N (length rows.now) M }
     requires whole { length pixels.old ≡ M }
@@ -421,34 +468,55 @@ fn vertical_pass<const N: usize, const M: usize>(pixels: &mut [u8], rows: &[u8],
     ensures { (r c : ℕ) → r < N → c < N → slice_index pixels.new (r * N + c)
         ≡ filter_six weights.now (λ k. slice_index rows.now ((r + k) * N + c)) }
 {
-    if !ends_are_zero(weights) {
-        vertical_by_taps::<N, M, 6>(pixels, rows, weights);
-    } else if !has_two_taps(weights) {
-        vertical_by_taps::<N, M, 4>(pixels, rows, weights);
-    } else {
-        vertical_by_taps::<N, M, 2>(pixels, rows, weights);
-    }
+    vertical_pass_at::<N, M>(pixels, 0, 16, rows, weights);
 }
 
-/// The vertical pass with `COUNT` nonzero weights, of which the loop reads a local copy, as `horizontal_rows` does. It
-/// produces sixteen pixels at a time, across row boundaries.
-#[inline(always)]
-fn vertical_by_taps<const N: usize, const M: usize, const COUNT: usize>(
+/// The vertical pass to `M` pixels, over rows of `N` pixels. It produces sixteen at a time, across row boundaries. The
+/// first sixteen are written at index `at`, and each sixteen `stride` after those before.
+#[inline(never)]
+pub(crate) fn vertical_pass_at<const N: usize, const M: usize>(
     pixels: &mut [u8],
+    at: usize,
+    stride: usize,
     rows: &[u8],
     weights: &[i16; 6],
 )
     requires sizes { AreSizes N (length rows.now) M }
-    requires whole { length pixels.old ≡ M }
+    requires room { HasRoomForBlock 16 (M / 16) pixels.old at stride }
+    requires gentle { SumsFitI16 weights.now }
+    ensures { IsBlockWritten 16 (M / 16) pixels.old pixels.new at stride
+        (λ i c. filter_six weights.now (λ k. slice_index rows.now (16 * i + k * N + c))) }
+{
+    if !ends_are_zero(weights) {
+        vertical_by_taps::<N, M, 6>(pixels, at, stride, rows, weights);
+    } else if !has_two_taps(weights) {
+        vertical_by_taps::<N, M, 4>(pixels, at, stride, rows, weights);
+    } else {
+        vertical_by_taps::<N, M, 2>(pixels, at, stride, rows, weights);
+    }
+}
+
+/// The vertical pass as `vertical_pass_at` makes it, with `COUNT` nonzero weights. The loop reads a local copy of them,
+/// as `horizontal_rows` does.
+#[inline(always)]
+fn vertical_by_taps<const N: usize, const M: usize, const COUNT: usize>(
+    pixels: &mut [u8],
+    at: usize,
+    stride: usize,
+    rows: &[u8],
+    weights: &[i16; 6],
+)
+    requires sizes { AreSizes N (length rows.now) M }
+    requires room { HasRoomForBlock 16 (M / 16) pixels.old at stride }
     requires gentle { SumsFitI16 weights.now }
     requires few { OuterWeightsAreZero weights.now COUNT }
-    ensures { (r c : ℕ) → r < N → c < N → slice_index pixels.new (r * N + c)
-        ≡ filter_six weights.now (λ k. slice_index rows.now ((r + k) * N + c)) }
+    ensures { IsBlockWritten 16 (M / 16) pixels.old pixels.new at stride
+        (λ i c. filter_six weights.now (λ k. slice_index rows.now (16 * i + k * N + c))) }
 {
     let own = *weights;
     for i in 0..M / 16 {
         let piece = pass::<16, COUNT>(rows, 16 * i, N, &own);
-        put_lanes(pixels, i, piece);
+        put_row(pixels, at, stride, i, piece);
     }
 }
 
@@ -461,4 +529,21 @@ pub(crate) fn put_lanes<const N: usize>(pixels: &mut [u8], r: usize, row: Simd<u
     ensures before { (i : ℕ) → i < r * N → slice_index pixels.new i ≡ slice_index pixels.old i }
 {
     row.copy_to_slice(&mut pixels[r * N..]);
+}
+
+/// Writes row `r` of a block of `N` columns, after the rows above it. Row 0 begins at index `at`; rows are `stride`
+/// apart.
+#[inline(always)]
+pub(crate) fn put_row<const N: usize>(
+    pixels: &mut [u8],
+    at: usize,
+    stride: usize,
+    r: usize,
+    row: Simd<u8, N>,
+)
+    requires { at + r * stride + N ≤ length pixels.old }
+    ensures { (first : List ℕ) (f : ℕ → ℕ → ℕ) → IsBlockWritten N r first pixels.old at stride f
+        → ((c : ℕ) → c < N → slice_index row.entry c ≡ f r c) → IsBlockWritten N (r + 1) first pixels.new at stride f }
+{
+    row.copy_to_slice(&mut pixels[at + r * stride..]);
 }

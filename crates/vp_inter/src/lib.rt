@@ -3,6 +3,7 @@
 #![tactic(auto)]
 
 mod block;
+mod block16;
 mod chroma;
 mod filter;
 mod filtered;

@@ -1,12 +1,13 @@
 //! Passes over 16x16 blocks, in two panels of eight columns (RFC 6386, chapter 18.3). The vertical pass processes three
-//! rows in each iteration.
+//! rows in each iteration. A block is written from index `at` on; its rows are `stride` apart.
 
-ghost use Rattle.std.specs.Prelude.{◌≡◌, ℕ, ◌+◌, ◌*◌, ◌<◌, ◌≤◌, length, slice_index, IsTrue};
+ghost use Rattle.std.specs.Prelude.{◌≡◌, ℕ, ◌+◌, ◌*◌, ◌<◌, ◌≤◌, length, IsTrue};
 ghost use Rattle.vp_inter.specs.Filter.{filter_six};
 ghost use Rattle.vp_inter.specs.Patches.{patch_pixel, patch_pass, weights_of, HasColumns, HasRows, Selects};
 ghost use Rattle.vp_inter.specs.Panels.{ArePanels, HoldsRows, Interleave, IsFilteredRow, IsPair};
+ghost use Rattle.vp_inter.specs.Written.{HasRoomForBlock, IsBlockWritten};
 
-use crate::block::put_lanes;
+use crate::block::put_row;
 use crate::filter::Weights;
 use crate::panel::{
     Panel, PanelFilter, empty_panel, horizontal_to_panel, pair_of, panel_filter, put_halves,
@@ -14,7 +15,7 @@ use crate::panel::{
 use crate::patch::Patch;
 use crate::reference::plain_row;
 use crate::six_tap_1d::{filtered_pairs, filtered_row, horizontal_filter, joined_halves};
-use crate::weights::{HorizontalFilter, PairWeights};
+use crate::weights::{PairWeights, WideFilter};
 use std::simd::prelude::*;
 
 /// A row interleaved with the row three below: the left eight columns, and the right eight.
@@ -46,47 +47,56 @@ fn copy_panels(left: &mut Panel, right: &mut Panel, patch: &Patch)
 #[inline(never)]
 fn rows_to_block<const INSIDE: bool>(
     pixels: &mut [u8],
+    at: usize,
+    stride: usize,
     patch: &Patch,
-    left: &HorizontalFilter,
-    right: &HorizontalFilter,
+    filter: &WideFilter,
     rows: usize,
 )
     requires rows { rows ≤ 22 }
-    requires all { length pixels.old ≡ rows * 16 }
+    requires room { HasRoomForBlock 16 rows pixels.old at stride }
     requires inside { IsTrue INSIDE → HasRows patch.now rows }
-    requires room { left.now.start + 16 ≤ patch.now.width }
-    requires beside { right.now.start + 16 ≤ patch.now.width }
-    requires places { Selects left.now patch.now 0 }
-    requires further { Selects right.now patch.now 8 }
-    ensures { (i c : ℕ) → i < rows → c < 16
-        → slice_index pixels.new (i * 16 + c) ≡ patch_pass (weights_of left.now.weights) patch.now i c }
+    requires left { filter.now.left.start + 16 ≤ patch.now.width }
+    requires right { filter.now.right.start + 16 ≤ patch.now.width }
+    requires places { Selects filter.now.left patch.now 0 }
+    requires further { Selects filter.now.right patch.now 8 }
+    ensures { IsBlockWritten 16 rows pixels.old pixels.new at stride
+        (patch_pass (weights_of filter.now.left.weights) patch.now) }
 {
     let here = *patch;
-    let (own, own_right) = (*left, *right);
+    let (left, right) = (filter.left, filter.right);
     for i in 0..rows {
         let row = joined_halves(
-            filtered_row::<INSIDE>(&here, i, &own, &left.weights),
-            filtered_row::<INSIDE>(&here, i, &own_right, &left.weights),
+            filtered_row::<INSIDE>(&here, i, &left, &filter.left.weights),
+            filtered_row::<INSIDE>(&here, i, &right, &filter.left.weights),
         );
-        put_lanes::<16>(pixels, i, row);
+        put_row::<16>(pixels, at, stride, i, row);
     }
 }
 
 /// The horizontal pass over `rows` rows of a plane of at least sixteen columns. It takes the columns beyond the plane
 /// like any others.
-pub(crate) fn horizontal_wide_rows(pixels: &mut [u8], patch: &Patch, weights: Weights, rows: usize)
+pub(crate) fn horizontal_wide_rows(
+    pixels: &mut [u8],
+    at: usize,
+    stride: usize,
+    patch: &Patch,
+    weights: Weights,
+    rows: usize,
+)
     requires rows { rows ≤ 22 }
-    requires all { length pixels.old ≡ rows * 16 }
+    requires room { HasRoomForBlock 16 rows pixels.old at stride }
     requires columns { 16 ≤ patch.now.width }
-    ensures { (i c : ℕ) → i < rows → c < 16 → slice_index pixels.new (i * 16 + c)
-        ≡ patch_pass weights.six.now patch.now i c }
+    ensures { IsBlockWritten 16 rows pixels.old pixels.new at stride (patch_pass weights.six.now patch.now) }
 {
-    let left = horizontal_filter(patch, 0, weights);
-    let right = horizontal_filter(patch, 8, weights);
+    let filter = WideFilter {
+        left: horizontal_filter(patch, 0, weights),
+        right: horizontal_filter(patch, 8, weights),
+    };
     if patch.has_rows(rows) {
-        rows_to_block::<true>(pixels, patch, &left, &right, rows);
+        rows_to_block::<true>(pixels, at, stride, patch, &filter, rows);
     } else {
-        rows_to_block::<false>(pixels, patch, &left, &right, rows);
+        rows_to_block::<false>(pixels, at, stride, patch, &filter, rows);
     }
 }
 
@@ -120,10 +130,18 @@ fn vertical_row(a: &Pair, b: &Pair, c: &Pair, weights: &PairWeights) -> u8x16
 
 /// The vertical pass to a 16x16 block, over two panels. Each iteration gives three rows from five pairs of rows.
 #[inline(never)]
-fn vertical_from_panels(pixels: &mut [u8], left: &Panel, right: &Panel, filter: &PanelFilter)
-    requires { length pixels.old ≡ 256 }
-    ensures { (pixel : ℕ → ℕ → ℕ) → ArePanels left.now right.now pixel → (r c : ℕ) → r < 16 → c < 16
-        → slice_index pixels.new (r * 16 + c) ≡ filter_six (weights_of filter.now.weights) (λ k. pixel (r + k) c) }
+fn vertical_from_panels(
+    pixels: &mut [u8],
+    at: usize,
+    stride: usize,
+    left: &Panel,
+    right: &Panel,
+    filter: &PanelFilter,
+)
+    requires { HasRoomForBlock 16 16 pixels.old at stride }
+    ensures { (pixel : ℕ → ℕ → ℕ) → ArePanels left.now right.now pixel
+        → IsBlockWritten 16 16 pixels.old pixels.new at stride
+        (λ r c. filter_six (weights_of filter.now.weights) (λ k. pixel (r + k) c)) }
 {
     let places = filter.places;
     for e in 0..5 {
@@ -135,46 +153,54 @@ fn vertical_from_panels(pixels: &mut [u8], left: &Panel, right: &Panel, filter: 
         let first = vertical_row(&a, &b, &c, &filter.weights);
         let second = vertical_row(&b, &c, &d, &filter.weights);
         let third = vertical_row(&c, &d, &f, &filter.weights);
-        put_lanes::<16>(pixels, 3 * e, first);
-        put_lanes::<16>(pixels, 3 * e + 1, second);
-        put_lanes::<16>(pixels, 3 * e + 2, third);
+        put_row::<16>(pixels, at, stride, 3 * e, first);
+        put_row::<16>(pixels, at, stride, 3 * e + 1, second);
+        put_row::<16>(pixels, at, stride, 3 * e + 2, third);
     }
     let a = pair_at(&left.first, &right.first, 5, places);
     let b = pair_at(&left.second, &right.second, 5, places);
     let c = pair_at(&left.third, &right.third, 5, places);
     let last = vertical_row(&a, &b, &c, &filter.weights);
-    put_lanes::<16>(pixels, 15, last);
+    put_row::<16>(pixels, at, stride, 15, last);
 }
 
 /// The vertical pass to a 16x16 block, over rows that are inside the plane.
-pub(crate) fn vertical_pass_16x16(pixels: &mut [u8], patch: &Patch, weights: Weights)
-    requires whole { length pixels.old ≡ 256 }
+pub(crate) fn vertical_pass_16x16(
+    pixels: &mut [u8],
+    at: usize,
+    stride: usize,
+    patch: &Patch,
+    weights: Weights,
+)
+    requires room { HasRoomForBlock 16 16 pixels.old at stride }
     requires columns { HasColumns patch.now 16 }
     requires rows { HasRows patch.now 21 }
-    ensures { (r c : ℕ) → r < 16 → c < 16 → slice_index pixels.new (r * 16 + c)
-        ≡ filter_six weights.six.now (λ k. patch_pixel patch.now (r + k) c) }
+    ensures { IsBlockWritten 16 16 pixels.old pixels.new at stride
+        (λ r c. filter_six weights.six.now (λ k. patch_pixel patch.now (r + k) c)) }
 {
     let mut left = empty_panel();
     let mut right = empty_panel();
     copy_panels(&mut left, &mut right, patch);
-    vertical_from_panels(pixels, &left, &right, &panel_filter(weights));
+    vertical_from_panels(pixels, at, stride, &left, &right, &panel_filter(weights));
 }
 
 /// Both passes over a block of a plane of at least sixteen columns.
 pub(crate) fn six_tap_2d_block(
     pixels: &mut [u8],
+    at: usize,
+    stride: usize,
     patch: &Patch,
     horizontal: Weights,
     vertical: Weights,
 )
-    requires whole { length pixels.old ≡ 256 }
+    requires room { HasRoomForBlock 16 16 pixels.old at stride }
     requires width { 16 ≤ patch.now.width }
-    ensures { (r c : ℕ) → r < 16 → c < 16 → slice_index pixels.new (r * 16 + c)
-        ≡ filter_six vertical.six.now (λ k. patch_pass horizontal.six.now patch.now (r + k) c) }
+    ensures { IsBlockWritten 16 16 pixels.old pixels.new at stride
+        (λ r c. filter_six vertical.six.now (λ k. patch_pass horizontal.six.now patch.now (r + k) c)) }
 {
     let mut left = empty_panel();
     let mut right = empty_panel();
     horizontal_to_panel::<21>(&mut left, patch, &horizontal_filter(patch, 0, horizontal));
     horizontal_to_panel::<21>(&mut right, patch, &horizontal_filter(patch, 8, horizontal));
-    vertical_from_panels(pixels, &left, &right, &panel_filter(vertical));
+    vertical_from_panels(pixels, at, stride, &left, &right, &panel_filter(vertical));
 }

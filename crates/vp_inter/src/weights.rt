@@ -29,3 +29,10 @@ pub(crate) struct HorizontalFilter {
     pub(crate) weights: PairWeights,
     ghost lanes: { AreLanes first second third },
 }
+
+/// How sixteen pixels of a row are filtered: the left eight, and the right eight.
+#[derive(Clone, Copy)]
+pub(crate) struct WideFilter {
+    pub(crate) left: HorizontalFilter,
+    pub(crate) right: HorizontalFilter,
+}

@@ -16,12 +16,7 @@ use vp_transform::{
 fn inverse_examples(rt: HostRuntime) {
     let mut first = [0; 16];
     first[0] = 8;
-    let of_first = (
-        iwht(&first),
-        idct(&first),
-        idct_of_dc(8),
-        iwht_of_dc(12),
-    );
+    let of_first = (iwht(&first), idct(&first), idct_of_dc(8), iwht_of_dc(12));
     let block = [
         -700, 123, -45, 6, 77, -888, 99, -10, 11, 12, -1313, 14, -15, 160, 17, -1818,
     ];

@@ -1,23 +1,18 @@
-use Rattle.std.proofs.Common.{◌≡◌, ◌∙◌, ℕ, ℤ, List, ◌+◌, ◌*◌, ◌/◌, ◌%◌, ◌<◌, ◌≤◌, ap, sym, get_or, arith}
-use Rattle.std.proofs.lemmas.Nat.{row_fits}
-use Rattle.vp_inter.proofs.FilterLemmas.{filter_six-same}
+use Rattle.std.proofs.Common.{◌+◌, ◌*◌, get_or, arith}
+use Rattle.vp_inter.specs.Filter.{filter_six}
+use Rattle.vp_inter.proofs.WrittenLemmas.{none_written}
 use Rattle.vp_inter.proofs.block.vertical_by_taps.Goals as goal
 
--- a pixel of a piece, by its row of n
-piece_place : (n r j k q t : ℕ) → q * 16 + t ≡ r * n + k → 16 * q + j * n + t ≡ (r + j) * n + k
-piece_place n r j k q t e = omega arith
+pub loop-i-init : goal.loop-i-init
+loop-i-init g c = record {
+  done = none_written 16 c.args.pixels.now c.args.at c.args.stride (λ i k. filter_six c.args.weights.now (λ j. get_or c.args.rows.now (16 * i + j * g.row.N + k) 0));
+}
 
-pub returns : goal.returns
-returns g c r k rin kin =
-    let n : ℕ = g.row.N in
-    let i : ℕ = r * n + k in
-    let w : List ℤ = c.args.weights.now in
-    let rows : List ℕ = c.args.rows.now in
-    let room : r * n + n ≤ n * n = row_fits r n n n rin (omega arith) in
-    let place : (i / 16) * 16 + i % 16 ≡ i = omega arith in
-    let below : i / 16 < c.loop-i.i = omega arith in
-    let small : i % 16 < 16 = omega arith in
-    ap (λ (j : ℕ). get_or c.loop-i.pixels j 0) (sym place)
-    ∙ c.loop-i.invariant.done (i / 16) (i % 16) below small
-    ∙ filter_six-same w (λ j. get_or rows (16 * (i / 16) + j * n + i % 16) 0) (λ j. get_or rows ((r + j) * n + k) 0)
-    (λ j jin. ap (λ (m : ℕ). get_or rows m 0) (piece_place n r j k (i / 16) (i % 16) place))
+pub put_row-requires : goal.put_row-requires
+put_row-requires g c = omega (arith, c.requires.room c.loop-i.i c.loop-i-test.true, c.loop-i.invariant.done.len)
+
+pub loop-i-preserved : goal.loop-i-preserved
+loop-i-preserved g c = record {
+  done = c.put_row.ensures c.args.pixels.now (λ i k. filter_six c.args.weights.now (λ j. get_or c.args.rows.now (16 * i + j * g.row.N + k) 0))
+      c.loop-i.invariant.done c.pass-piece.ensures;
+}

@@ -1,0 +1,10 @@
+use Rattle.std.proofs.Common.{length}
+use Rattle.vp_inter.specs.Patches.{patch_pixel}
+use Rattle.vp_inter.proofs.WrittenLemmas.{array_room, in_array}
+use Rattle.vp_inter.proofs.block.copy_rows.Goals as goal
+
+pub copy_rows_at-requires-clause-room : goal.copy_rows_at-requires-clause-room
+copy_rows_at-requires-clause-room g c = array_room g.row.N c.args.rows (length c.args.pixels.now) c.requires.all
+
+pub returns : goal.returns
+returns g c = in_array g.row.N c.args.rows c.args.pixels.now c.copy_rows_at.new.pixels (patch_pixel c.args.patch.now) c.requires.all c.copy_rows_at.ensures
