@@ -516,8 +516,8 @@ def residue(coefficients): return idct(coefficients) if any(coefficients) else N
 def luma_residues(y2, t, f):  # luma_residue of subblocks 0 to 15
     if not any_token(t): return [None] * 16
     found = [dequantised(t.blocks[1 + k].levels, f.y_dc, f.y_ac) for k in range(16)]
-    luma_firsts = iwht(dequantised(t.blocks[0].levels, f.y2_dc, f.y2_ac)) if y2 else []
-    for own_, first_ in zip(found, luma_firsts): own_[0] = first_
+    luma_dcs = iwht(dequantised(t.blocks[0].levels, f.y2_dc, f.y2_ac)) if y2 else []
+    for own_, first_ in zip(found, luma_dcs): own_[0] = first_
     return [residue(own_) for own_ in found]
 def chroma_residue(t, f, plane, k): return residue(dequantised(t.blocks[13 + 4 * plane + k].levels, f.uv_dc, f.uv_ac))
 # ---- vp_recon/specs/Rebuilt.antt

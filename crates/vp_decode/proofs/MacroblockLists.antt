@@ -6,7 +6,7 @@ use Rattle.std.proofs.lemmas.List.{map-append, length-map, length-replicate}
 use Rattle.vp_base.specs.declared.place.Place.{Place}
 use Rattle.vp_bool.specs.Bools.{State}
 use Rattle.vp_bool.specs.Reader.{bind}
-use Rattle.vp_base.specs.Grid.{Grid, Has, changed, repeated, with_entry}
+use Rattle.vp_base.specs.Grid.{Has, changed, repeated, with_entry}
 use Rattle.vp_base.proofs.GridLemmas.{entry-inside, number_fits}
 use Rattle.vp_tables.specs.declared.modes.SubMode.TheVariants as sub_is
 use Rattle.vp_head.specs.declared.fields.Header.{Header}
@@ -17,8 +17,8 @@ use Rattle.vp_modes.specs.Modes.{modes_at}
 use Rattle.vp_motion.specs.Vector.{MacroblockMotion}
 use Rattle.vp_motion.specs.Map.{intra}
 use Rattle.vp_decode.specs.declared.macroblocks.Macroblock.{Macroblock}
-use Rattle.vp_decode.specs.MacroblockMaps.{MacroblockMaps, modes_in, motion_in, with_modes, macroblock_read}
-use Rattle.vp_decode.specs.MacroblockReader.{MacroblockReader, IsNext, begun, kept_modes, maps_of, maps_so_far, modes_before, with_macroblock}
+use Rattle.vp_decode.specs.MacroblockMaps.{modes_in, motion_in, with_modes, macroblock_read}
+use Rattle.vp_decode.specs.MacroblockReader.{MacroblockReader, IsAhead, IsNext, begun, kept_modes, maps_of, maps_so_far, modes_before, with_macroblock}
 use Rattle.vp_decode.specs.Step.{maps_before}
 
 -- ---- lists whose first items are replaced
@@ -225,3 +225,14 @@ all-read r whole all =
       modes = record { columns = r.columns; rows = r.rows; entries = sym modes i };
       motion = record { columns = r.columns; rows = r.rows; entries = sym motion i };
     }
+
+-- ---- how many are read
+
+pub none-ahead : (r : MacroblockReader) → IsAhead r r 0
+none-ahead r = record { columns = refl; rows = refl; read = omega arith }
+
+pub then-ahead : (a b c : MacroblockReader) (m n k : ℕ) → IsAhead a b m → IsAhead b c n → m + n ≡ k → IsAhead a c k
+then-ahead a b c m n k first second all =
+    let one = first.read in
+    let two = second.read in
+    record { columns = second.columns ∙ first.columns; rows = second.rows ∙ first.rows; read = omega (arith, one, two, all) }

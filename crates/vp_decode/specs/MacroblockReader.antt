@@ -52,6 +52,12 @@ pub record IsNext (r : MacroblockReader) (p : Place) : Type 0 where
   pub inside : Has (modes_before r) p
   pub number : length r.read ≡ p.row * r.columns + p.column
 
+-- n macroblocks more are read of a frame of this size
+pub record IsAhead (before after : MacroblockReader) (n : ℕ) : Type 0 where
+  pub columns : after.columns ≡ before.columns
+  pub rows : after.rows ≡ before.rows
+  pub read : length after.read ≡ length before.read + n
+
 -- m with this macroblock at p
 abbrev pub with_macroblock : MacroblockMaps → Place → Macroblock → MacroblockMaps
 with_macroblock m p a = record { modes = with_entry m.modes p a.modes; motion = with_entry m.motion p a.motion }

@@ -65,7 +65,7 @@ impl<'a> FrameDecoder<'a> {
     /// Decodes the macroblock at a place: reads its tokens, rebuilds it, and computes its filter level. Inlined, so that
     /// the compiler sees where the predictor comes from.
     #[inline(always)]
-    fn decode(&mut self, macroblock: &MacroblockInfo, place: Place, d: &mut BoolDecoder)
+    fn decode_macroblock(&mut self, macroblock: &MacroblockInfo, place: Place, d: &mut BoolDecoder)
         requires place { Has self.old.info.maps.modes place }
         requires macroblock { IsMacroblockAt self.old.info place macroblock.now }
         ensures info { self.new.info ≡ self.old.info }
@@ -110,7 +110,7 @@ impl<'a> FrameDecoder<'a> {
     }
 
     /// Decodes a row of macroblocks.
-    fn row(&mut self, row: usize, d: &mut BoolDecoder)
+    fn decode_row(&mut self, row: usize, d: &mut BoolDecoder)
         requires { row < self.old.info.maps.modes.rows }
         ensures info { self.new.info ≡ self.old.info }
         ensures width { self.new.picture.width ≡ self.old.picture.width }
@@ -125,12 +125,12 @@ impl<'a> FrameDecoder<'a> {
         for column in 0..info.columns() {
             let place = Place { column, row };
             let macroblock = info.macroblock(macroblocks, place);
-            self.decode(&macroblock, place, d);
+            self.decode_macroblock(&macroblock, place, d);
         }
     }
 
     /// Filters the row above `row`, if there is one.
-    fn filter_before<F: RowFilter>(&mut self, row: usize, filter: &mut F)
+    fn filter_row_above<F: RowFilter>(&mut self, row: usize, filter: &mut F)
         requires { row ≤ self.old.info.maps.modes.rows }
         ensures info { self.new.info ≡ self.old.info }
         ensures contexts { self.new.contexts ≡ self.old.contexts }
@@ -146,9 +146,9 @@ impl<'a> FrameDecoder<'a> {
         }
     }
 
-    /// Rebuilds all rows. Each row is filtered once the row below it is rebuilt. The decoders are left after the tokens
+    /// Decodes all rows. Each row is filtered once the row below it is rebuilt. The decoders are left after the tokens
     /// of all rows.
-    fn rows<F: RowFilter>(&mut self, decoders: &mut [BoolDecoder], filter: &mut F)
+    fn decode_rows<F: RowFilter>(&mut self, decoders: &mut [BoolDecoder], filter: &mut F)
         requires some { 0 < length decoders.old }
         requires contexts { AreContextsAt
             (all self.old.info.maps.modes.columns self.old.info.maps.modes.rows no_blocks_read)
@@ -167,10 +167,10 @@ impl<'a> FrameDecoder<'a> {
         for row in 0..rows {
             let at = row % decoders.len();
             let decoder = &mut decoders[at];
-            self.row(row, decoder);
-            self.filter_before(row, filter);
+            self.decode_row(row, decoder);
+            self.filter_row_above(row, filter);
         }
-        self.filter_before(rows, filter);
+        self.filter_row_above(rows, filter);
     }
 }
 
@@ -241,7 +241,7 @@ pub(crate) fn decode_picture<F: RowFilter>(
         tokens: &mut Tokens::NONE,
     };
     let decoders = &mut decoders_of(partitions)[..partitions.count()];
-    frame.rows(decoders, filter);
+    frame.decode_rows(decoders, filter);
     let corrupt = any_past_end(decoders);
     buffers.contexts = frame.contexts;
     buffers.levels = frame.levels;

@@ -1,7 +1,7 @@
 //! What is known of a frame once its first partition is read: header, version, references, modes and motion; and what
 //! follows from its header: the factors and the filter levels.
 
-ghost use Rattle.std.specs.Prelude.{◌≡◌, ◌<◌, ◌≤◌, Some, [], ◌∷◌, length, option_map, slice_get};
+ghost use Rattle.std.specs.Prelude.{◌≡◌, ◌<◌, ◌≤◌, Some, [], ◌∷◌, option_map};
 ghost use Rattle.vp_base.specs.declared.place.Place.{Place};
 ghost use Rattle.vp_base.specs.Grid.{Has};
 ghost use Rattle.vp_tokens.specs.declared.contexts.Tokens.{Tokens};

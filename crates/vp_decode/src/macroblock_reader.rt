@@ -1,13 +1,13 @@
 //! Reads the macroblocks of a frame from the first partition.
 
-ghost use Rattle.std.specs.Prelude.{◌≡◌, ◌+◌, ◌*◌, ◌<◌, ◌≤◌, ◌++◌, [], ◌∷◌, length, option_map, slice_get};
+ghost use Rattle.std.specs.Prelude.{◌≡◌, ◌+◌, ◌*◌, ◌<◌, ◌≤◌, [], length, option_map, slice_get};
 ghost use Rattle.std.specs.Prelude.{IfOk, IfSome};
 ghost use Rattle.vp_base.specs.declared.place.Place.{Place};
 ghost use Rattle.vp_base.specs.Grid.{Has};
 ghost use Rattle.vp_motion.specs.Vector.{IsWithin};
 ghost use Rattle.vp_motion.specs.Motion.{split_vectors};
 ghost use Rattle.vp_decode.specs.MacroblockMaps.{motion_in, macroblock_read, row_read, maps_read};
-ghost use Rattle.vp_decode.specs.MacroblockReader.{maps_so_far, modes_before, with_macroblock, IsNext};
+ghost use Rattle.vp_decode.specs.MacroblockReader.{maps_so_far, modes_before, with_macroblock, IsAhead, IsNext};
 ghost use Rattle.vp_decode.specs.Step.{maps_before};
 
 use crate::macroblocks::{Macroblock, Macroblocks};
@@ -33,7 +33,7 @@ pub(crate) struct MacroblockReader<'a> {
     /// The macroblocks that are read. There is memory for all of the frame.
     macroblocks: Vec<Macroblock>,
     /// The motion of a macroblock that is not read, and outside the frame: that of an intra macroblock.
-    still: MacroblockMotion,
+    outside: MacroblockMotion,
 }
 
 impl<'a> Model for MacroblockReader<'a> {
@@ -52,7 +52,7 @@ impl<'a> Model for MacroblockReader<'a> {
 
     ghost invariant = { λ r. (r.columns ≤ 1024) × (r.rows ≤ 1024)
         × IfSome r.kept (λ s. length s.now ≡ r.rows * r.columns)
-        × (r.rows * r.columns ≤ vec_capacity r.macroblocks) × (r.still ≡ intra) };
+        × (r.rows * r.columns ≤ vec_capacity r.macroblocks) × (r.outside ≡ intra) };
 }
 
 impl<'a> MacroblockReader<'a> {
@@ -82,7 +82,7 @@ impl<'a> MacroblockReader<'a> {
             rows,
             kept,
             macroblocks,
-            still: MacroblockMotion::INTRA,
+            outside: MacroblockMotion::INTRA,
         })
     }
 
@@ -105,7 +105,7 @@ impl<'a> MacroblockReader<'a> {
     {
         match self.get(place) {
             Some(macroblock) => &macroblock.motion,
-            None => &self.still,
+            None => &self.outside,
         }
     }
 
@@ -113,9 +113,7 @@ impl<'a> MacroblockReader<'a> {
     #[inline(always)]
     fn push(&mut self, macroblock: Macroblock)
         requires { length self.old.read < self.old.rows * self.old.columns }
-        ensures columns { self.new.columns ≡ self.old.columns }
-        ensures rows { self.new.rows ≡ self.old.rows }
-        ensures read { length self.new.read ≡ length self.old.read + 1 }
+        ensures ahead { IsAhead self.old self.new 1 }
         ensures maps { (place : Place) → IsNext self.old place
             → maps_so_far self.new ≡ with_macroblock (maps_so_far self.old) place macroblock }
     {
@@ -145,9 +143,7 @@ impl<'a> MacroblockReader<'a> {
         }) }
         ensures rest { d.new
             ≡ (split_vectors header.now.probabilities.vectors (maps_so_far self.old).motion place best d.old).1 }
-        ensures columns { self.new.columns ≡ self.old.columns }
-        ensures rows { self.new.rows ≡ self.old.rows }
-        ensures read { length self.new.read ≡ length self.old.read + 1 }
+        ensures ahead { IsAhead self.old self.new 1 }
     {
         let vectors = read_split(&header.probabilities.vectors, self, place, best, d);
         self.push(Macroblock {
@@ -166,9 +162,7 @@ impl<'a> MacroblockReader<'a> {
         requires { IsNext self.old place }
         ensures maps { maps_so_far self.new ≡ (macroblock_read header.now place (maps_so_far self.old) d.old).0 }
         ensures rest { d.new ≡ (macroblock_read header.now place (maps_so_far self.old) d.old).1 }
-        ensures columns { self.new.columns ≡ self.old.columns }
-        ensures rows { self.new.rows ≡ self.old.rows }
-        ensures read { length self.new.read ≡ length self.old.read + 1 }
+        ensures ahead { IsAhead self.old self.new 1 }
     {
         let modes = read_modes(header, self, place, d);
         let reference = modes.reference;
@@ -197,9 +191,7 @@ impl<'a> MacroblockReader<'a> {
         requires next { length self.old.read ≡ row * self.old.columns }
         ensures maps { maps_so_far self.new ≡ (row_read header.now self.old.columns row (maps_so_far self.old) d.old).0 }
         ensures rest { d.new ≡ (row_read header.now self.old.columns row (maps_so_far self.old) d.old).1 }
-        ensures columns { self.new.columns ≡ self.old.columns }
-        ensures rows { self.new.rows ≡ self.old.rows }
-        ensures read { length self.new.read ≡ (row + 1) * self.old.columns }
+        ensures ahead { IsAhead self.old self.new self.old.columns }
     {
         // The compiler keeps a local decoder in registers.
         let mut own = d.copy();
@@ -209,7 +201,8 @@ impl<'a> MacroblockReader<'a> {
         *d = own;
     }
 
-    /// Reads all macroblocks of the frame, in raster order.
+    /// Reads all macroblocks of the frame, in raster order. It is not inlined: its loop then has registers of its own.
+    #[inline(never)]
     pub(crate) fn read(self, header: &Header, d: &mut BoolDecoder) -> Macroblocks
         requires { self.read ≡ [] }
         ensures value { result ≡ (maps_read header.now (maps_before (modes_before self.entry)) d.old).0 }
@@ -275,7 +268,7 @@ impl<'a> MotionGrid for MacroblockReader<'a> {
     fn left(&self, place: Place) -> &MacroblockMotion {
         match place.left() {
             Some(left) => self.motion(left),
-            None => &self.still,
+            None => &self.outside,
         }
     }
 
@@ -283,7 +276,7 @@ impl<'a> MotionGrid for MacroblockReader<'a> {
     fn row_above(&self, place: Place) -> (&MacroblockMotion, &MacroblockMotion) {
         match place.above() {
             Some(up) => (self.motion(up), self.left(up)),
-            None => (&self.still, &self.still),
+            None => (&self.outside, &self.outside),
         }
     }
 

@@ -1,4 +1,4 @@
-use Rattle.std.proofs.Common.{◌≡◌, ◌+◌, ◌*◌, ◌≤◌, arith, refl}
+use Rattle.std.proofs.Common.{arith, refl}
 use Rattle.vp_motion.specs.Map.{intra}
 use Rattle.vp_decode.proofs.macroblock_reader.MacroblockReader.new.Goals as goal
 

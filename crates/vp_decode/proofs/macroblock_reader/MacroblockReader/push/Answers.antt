@@ -1,5 +1,3 @@
-use Rattle.std.proofs.Common.{◌∙◌, ap, rules}
-use Rattle.vp_decode.specs.MacroblockReader.{MacroblockReader, maps_so_far}
 use Rattle.vp_decode.proofs.MacroblockLists.{pushed, kept-length}
 use Rattle.vp_decode.proofs.macroblock_reader.MacroblockReader.push.Goals as goal
 

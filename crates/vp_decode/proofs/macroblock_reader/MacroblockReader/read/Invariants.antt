@@ -1,13 +1,11 @@
-use Rattle.std.proofs.Common.{◌≡◌, ◌*◌, length}
+use Rattle.std.proofs.Common.{◌≡◌, ◌*◌}
 use Rattle.vp_bool.specs.Reader.{rows}
 use Rattle.vp_decode.specs.MacroblockMaps.{row_read}
-use Rattle.vp_decode.specs.MacroblockReader.{maps_so_far}
+use Rattle.vp_decode.specs.MacroblockReader.{maps_so_far, IsAhead}
 use Rattle.vp_decode.proofs.macroblock_reader.MacroblockReader.read.Given as goal
 
 abbrev pub invariant-loop-row : goal.invariant-loop-row
 invariant-loop-row l = record {
   so_far : rows l.row (row_read l.header l.initial.reader.columns) (maps_so_far l.initial.reader) l.initial.d ≡ (maps_so_far l.reader, l.d);
-  columns : l.reader.columns ≡ l.initial.reader.columns;
-  rows : l.reader.rows ≡ l.initial.reader.rows;
-  read : length l.reader.read ≡ l.row * l.initial.reader.columns;
+  ahead : IsAhead l.initial.reader l.reader (l.row * l.initial.reader.columns);
 }

@@ -1,4 +1,4 @@
-use Rattle.std.proofs.Common.{◌≡◌, ◌∙◌, ◌*◌, sym, ap}
+use Rattle.std.proofs.Common.{◌∙◌, ◌*◌, sym, ap}
 use Rattle.std.specs.Prelude.{option_map}
 use Rattle.vp_modes.specs.Entry.{Modes}
 use Rattle.vp_decode.specs.MacroblockReader.{MacroblockReader}

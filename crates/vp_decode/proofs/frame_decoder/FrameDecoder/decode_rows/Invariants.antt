@@ -2,7 +2,7 @@ use Rattle.std.proofs.Common.{◌≡◌, ◌-◌, length}
 use Rattle.vp_base.specs.Over.{over}
 use Rattle.vp_decode.specs.FrameDecoder.{IsAfterRows}
 use Rattle.vp_decode.proofs.RowsLemmas.{row_filter, row_builder}
-use Rattle.vp_decode.proofs.frame_decoder.FrameDecoder.rows.Given as goal
+use Rattle.vp_decode.proofs.frame_decoder.FrameDecoder.decode_rows.Given as goal
 
 abbrev pub invariant-loop-row : goal.invariant-loop-row
 invariant-loop-row g l = record {

@@ -6,17 +6,17 @@ use Rattle.vp_decode.specs.TokenRows.{row_seen}
 use Rattle.vp_decode.specs.MacroblockMaps.{place}
 use Rattle.vp_decode.specs.FrameDecoder.{FrameDecoder, IsMacroblockStep, IsRow}
 use Rattle.vp_decode.proofs.ReadingLemmas.{row_none, row_next, row_has}
-use Rattle.vp_decode.proofs.frame_decoder.FrameDecoder.row.Goals as goal
+use Rattle.vp_decode.proofs.frame_decoder.FrameDecoder.decode_row.Goals as goal
 
 pub loop-column-init : goal.loop-column-init
 loop-column-init c = record { info = refl; width = refl; height = refl; columns = refl; made = λ g wide inside stands. row_none c.args.self.now.info c.args.row g c.args.d.now c.args.self.now stands }
 
 pub loop-column-preserved : goal.loop-column-preserved
 loop-column-preserved c = record {
-  info = c.decode.ensures.info ∙ c.loop-column.invariant.info;
-  width = c.decode.ensures.width ∙ c.loop-column.invariant.width;
-  height = c.decode.ensures.height ∙ c.loop-column.invariant.height;
-  columns = c.decode.ensures.columns ∙ c.loop-column.invariant.columns;
+  info = c.decode_macroblock.ensures.info ∙ c.loop-column.invariant.info;
+  width = c.decode_macroblock.ensures.width ∙ c.loop-column.invariant.width;
+  height = c.decode_macroblock.ensures.height ∙ c.loop-column.invariant.height;
+  columns = c.decode_macroblock.ensures.columns ∙ c.loop-column.invariant.columns;
   made = λ g wide inside stands.
       let f : FrameInfo = c.args.self.now.info in
       let n : ℕ = c.loop-column.column in
@@ -24,7 +24,7 @@ loop-column-preserved c = record {
       let seen : Grid Blocks = (row_seen f c.args.row n g c.args.d.now).0 in
       let columns : c.columns-column-end.result ≡ f.maps.modes.columns = c.columns-column-end.ensures.value ∙ ap (λ (b : FrameDecoder). b.info.maps.modes.columns) c.self.view_is in
       let within : n < g.columns = omega (arith, columns, wide) in
-      let step = c.decode.ensures.step seen (row_has f c.args.row n g c.args.d.now within inside) made.contexts in
-      row_next f c.args.row n g c.args.d.now c.loop-column.d c.decode.new.d c.args.self.now c.loop-column.self c.decode.new.self made
-      (subst (λ (z : FrameInfo). IsMacroblockStep z (place c.args.row n) seen c.loop-column.d c.decode.new.d c.loop-column.self c.decode.new.self) c.loop-column.invariant.info step);
+      let step = c.decode_macroblock.ensures.step seen (row_has f c.args.row n g c.args.d.now within inside) made.contexts in
+      row_next f c.args.row n g c.args.d.now c.loop-column.d c.decode_macroblock.new.d c.args.self.now c.loop-column.self c.decode_macroblock.new.self made
+      (subst (λ (z : FrameInfo). IsMacroblockStep z (place c.args.row n) seen c.loop-column.d c.decode_macroblock.new.d c.loop-column.self c.decode_macroblock.new.self) c.loop-column.invariant.info step);
 }

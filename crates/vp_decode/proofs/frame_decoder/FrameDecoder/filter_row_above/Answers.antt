@@ -2,7 +2,7 @@ use Rattle.std.proofs.Common.{◌≡◌, ◌∙◌, ℕ, ap, sym}
 use Rattle.vp_base.specs.Image.{Image, macroblocks}
 use Rattle.vp_loop.proofs.WindowLemmas.{row_size}
 use Rattle.vp_decode.specs.FrameDecoder.{FrameDecoder}
-use Rattle.vp_decode.proofs.frame_decoder.FrameDecoder.filter_before.Goals as goal
+use Rattle.vp_decode.proofs.frame_decoder.FrameDecoder.filter_row_above.Goals as goal
 
 pub returns-then-row-gt0-clause-width : goal.returns-then-row-gt0-clause-width
 returns-then-row-gt0-clause-width g c =

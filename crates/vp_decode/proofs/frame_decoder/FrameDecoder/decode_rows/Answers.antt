@@ -15,7 +15,7 @@ use Rattle.vp_decode.proofs.TokenGrid.{rests_in_turn}
 use Rattle.vp_decode.proofs.ReadingLemmas.{IsRowRead, rows_none, rows_next, rows_kept, row_of_frame, seen_columns, seen_rows}
 use Rattle.vp_decode.proofs.RowsLemmas.{filter_is_above, Rebuilds, row_filter, row_builder, row_is_below, row_keeps_shape, filtered_by_levels, frame_made}
 use Rattle.vp_decode.proofs.BandLemmas.{window_next, window_end}
-use Rattle.vp_decode.proofs.frame_decoder.FrameDecoder.rows.Goals as goal
+use Rattle.vp_decode.proofs.frame_decoder.FrameDecoder.decode_rows.Goals as goal
 
 read_any : (ds : List State) (i : ℕ) (d e : State) → i < length ds → get_or ds i d ≡ get_or ds i e
 read_any [] i d e h = absurd (omega arith)
@@ -33,20 +33,20 @@ loop-row-init g c = record {
   picture = sym (over-none _ _ ∙ over-none _ _);
 }
 
-pub row-requires : goal.row-requires
-row-requires g c =
+pub decode_row-requires : goal.decode_row-requires
+decode_row-requires g c =
     let end : c.rows-rows.result ≡ c.args.self.now.info.maps.modes.rows = c.rows-rows.ensures.value ∙ ap (λ (b : FrameDecoder). b.info.maps.modes.rows) c.self.view_is in
     let now : c.loop-row.self.info.maps.modes.rows ≡ c.args.self.now.info.maps.modes.rows = ap (λ (f : FrameInfo). f.maps.modes.rows) c.loop-row.invariant.info in
     omega (arith, c.loop-row-test.true)
 
-pub filter_before-requires : goal.filter_before-requires
-filter_before-requires g c =
+pub filter_row_above-requires : goal.filter_row_above-requires
+filter_row_above-requires g c =
     let end : c.rows-rows.result ≡ c.args.self.now.info.maps.modes.rows = c.rows-rows.ensures.value ∙ ap (λ (b : FrameDecoder). b.info.maps.modes.rows) c.self.view_is in
-    let now : c.row.new.self.info.maps.modes.rows ≡ c.args.self.now.info.maps.modes.rows = ap (λ (f : FrameInfo). f.maps.modes.rows) (c.row.ensures.info ∙ c.loop-row.invariant.info) in
+    let now : c.decode_row.new.self.info.maps.modes.rows ≡ c.args.self.now.info.maps.modes.rows = ap (λ (f : FrameInfo). f.maps.modes.rows) (c.decode_row.ensures.info ∙ c.loop-row.invariant.info) in
     omega (arith, c.loop-row-test.true)
 
-pub filter_before-requires-2 : goal.filter_before-requires-2
-filter_before-requires-2 g c =
+pub filter_row_above-requires-2 : goal.filter_row_above-requires-2
+filter_row_above-requires-2 g c =
     let end : c.rows-rows.result ≡ c.args.self.now.info.maps.modes.rows = c.rows-rows.ensures.value ∙ ap (λ (b : FrameDecoder). b.info.maps.modes.rows) c.self.view_is in
     let now : c.loop-row.self.info.maps.modes.rows ≡ c.args.self.now.info.maps.modes.rows = ap (λ (f : FrameInfo). f.maps.modes.rows) c.loop-row.invariant.info in
     omega arith
@@ -75,31 +75,31 @@ loop-row-preserved g c =
     let seen : Grid Blocks = (readings f ps row).seen in
     let wide : seen.columns ≡ c.loop-row.self.info.maps.modes.columns = rw c.loop-row.invariant.info (seen_columns f ps row) in
     let inside : row < seen.rows = omega (arith, seen_rows f ps row, c.loop-row-test.true) in
-    let made : IsRowRead f ps row c.row.new.d c.loop-row.self c.row.new.self =
-    rw (← own) (subst (λ (z : FrameInfo). IsRow z row z.maps.modes.columns seen state c.row.new.d c.loop-row.self c.row.new.self) c.loop-row.invariant.info
-    (c.row.ensures.row seen wide inside before.contexts)) in
-    let next : IsAfterRows f ps (row + 1) _ c.row.new.self = rows_next f ps ds row c.row.new.d c.loop-row.self c.row.new.self before here made in
-    let level_columns : c.row.new.self.levels.columns ≡ macroblocks p.width = c.row.ensures.columns ∙ c.loop-row.invariant.columns ∙ one.level_columns in
-    let size : c.row.new.self.picture.width ≡ p.width = c.row.ensures.width ∙ c.loop-row.invariant.width in
+    let made : IsRowRead f ps row c.decode_row.new.d c.loop-row.self c.decode_row.new.self =
+    rw (← own) (subst (λ (z : FrameInfo). IsRow z row z.maps.modes.columns seen state c.decode_row.new.d c.loop-row.self c.decode_row.new.self) c.loop-row.invariant.info
+    (c.decode_row.ensures.row seen wide inside before.contexts)) in
+    let next : IsAfterRows f ps (row + 1) _ c.decode_row.new.self = rows_next f ps ds row c.decode_row.new.d c.loop-row.self c.decode_row.new.self before here made in
+    let level_columns : c.decode_row.new.self.levels.columns ≡ macroblocks p.width = c.decode_row.ensures.columns ∙ c.loop-row.invariant.columns ∙ one.level_columns in
+    let size : c.decode_row.new.self.picture.width ≡ p.width = c.decode_row.ensures.width ∙ c.loop-row.invariant.width in
     record {
-      info = c.filter_before.ensures.info ∙ c.row.ensures.info ∙ c.loop-row.invariant.info;
-      width = c.filter_before.ensures.width ∙ c.row.ensures.width ∙ c.loop-row.invariant.width;
-      height = c.filter_before.ensures.height ∙ c.row.ensures.height ∙ c.loop-row.invariant.height;
-      columns = ap (λ (z : Grid _). z.columns) c.filter_before.ensures.levels ∙ c.row.ensures.columns ∙ c.loop-row.invariant.columns;
+      info = c.filter_row_above.ensures.info ∙ c.decode_row.ensures.info ∙ c.loop-row.invariant.info;
+      width = c.filter_row_above.ensures.width ∙ c.decode_row.ensures.width ∙ c.loop-row.invariant.width;
+      height = c.filter_row_above.ensures.height ∙ c.decode_row.ensures.height ∙ c.loop-row.invariant.height;
+      columns = ap (λ (z : Grid _). z.columns) c.filter_row_above.ensures.levels ∙ c.decode_row.ensures.columns ∙ c.loop-row.invariant.columns;
       some = length-set _ _ _ ∙ c.loop-row.invariant.some;
-      rows = rows_kept f ps _ (row + 1) c.row.new.self c.filter_before.new.self c.filter_before.ensures.contexts c.filter_before.ensures.levels next;
+      rows = rows_kept f ps _ (row + 1) c.decode_row.new.self c.filter_row_above.new.self c.filter_row_above.ensures.contexts c.filter_row_above.ensures.levels next;
       picture =
-          window_next p.width p.height (macroblocks p.height) row (row_filter f ps p.width p.height) (row_builder f ps p.width) p c.loop-row.self.picture c.row.new.self.picture c.filter_before.new.self.picture
+          window_next p.width p.height (macroblocks p.height) row (row_filter f ps p.width p.height) (row_builder f ps p.width) p c.loop-row.self.picture c.decode_row.new.self.picture c.filter_row_above.new.self.picture
           (λ k below. filter_is_above p.width p.height k _ below)
           (λ s k below earlier. row_is_below laws p.width p.height s k (frame_of f ps 0 0).macroblock below earlier)
           (λ k below q shaped. row_keeps_shape laws p.width p.height k (frame_of f ps 0 0).macroblock q shaped)
           c.requires.shaped within
           c.loop-row.invariant.picture
-          (row_of_frame f ps row c.row.new.d c.loop-row.self c.row.new.self here made
+          (row_of_frame f ps row c.decode_row.new.d c.loop-row.self c.decode_row.new.self here made
           ∙ ap (λ (n : ℕ). over n (λ column. rebuilt (macroblock_at f (place row column) (tokens_of f ps (place row column))) (place row column)) c.loop-row.self.picture) columns)
-          c.filter_before.ensures.none
-          (λ k e. c.filter_before.ensures.one k e
-          ∙ filtered_by_levels f ps p.width p.height k c.row.new.self.levels c.row.new.self.picture level_columns size
+          c.filter_row_above.ensures.none
+          (λ k e. c.filter_row_above.ensures.one k e
+          ∙ filtered_by_levels f ps p.width p.height k c.decode_row.new.self.levels c.decode_row.new.self.picture level_columns size
           (λ column below. next.levels (place k column) (omega arith) (omega (arith, columns))));
     }
 
@@ -117,10 +117,10 @@ returns-clause-picture g c =
     let level_columns : c.loop-row.self.levels.columns ≡ macroblocks p.width = c.loop-row.invariant.columns ∙ one.level_columns in
     let made : IsAfterRows f ps c.loop-row.row c.loop-row.decoders c.loop-row.self = c.loop-row.invariant.rows in
     let law = c.unfiltered_picture_solves_its_equation.ensures in
-    window_end (macroblocks p.height) (row_filter f ps p.width p.height) (over (macroblocks p.height) (row_builder f ps p.width) p) c.loop-row.self.picture c.filter_before-2.new.self.picture
+    window_end (macroblocks p.height) (row_filter f ps p.width p.height) (over (macroblocks p.height) (row_builder f ps p.width) p) c.loop-row.self.picture c.filter_row_above-2.new.self.picture
     (c.loop-row.invariant.picture ∙ ap (λ (n : ℕ). over (n - 1) (row_filter f ps p.width p.height) (over n (row_builder f ps p.width) p)) all)
-    (λ none. c.filter_before-2.ensures.none (rows_all ∙ none))
-    (λ k e. c.filter_before-2.ensures.one k (rows_all ∙ e)
+    (λ none. c.filter_row_above-2.ensures.none (rows_all ∙ none))
+    (λ k e. c.filter_row_above-2.ensures.one k (rows_all ∙ e)
     ∙ filtered_by_levels f ps p.width p.height k c.loop-row.self.levels c.loop-row.self.picture level_columns c.loop-row.invariant.width
     (λ column below. made.levels (place k column) (omega arith) (omega (arith, columns))))
     ∙ frame_made (record { size = law.size; aligned = law.aligned; whole = law.whole }) law.solves c.unfiltered_picture_is_the_one_solution.ensures.one

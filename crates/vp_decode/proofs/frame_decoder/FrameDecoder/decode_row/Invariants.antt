@@ -4,7 +4,7 @@ use Rattle.vp_tokens.specs.Blocks.{Blocks}
 use Rattle.vp_tokens.specs.Contexts.{AreContextsAt}
 use Rattle.vp_decode.specs.MacroblockMaps.{place}
 use Rattle.vp_decode.specs.FrameDecoder.{IsRow}
-use Rattle.vp_decode.proofs.frame_decoder.FrameDecoder.row.Given as goal
+use Rattle.vp_decode.proofs.frame_decoder.FrameDecoder.decode_row.Given as goal
 
 abbrev pub invariant-loop-column : goal.invariant-loop-column
 invariant-loop-column l = record {

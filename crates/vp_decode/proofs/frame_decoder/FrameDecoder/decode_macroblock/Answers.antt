@@ -12,8 +12,8 @@ use Rattle.vp_loop.specs.declared.strength.Level.{Level}
 use Rattle.vp_decode.specs.Frame.{FrameInfo, factors_at, level_at}
 use Rattle.vp_decode.specs.FrameDecoder.{FrameDecoder, IsMacroblockAt, IsMacroblockStep}
 use Rattle.vp_decode.proofs.ReadingLemmas.{step_made}
-use Rattle.vp_decode.proofs.frame_decoder.FrameDecoder.decode.Goals as goal
-use Rattle.vp_decode.proofs.frame_decoder.FrameDecoder.decode.Goals.{Joined-modes, then-modes+then-not-has_sub_modes, else-modes}
+use Rattle.vp_decode.proofs.frame_decoder.FrameDecoder.decode_macroblock.Goals as goal
+use Rattle.vp_decode.proofs.frame_decoder.FrameDecoder.decode_macroblock.Goals.{Joined-modes, then-modes+then-not-has_sub_modes, else-modes}
 
 -- the state before the macroblock, and after it but for its filter level
 abbrev before : Joined-modes → FrameDecoder
