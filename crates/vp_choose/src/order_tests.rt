@@ -19,7 +19,7 @@ use vp_head::{
     ReferenceUpdates, Saved, Segmentation,
 };
 use vp_motion::{Candidates, Vector};
-use vp_recon::MacroblockPixels;
+use vp_recon::{MacroblockPixels, SegmentFactors};
 use vp_refs::Refs;
 use vp_tables::{ChromaMode, LumaMode, VectorMode};
 
@@ -61,7 +61,13 @@ fn luma_mode(block: &[u8; 256], picture: &mut Picture, place: Place) -> Option<L
     if place.column >= usize::from(dim.mb_cols()) || place.row >= usize::from(dim.mb_rows()) {
         return None;
     }
-    let Some(chosen) = choose_luma_below(block, &FACTORS, picture, place, u32::MAX) else {
+    let Some(chosen) = choose_luma_below(
+        block,
+        &SegmentFactors::of(&FACTORS),
+        picture,
+        place,
+        u32::MAX,
+    ) else {
         return None;
     };
     Some(chosen.mode)
