@@ -5,7 +5,7 @@ use Rattle.std.proofs.lemmas.Bool.{cases_Bool, and_parts, lt-ltb, le-ltb}
 use Rattle.std.proofs.lemmas.Bool.Decides.{Decides-int_eq}
 use Rattle.std.proofs.lemmas.List.Sums.{sum_by-cons}
 use Rattle.std.specs.Ordering.{int_eq}
-use Rattle.vp_motion.specs.declared.vector.Nearby.{Nearby}
+use Rattle.vp_motion.specs.declared.vector.NeighbourCount.{NeighbourCount}
 use Rattle.vp_motion.specs.declared.vector.Weighted.{Weighted}
 use Rattle.vp_motion.specs.Vector.{Vector, zero_vector}
 use Rattle.vp_motion.specs.Near.{same, weight_of, without}
@@ -21,7 +21,7 @@ pub same-same : (v : Vector) → same v v ≡ true
 unfolding same
 same-same v = rw ((Decides-int_eq v.row v.row).1 refl, (Decides-int_eq v.column v.column).1 refl) refl
 
-pub recount : (n : Nearby) (y z : ℕ) (es fs : List Weighted) → Counts n y es → y ≡ z → es ≡ fs → Counts n z fs
+pub recount : (n : NeighbourCount) (y z : ℕ) (es fs : List Weighted) → Counts n y es → y ≡ z → es ≡ fs → Counts n z fs
 recount n y z es fs h p q clamp splits = h clamp splits ∙ (λ i. from_entries clamp (p i) splits (q i))
 
 -- the counts of none, one, two and three entries

@@ -11,7 +11,7 @@ use Rattle.vp_tables.specs.declared.modes.VectorMode.TheVariants as vector_is
 use Rattle.vp_tables.specs.declared.trees.TheConstants.{VECTOR_MODE_TREE}
 use Rattle.vp_motion.specs.Motion.{mode_probabilities, vector_mode}
 use Rattle.vp_motion.specs.ModeWalk.{mode_probability}
-use Rattle.vp_motion.specs.ModeWalk.{any_mode, above_zero, above_nearest, above_near}
+use Rattle.vp_motion.specs.ModeWalk.{any_mode, not_zero, not_nearest, not_near}
 
 module _ (counts : List ℕ) where
   abbrev step : ℕ → ℕ → Bool → Reader VectorMode
@@ -21,18 +21,18 @@ module _ (counts : List ℕ) where
   at_6 n true u = refl
   at_6 n false u = refl
 
-  at_4 : (n : ℕ) (b : Bool) (u : State) → step (suc n) 4 b u ≡ (if b then above_near counts else give vector_is.Near) u
-  unfolding walk reader.bind above_near mode_probabilities
+  at_4 : (n : ℕ) (b : Bool) (u : State) → step (suc n) 4 b u ≡ (if b then not_near counts else give vector_is.Near) u
+  unfolding walk reader.bind not_near mode_probabilities
   at_4 n true u = at_6 n (read (mode_probability counts 3) u).0 (read (mode_probability counts 3) u).1
   at_4 n false u = refl
 
-  at_2 : (n : ℕ) (b : Bool) (u : State) → step (suc (suc n)) 2 b u ≡ (if b then above_nearest counts else give vector_is.Nearest) u
-  unfolding walk reader.bind above_nearest mode_probabilities
+  at_2 : (n : ℕ) (b : Bool) (u : State) → step (suc (suc n)) 2 b u ≡ (if b then not_nearest counts else give vector_is.Nearest) u
+  unfolding walk reader.bind not_nearest mode_probabilities
   at_2 n true u = at_4 n (read (mode_probability counts 2) u).0 (read (mode_probability counts 2) u).1
   at_2 n false u = refl
 
-  at_0 : (n : ℕ) (b : Bool) (u : State) → step (suc (suc (suc n))) 0 b u ≡ (if b then above_zero counts else give vector_is.Zero) u
-  unfolding walk reader.bind above_zero mode_probabilities
+  at_0 : (n : ℕ) (b : Bool) (u : State) → step (suc (suc (suc n))) 0 b u ≡ (if b then not_zero counts else give vector_is.Zero) u
+  unfolding walk reader.bind not_zero mode_probabilities
   at_0 n true u = at_2 n (read (mode_probability counts 1) u).0 (read (mode_probability counts 1) u).1
   at_0 n false u = refl
 

@@ -11,25 +11,25 @@ abbrev pub mode_probability : List ℕ → ℕ → ℕ
 mode_probability counts i = slice_index (slice_index_or VECTOR_MODE_PROBABILITIES (slice_index counts i) []) i
 
 -- the walk from the pair at index 6
-unfoldable pub above_near : List ℕ → Reader VectorMode
-above_near counts = do
+unfoldable pub not_near : List ℕ → Reader VectorMode
+not_near counts = do
   b ← read (mode_probability counts 3)
   give (if b then vector_is.Split else vector_is.New)
 
 -- the walk from the pair at index 4
-unfoldable pub above_nearest : List ℕ → Reader VectorMode
-above_nearest counts = do
+unfoldable pub not_nearest : List ℕ → Reader VectorMode
+not_nearest counts = do
   b ← read (mode_probability counts 2)
-  if b then above_near counts else give vector_is.Near
+  if b then not_near counts else give vector_is.Near
 
 -- the walk from the pair at index 2
-unfoldable pub above_zero : List ℕ → Reader VectorMode
-above_zero counts = do
+unfoldable pub not_zero : List ℕ → Reader VectorMode
+not_zero counts = do
   b ← read (mode_probability counts 1)
-  if b then above_nearest counts else give vector_is.Nearest
+  if b then not_nearest counts else give vector_is.Nearest
 
 -- the walk from the root
 unfoldable pub any_mode : List ℕ → Reader VectorMode
 any_mode counts = do
   b ← read (mode_probability counts 0)
-  if b then above_zero counts else give vector_is.Zero
+  if b then not_zero counts else give vector_is.Zero

@@ -11,7 +11,7 @@ ghost use Rattle.vp_motion.specs.Counting.{candidates_by, weighted_vector, AreLi
 use crate::counting::count;
 use crate::grid::MotionGrid;
 use crate::packed::PackedVector;
-use crate::vector::{Candidates, MacroblockMotion, Nearby, Vector};
+use crate::vector::{Candidates, MacroblockMotion, NeighbourCount, Vector};
 use vp_base::Place;
 use vp_head::{Reference, SignBiases};
 
@@ -153,12 +153,12 @@ fn seen_vector(
 
 /// The count of the neighbours of the macroblock at `place`.
 #[inline(always)]
-pub(crate) fn nearby<G: MotionGrid>(
+pub(crate) fn count_neighbours<G: MotionGrid>(
     map: &G,
     place: Place,
     reference: Reference,
     biases: SignBiases,
-) -> Nearby
+) -> NeighbourCount
     requires place { Has (G.grid map.now) place }
     ensures value { candidates_by (clamped_vector (G.grid map.now) place) (split_count (G.grid map.now) place) result
         ≡ candidates (G.grid map.now) place reference biases }
@@ -200,7 +200,7 @@ pub fn near<G: MotionGrid>(
     requires place { Has (G.grid map.now) place }
     ensures { result ≡ candidates (G.grid map.now) place reference biases }
 {
-    let found = nearby(map, place, reference, biases);
+    let found = count_neighbours(map, place, reference, biases);
     Candidates {
         counts: [
             found.zeros,

@@ -8,7 +8,7 @@ ghost use Rattle.vp_motion.specs.Near.{same};
 ghost use Rattle.vp_motion.specs.Counting.{still_weight, moving, onto, runs, nobody, weighted_vector, Counts, AreLight};
 
 use crate::packed::PackedVector;
-use crate::vector::{Nearby, Weighted};
+use crate::vector::{NeighbourCount, Weighted};
 
 /// The zero vector with weight 0, in place of an entry that is absent.
 #[inline(always)]
@@ -23,12 +23,12 @@ fn nobody() -> Weighted
 
 /// The count if no vector is nonzero.
 #[inline(always)]
-fn none(zeros: u8) -> Nearby
+fn none(zeros: u8) -> NeighbourCount
     requires { zeros ≤ 5 }
     ensures value { Counts result zeros [] }
     ensures light { AreLight result }
 {
-    Nearby {
+    NeighbourCount {
         zeros,
         nearest: nobody(),
         near: nobody(),
@@ -37,13 +37,13 @@ fn none(zeros: u8) -> Nearby
 
 /// The count with one entry.
 #[inline(always)]
-fn one(zeros: u8, first: Weighted) -> Nearby
+fn one(zeros: u8, first: Weighted) -> NeighbourCount
     requires zeros { zeros ≤ 5 }
     requires first { first.weight ≤ 5 }
     ensures value { Counts result zeros (first ∷ []) }
     ensures light { AreLight result }
 {
-    Nearby {
+    NeighbourCount {
         zeros,
         nearest: first,
         near: nobody(),
@@ -52,14 +52,14 @@ fn one(zeros: u8, first: Weighted) -> Nearby
 
 /// The count with two entries, of which the second isn't heavier.
 #[inline(always)]
-fn two(zeros: u8, first: Weighted, second: Weighted) -> Nearby
+fn two(zeros: u8, first: Weighted, second: Weighted) -> NeighbourCount
     requires zeros { zeros ≤ 5 }
     requires first { first.weight ≤ 5 }
     requires second { second.weight ≤ first.weight }
     ensures value { Counts result zeros (first ∷ (second ∷ [])) }
     ensures light { AreLight result }
 {
-    Nearby {
+    NeighbourCount {
         zeros,
         nearest: first,
         near: second,
@@ -68,7 +68,7 @@ fn two(zeros: u8, first: Weighted, second: Weighted) -> Nearby
 
 /// Counts the corner after neighbours that don't move.
 #[inline(always)]
-fn corner_after_none(zeros: u8, corner: Option<PackedVector>) -> Nearby
+fn corner_after_none(zeros: u8, corner: Option<PackedVector>) -> NeighbourCount
     requires { zeros ≤ 4 }
     ensures value { Counts result (zeros + still_weight (weighted_vector 1 corner)) (runs (moving (weighted_vector 1 corner))) }
     ensures light { AreLight result }
@@ -85,7 +85,7 @@ fn corner_after_none(zeros: u8, corner: Option<PackedVector>) -> Nearby
 
 /// Counts the corner after one entry.
 #[inline(always)]
-fn corner_after_one(zeros: u8, first: Weighted, corner: Option<PackedVector>) -> Nearby
+fn corner_after_one(zeros: u8, first: Weighted, corner: Option<PackedVector>) -> NeighbourCount
     requires zeros { zeros ≤ 4 }
     requires heavy { 1 ≤ first.weight }
     requires light { first.weight ≤ 4 }
@@ -111,7 +111,11 @@ fn corner_after_one(zeros: u8, first: Weighted, corner: Option<PackedVector>) ->
 
 /// Counts the corner after two entries: the vectors above and to the left, which differ.
 #[inline(always)]
-fn corner_after_two(above: PackedVector, left: PackedVector, corner: Option<PackedVector>) -> Nearby
+fn corner_after_two(
+    above: PackedVector,
+    left: PackedVector,
+    corner: Option<PackedVector>,
+) -> NeighbourCount
     requires { same above left ≡ false }
     ensures value { Counts result (still_weight (weighted_vector 1 corner))
         (onto (record { vector = above; weight = 2 })
@@ -133,7 +137,7 @@ fn corner_after_two(above: PackedVector, left: PackedVector, corner: Option<Pack
         two(1, first, second)
     } else if second.vector.is_same(&vector) {
         // Only here the second entry is the heavier one.
-        Nearby {
+        NeighbourCount {
             zeros: 0,
             nearest: Weighted {
                 vector: second.vector,
@@ -142,7 +146,7 @@ fn corner_after_two(above: PackedVector, left: PackedVector, corner: Option<Pack
             near: first,
         }
     } else if vector.is_same(&first.vector) {
-        Nearby {
+        NeighbourCount {
             zeros: 0,
             nearest: Weighted {
                 vector: first.vector,
@@ -151,7 +155,7 @@ fn corner_after_two(above: PackedVector, left: PackedVector, corner: Option<Pack
             near: second,
         }
     } else {
-        Nearby {
+        NeighbourCount {
             zeros: 0,
             nearest: first,
             near: second,
@@ -161,7 +165,11 @@ fn corner_after_two(above: PackedVector, left: PackedVector, corner: Option<Pack
 
 /// Counts the left neighbour and the corner, if the one above has no nonzero vector.
 #[inline(always)]
-fn left_after_none(zeros: u8, left: Option<PackedVector>, corner: Option<PackedVector>) -> Nearby
+fn left_after_none(
+    zeros: u8,
+    left: Option<PackedVector>,
+    corner: Option<PackedVector>,
+) -> NeighbourCount
     requires { zeros ≤ 2 }
     ensures value { Counts result (zeros + still_weight (weighted_vector 2 left ++ weighted_vector 1 corner))
         (runs (moving (weighted_vector 2 left ++ weighted_vector 1 corner))) }
@@ -183,7 +191,7 @@ fn left_after_one(
     above: PackedVector,
     left: Option<PackedVector>,
     corner: Option<PackedVector>,
-) -> Nearby
+) -> NeighbourCount
     ensures value { Counts result (still_weight (weighted_vector 2 left ++ weighted_vector 1 corner))
         (onto (record { vector = above; weight = 2 }) (runs (moving (weighted_vector 2 left ++ weighted_vector 1 corner)))) }
     ensures light { AreLight result }
@@ -214,7 +222,7 @@ pub(crate) fn count(
     above: Option<PackedVector>,
     left: Option<PackedVector>,
     corner: Option<PackedVector>,
-) -> Nearby
+) -> NeighbourCount
     ensures value { Counts result
         (still_weight (weighted_vector 2 above ++ (weighted_vector 2 left ++ weighted_vector 1 corner)))
         (runs (moving (weighted_vector 2 above ++ (weighted_vector 2 left ++ weighted_vector 1 corner)))) }

@@ -29,7 +29,7 @@ pub trait MotionGrid {
         requires { Has (grid self.now) place }
         ensures { result.now ≡ look intra (grid self.now) (left place) };
 
-    /// Returns the motion above a place, and above and to the left of it. They lie side by side and are looked up
+    /// Returns the motion above a place, and above and to the left of it, which are often looked up
     /// together.
     fn row_above(&self, place: Place) -> (&MacroblockMotion, &MacroblockMotion)
         requires { Has (grid self.now) place }

@@ -4,13 +4,13 @@ ghost use Rattle.std.specs.Prelude.{◌≡◌, ◌<◌, [], slice_index, slice_i
 ghost use Rattle.vp_base.specs.Grid.{Has};
 ghost use Rattle.vp_tables.specs.declared.mode_probabilities.TheConstants.{VECTOR_MODE_PROBABILITIES};
 ghost use Rattle.vp_motion.specs.Motion.{vector_mode};
-ghost use Rattle.vp_motion.specs.ModeWalk.{any_mode, above_zero, above_nearest, above_near};
+ghost use Rattle.vp_motion.specs.ModeWalk.{any_mode, not_zero, not_nearest, not_near};
 ghost use Rattle.vp_motion.specs.Near.{split_count};
 ghost use Rattle.vp_motion.specs.Counting.{weights_of, AreLight};
 
 use crate::candidates::split_count;
 use crate::grid::MotionGrid;
-use crate::vector::Nearby;
+use crate::vector::NeighbourCount;
 use vp_base::Place;
 use vp_bool::BoolDecoder;
 use vp_tables::{VECTOR_MODE_PROBABILITIES, VectorMode};
@@ -27,17 +27,17 @@ fn mode_probability(weight: u8, i: usize) -> u8
 
 /// The walk from the pair at index 6.
 #[inline(always)]
-#[tactic(auto, unfolding(crate::specs::ModeWalk::above_near, vp_bool::specs::Reader::bind))]
-fn above_near<G: MotionGrid>(
+#[tactic(auto, unfolding(crate::specs::ModeWalk::not_near, vp_bool::specs::Reader::bind))]
+fn not_near<G: MotionGrid>(
     map: &G,
     place: Place,
-    found: &Nearby,
+    found: &NeighbourCount,
     d: &mut BoolDecoder,
 ) -> VectorMode
     requires place { Has (G.grid map.now) place }
     requires light { AreLight found.now }
-    ensures value { result ≡ (above_near (weights_of (split_count (G.grid map.now) place) found.now) d.old).0 }
-    ensures rest { d.new ≡ (above_near (weights_of (split_count (G.grid map.now) place) found.now) d.old).1 }
+    ensures value { result ≡ (not_near (weights_of (split_count (G.grid map.now) place) found.now) d.old).0 }
+    ensures rest { d.new ≡ (not_near (weights_of (split_count (G.grid map.now) place) found.now) d.old).1 }
 {
     if d.read(mode_probability(split_count(map, place), 3)) {
         VectorMode::Split
@@ -48,20 +48,20 @@ fn above_near<G: MotionGrid>(
 
 /// The walk from the pair at index 4.
 #[inline(always)]
-#[tactic(auto, unfolding(crate::specs::ModeWalk::above_nearest, vp_bool::specs::Reader::bind))]
-fn above_nearest<G: MotionGrid>(
+#[tactic(auto, unfolding(crate::specs::ModeWalk::not_nearest, vp_bool::specs::Reader::bind))]
+fn not_nearest<G: MotionGrid>(
     map: &G,
     place: Place,
-    found: &Nearby,
+    found: &NeighbourCount,
     d: &mut BoolDecoder,
 ) -> VectorMode
     requires place { Has (G.grid map.now) place }
     requires light { AreLight found.now }
-    ensures value { result ≡ (above_nearest (weights_of (split_count (G.grid map.now) place) found.now) d.old).0 }
-    ensures rest { d.new ≡ (above_nearest (weights_of (split_count (G.grid map.now) place) found.now) d.old).1 }
+    ensures value { result ≡ (not_nearest (weights_of (split_count (G.grid map.now) place) found.now) d.old).0 }
+    ensures rest { d.new ≡ (not_nearest (weights_of (split_count (G.grid map.now) place) found.now) d.old).1 }
 {
     if d.read(mode_probability(found.near.weight, 2)) {
-        above_near(map, place, found, d)
+        not_near(map, place, found, d)
     } else {
         VectorMode::Near
     }
@@ -69,20 +69,20 @@ fn above_nearest<G: MotionGrid>(
 
 /// The walk from the pair at index 2.
 #[inline(always)]
-#[tactic(auto, unfolding(crate::specs::ModeWalk::above_zero, vp_bool::specs::Reader::bind))]
-fn above_zero<G: MotionGrid>(
+#[tactic(auto, unfolding(crate::specs::ModeWalk::not_zero, vp_bool::specs::Reader::bind))]
+fn not_zero<G: MotionGrid>(
     map: &G,
     place: Place,
-    found: &Nearby,
+    found: &NeighbourCount,
     d: &mut BoolDecoder,
 ) -> VectorMode
     requires place { Has (G.grid map.now) place }
     requires light { AreLight found.now }
-    ensures value { result ≡ (above_zero (weights_of (split_count (G.grid map.now) place) found.now) d.old).0 }
-    ensures rest { d.new ≡ (above_zero (weights_of (split_count (G.grid map.now) place) found.now) d.old).1 }
+    ensures value { result ≡ (not_zero (weights_of (split_count (G.grid map.now) place) found.now) d.old).0 }
+    ensures rest { d.new ≡ (not_zero (weights_of (split_count (G.grid map.now) place) found.now) d.old).1 }
 {
     if d.read(mode_probability(found.nearest.weight, 1)) {
-        above_nearest(map, place, found, d)
+        not_nearest(map, place, found, d)
     } else {
         VectorMode::Nearest
     }
@@ -91,14 +91,19 @@ fn above_zero<G: MotionGrid>(
 /// The walk from the root.
 #[inline(always)]
 #[tactic(auto, unfolding(crate::specs::ModeWalk::any_mode, vp_bool::specs::Reader::bind))]
-fn any_mode<G: MotionGrid>(map: &G, place: Place, found: &Nearby, d: &mut BoolDecoder) -> VectorMode
+fn any_mode<G: MotionGrid>(
+    map: &G,
+    place: Place,
+    found: &NeighbourCount,
+    d: &mut BoolDecoder,
+) -> VectorMode
     requires place { Has (G.grid map.now) place }
     requires light { AreLight found.now }
     ensures value { result ≡ (any_mode (weights_of (split_count (G.grid map.now) place) found.now) d.old).0 }
     ensures rest { d.new ≡ (any_mode (weights_of (split_count (G.grid map.now) place) found.now) d.old).1 }
 {
     if d.read(mode_probability(found.zeros, 0)) {
-        above_zero(map, place, found, d)
+        not_zero(map, place, found, d)
     } else {
         VectorMode::Zero
     }
@@ -109,7 +114,7 @@ fn any_mode<G: MotionGrid>(map: &G, place: Place, found: &Nearby, d: &mut BoolDe
 pub(crate) fn read_mode<G: MotionGrid>(
     map: &G,
     place: Place,
-    found: &Nearby,
+    found: &NeighbourCount,
     d: &mut BoolDecoder,
 ) -> VectorMode
     requires place { Has (G.grid map.now) place }

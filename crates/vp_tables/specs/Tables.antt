@@ -58,19 +58,19 @@ unfoldable pub zigzag : ℕ → ℕ
 zigzag position = slice_index ZIGZAG position
 
 -- the least magnitude that a token encodes (chapter 13.2)
-unfoldable pub least_size : Token → ℕ
-least_size token_is.EndOfBlock = 0
-least_size token_is.Zero = 0
-least_size token_is.One = 1
-least_size token_is.Two = 2
-least_size token_is.Three = 3
-least_size token_is.Four = 4
-least_size token_is.Category1 = slice_index CATEGORY_BASES 0
-least_size token_is.Category2 = slice_index CATEGORY_BASES 1
-least_size token_is.Category3 = slice_index CATEGORY_BASES 2
-least_size token_is.Category4 = slice_index CATEGORY_BASES 3
-least_size token_is.Category5 = slice_index CATEGORY_BASES 4
-least_size token_is.Category6 = slice_index CATEGORY_BASES 5
+unfoldable pub least_magnitude : Token → ℕ
+least_magnitude token_is.EndOfBlock = 0
+least_magnitude token_is.Zero = 0
+least_magnitude token_is.One = 1
+least_magnitude token_is.Two = 2
+least_magnitude token_is.Three = 3
+least_magnitude token_is.Four = 4
+least_magnitude token_is.Category1 = slice_index CATEGORY_BASES 0
+least_magnitude token_is.Category2 = slice_index CATEGORY_BASES 1
+least_magnitude token_is.Category3 = slice_index CATEGORY_BASES 2
+least_magnitude token_is.Category4 = slice_index CATEGORY_BASES 3
+least_magnitude token_is.Category5 = slice_index CATEGORY_BASES 4
+least_magnitude token_is.Category6 = slice_index CATEGORY_BASES 5
 
 -- probabilities of the extra bits that are added to it, most significant first
 unfoldable pub extra_probabilities : Token → List ℕ

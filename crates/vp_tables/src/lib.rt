@@ -24,7 +24,9 @@ pub use mode_probabilities::{
 pub use modes::{ChromaMode, LumaMode, PartMode, SplitKind, SubMode, Token, VectorMode};
 pub use sub_probabilities::{KEY_SUB_PROBABILITIES, key_sub_probabilities};
 pub use taps::{SIX_TAPS, six_taps};
-pub use tokens::{BANDS, CATEGORY_BASES, ZIGZAG, band, extra_probabilities, least_size, zigzag};
+pub use tokens::{
+    BANDS, CATEGORY_BASES, ZIGZAG, band, extra_probabilities, least_magnitude, zigzag,
+};
 pub use trees::{
     CHROMA_TREE, KEY_LUMA_TREE, LUMA_TREE, PART_TREE, SEGMENT_TREE, SHORT_VECTOR_TREE, SPLIT_TREE,
     SUB_TREE, TOKEN_TREE, VECTOR_MODE_TREE,

@@ -1,7 +1,7 @@
 //! Tables of tokens and of coefficient positions.
 
 ghost use Rattle.std.specs.Prelude.{◌≡◌, ◌<◌, ◌≤◌, length};
-ghost use Rattle.vp_tables.specs.Tables.{band, zigzag, least_size, extra_probabilities};
+ghost use Rattle.vp_tables.specs.Tables.{band, zigzag, least_magnitude, extra_probabilities};
 
 use crate::modes::Token;
 
@@ -53,9 +53,9 @@ pub fn zigzag(position: usize) -> usize
 }
 
 /// The least magnitude that a token encodes; 0 for the end of block.
-#[tactic(auto, unfolding(crate::specs::Tables::least_size))]
-pub fn least_size(token: Token) -> u16
-    ensures value { result ≡ least_size token }
+#[tactic(auto, unfolding(crate::specs::Tables::least_magnitude))]
+pub fn least_magnitude(token: Token) -> u16
+    ensures value { result ≡ least_magnitude token }
     ensures small { result ≤ 67 }
 {
     match token {

@@ -34,7 +34,7 @@ module _ (bands : List (List (List ℕ))) where
   unfolding tokens_from token
   level_written i context from own z b lt same w =
       let k : 16 - i ≡ suc (16 - (i + 1)) = omega arith in
-      rw (k, ← same) (Writes-then _ w.token (rw w.goes_on (Writes-then _ w.size (Writes-then _ w.sign (Continues-none _ _)))))
+      rw (k, ← same) (Writes-then _ w.token (rw w.goes_on (Writes-then _ w.magnitude (Writes-then _ w.sign (Continues-none _ _)))))
 
   pub done_written : (i context from : ℕ) (b : Block) (old : Interval) → 16 ≤ i → Continues (tokens_from bands (16 - i) i context from b) (give b) old old
   unfolding tokens_from

@@ -4,15 +4,15 @@ use Rattle.vp_bool.specs.Reader.{Reader}
 use Rattle.vp_bool.specs.Intervals.{Interval}
 use Rattle.vp_bool.specs.Writing.{Writes}
 use Rattle.vp_tables.specs.declared.modes.Token.{Token}
-use Rattle.vp_tables.specs.Tables.{least_size, extra_probabilities}
+use Rattle.vp_tables.specs.Tables.{least_magnitude, extra_probabilities}
 use Rattle.vp_tokens.specs.Block.{Block, no_tokens}
-use Rattle.vp_tokens.specs.Levels.{is_end, size, signed_level}
+use Rattle.vp_tokens.specs.Levels.{is_end, magnitude, signed_level}
 
 -- The token encodes magnitude s: its extra bits encode the difference between s and its least magnitude.
 pub record IsTokenOf (t : Token) (s : ℕ) : Type 0 where
   pub goes_on : is_end t ≡ false
-  pub least : least_size t ≤ s
-  pub extra : s < least_size t + 2 ^ length (extra_probabilities t)
+  pub least : least_magnitude t ≤ s
+  pub extra : s < least_magnitude t + 2 ^ length (extra_probabilities t)
 
 -- A level of magnitude n was written: a token, which m reads, the token's extra bits, and the sign.
 pub record IsLevelWritten (m : Reader Token) (n : ℕ) (level : ℤ) (old new : Interval) : Type 0 where
@@ -21,7 +21,7 @@ pub record IsLevelWritten (m : Reader Token) (n : ℕ) (level : ℤ) (old new : 
   pub mid : Interval
   pub later : Interval
   pub token : Writes m old mid what
-  pub size : Writes (size what) mid later n
+  pub magnitude : Writes (magnitude what) mid later n
   pub sign : Writes (signed_level n) later new level
 
 -- the first n items, and other for each later one

@@ -7,7 +7,7 @@ ghost use Rattle.vp_tokens.specs.Levels.{bands_of, first_of, row};
 ghost use Rattle.vp_tokens.specs.Placed.{banded};
 ghost use Rattle.vp_tokens.specs.Zeros.{zeros};
 
-use crate::sizes::{context_after_token, read_signed, read_size};
+use crate::magnitude::{context_after_token, read_magnitude, read_signed};
 use crate::walks::{end_of_block, nonzero};
 use std::marker::Model;
 use vp_bool::BoolDecoder;
@@ -198,8 +198,8 @@ pub(crate) fn read_block(
         };
         let token = nonzero(next.row, d);
         context = context_after_token(token);
-        let size = read_size(token, d);
-        found.put(next.position, read_signed(size, d));
+        let magnitude = read_magnitude(token, d);
+        found.put(next.position, read_signed(magnitude, d));
         i = next.position + 1;
     }
 }

@@ -10,7 +10,7 @@ ghost use Rattle.vp_tokens.specs.Pieces.{context_after, pair_after};
 ghost use Rattle.vp_tokens.specs.Walks.{nonzero, IsStart};
 ghost use Rattle.vp_tokens.specs.Written.{IsLevelWritten};
 
-use crate::size_writing::{token_of, write_signed, write_size};
+use crate::magnitude_writing::{token_of, write_magnitude, write_signed};
 use crate::walk_writing::write_walk;
 use std::alloc::AllocError;
 use vp_bool::BoolEncoder;
@@ -30,10 +30,10 @@ fn write_any(row: &[u8; 11], from: usize, level: i16, e: &mut BoolEncoder) -> Re
     ensures { OnOk result (IsLevelWritten (walk_from token_is.EndOfBlock TOKEN_TREE row.now from)
         (unsigned_abs level) level e.old e.new) }
 {
-    let size = level.unsigned_abs();
-    let token = token_of(size);
+    let magnitude = level.unsigned_abs();
+    let token = token_of(magnitude);
     write_walk(row, from, token, e)?;
-    write_size(token, size, e)?;
+    write_magnitude(token, magnitude, e)?;
     write_signed(level, e)?;
     Ok(())
 }
@@ -74,15 +74,15 @@ pub(crate) fn write_level(
     ensures context { IfOk result (λ next. next.context ≡ context_after (unsigned_abs level)) }
     ensures from { IfOk result (λ next. next.from ≡ pair_after (unsigned_abs level)) }
 {
-    let size = level.unsigned_abs();
-    if size == 0 {
+    let magnitude = level.unsigned_abs();
+    if magnitude == 0 {
         write_front(row, from, false, e)?;
         return Ok(Next {
             context: 0,
             from: 2,
         });
     }
-    if size == 1 {
+    if magnitude == 1 {
         write_front(row, from, true, e)?;
         e.write_pair(false, row[2], level < 0, 128)?;
         return Ok(Next {

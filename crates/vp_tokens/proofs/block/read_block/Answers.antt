@@ -43,7 +43,7 @@ pub loop-i-preserved : goal.loop-i-preserved
 loop-i-preserved c =
     let l = c.loop-i in
     let t = c.nonzero-token in
-    let m = c.read_size-size in
+    let m = c.read_magnitude-magnitude in
     let r = c.read_signed in
     let next = found_at c.in-Some.next in
     let fits : SFits w16 r.result = search rules in

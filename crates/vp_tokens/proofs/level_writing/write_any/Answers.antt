@@ -15,6 +15,6 @@ pub returns : goal.returns
 returns c =
     let fits : SFits w16 c.args.level = search rules in
     let same = to_z-of_z w16 c.args.level fits in
-    let u = rw same at c.unsigned_abs-size.ensures.value in
+    let u = rw same at c.unsigned_abs-magnitude.ensures.value in
     let sign = rw (same, ← u) at c.in_ok-write_signed.ensures in
-    any_level _ c.token_of-token.result c.unsigned_abs-size.result c.args.level u c.token_of-token.ensures.goes_on c.in_ok-write_walk.ensures c.in_ok-write_size.ensures sign
+    any_level _ c.token_of-token.result c.unsigned_abs-magnitude.result c.args.level u c.token_of-token.ensures.goes_on c.in_ok-write_walk.ensures c.in_ok-write_magnitude.ensures sign

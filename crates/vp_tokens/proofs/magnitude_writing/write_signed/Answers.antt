@@ -3,7 +3,7 @@ use Rattle.std.proofs.lemmas.Int.{ints, to_z-of_z}
 use mir.Syntax.{w16}
 use mir.Val.{SFits}
 use Rattle.vp_tokens.proofs.WritingLemmas.{sign_written, sign_unwritten}
-use Rattle.vp_tokens.proofs.size_writing.write_signed.Goals as goal
+use Rattle.vp_tokens.proofs.magnitude_writing.write_signed.Goals as goal
 
 pub returns-then-level-eq0 : goal.returns-then-level-eq0
 returns-then-level-eq0 c = sign_unwritten _ _ (let e : c.args.level ≡ pos 0 = omega (arith, ints) in e)

@@ -1,13 +1,13 @@
 //! Reading the extra bits and the sign of a level.
 
 ghost use Rattle.std.specs.Prelude.{◌≡◌, ◌≤◌, ◌<◌, ◌^◌, length, unsigned_abs};
-ghost use Rattle.vp_tables.specs.Tables.{least_size};
-ghost use Rattle.vp_tokens.specs.Levels.{bits, size, signed_level};
+ghost use Rattle.vp_tables.specs.Tables.{least_magnitude};
+ghost use Rattle.vp_tokens.specs.Levels.{bits, magnitude, signed_level};
 ghost use Rattle.vp_tokens.specs.Pieces.{context_after};
 ghost use Rattle.vp_tokens.specs.Walks.{context_after_token};
 
 use vp_bool::BoolDecoder;
-use vp_tables::{Token, extra_probabilities, least_size};
+use vp_tables::{Token, extra_probabilities, least_magnitude};
 
 /// Reads a number of one bit for each probability, most significant first.
 #[inline(always)]
@@ -26,23 +26,23 @@ fn read_bits(probabilities: &[u8], d: &mut BoolDecoder) -> u16
 
 /// Reads the magnitude of a token that has extra bits.
 #[inline(always)]
-#[tactic(auto, unfolding(crate::specs::Levels::size, vp_bool::specs::Reader::bind))]
+#[tactic(auto, unfolding(crate::specs::Levels::magnitude, vp_bool::specs::Reader::bind))]
 fn read_category(token: Token, d: &mut BoolDecoder) -> u16
-    ensures value { result ≡ (size token d.old).0 }
-    ensures rest { d.new ≡ (size token d.old).1 }
+    ensures value { result ≡ (magnitude token d.old).0 }
+    ensures rest { d.new ≡ (magnitude token d.old).1 }
     ensures small { result ≤ 2114 }
-    ensures least { least_size token ≤ result }
+    ensures least { least_magnitude token ≤ result }
 {
     let extra = read_bits(extra_probabilities(token), d);
-    least_size(token) + extra
+    least_magnitude(token) + extra
 }
 
 /// Reads the magnitude of a token.
 #[inline(always)]
-#[tactic(auto, unfolding(crate::specs::Levels::size, crate::specs::Levels::bits, vp_tables::specs::Tables::least_size, vp_tables::specs::Tables::extra_probabilities, vp_bool::specs::Reader::bind))]
-pub(crate) fn read_size(token: Token, d: &mut BoolDecoder) -> u16
-    ensures value { result ≡ (size token d.old).0 }
-    ensures rest { d.new ≡ (size token d.old).1 }
+#[tactic(auto, unfolding(crate::specs::Levels::magnitude, crate::specs::Levels::bits, vp_tables::specs::Tables::least_magnitude, vp_tables::specs::Tables::extra_probabilities, vp_bool::specs::Reader::bind))]
+pub(crate) fn read_magnitude(token: Token, d: &mut BoolDecoder) -> u16
+    ensures value { result ≡ (magnitude token d.old).0 }
+    ensures rest { d.new ≡ (magnitude token d.old).1 }
     ensures small { result ≤ 2114 }
     ensures context { context_after_token token ≡ context_after result }
 {
@@ -78,18 +78,18 @@ pub(crate) fn context_after_token(token: Token) -> usize
 /// Reads the sign of a magnitude, unless it is 0, and returns the level.
 #[inline(always)]
 #[tactic(auto, unfolding(crate::specs::Levels::signed_level, vp_bool::specs::Reader::bind))]
-pub(crate) fn read_signed(size: u16, d: &mut BoolDecoder) -> i16
-    requires { size ≤ 2114 }
-    ensures value { result ≡ (signed_level size d.old).0 }
-    ensures rest { d.new ≡ (signed_level size d.old).1 }
+pub(crate) fn read_signed(magnitude: u16, d: &mut BoolDecoder) -> i16
+    requires { magnitude ≤ 2114 }
+    ensures value { result ≡ (signed_level magnitude d.old).0 }
+    ensures rest { d.new ≡ (signed_level magnitude d.old).1 }
     ensures within { unsigned_abs result ≤ 2114 }
 {
-    if size == 0 {
+    if magnitude == 0 {
         return 0;
     }
     if d.read_even() {
-        -(size as i16)
+        -(magnitude as i16)
     } else {
-        size as i16
+        magnitude as i16
     }
 }

@@ -2,12 +2,12 @@
 
 ghost use Rattle.std.specs.Prelude.{◌≡◌, ◌<◌, ◌≤◌, ◌^◌, length, unsigned_abs, OnOk};
 ghost use Rattle.vp_bool.specs.Writing.{Writes};
-ghost use Rattle.vp_tokens.specs.Levels.{bits, size, signed_level};
+ghost use Rattle.vp_tokens.specs.Levels.{bits, magnitude, signed_level};
 ghost use Rattle.vp_tokens.specs.Written.{IsTokenOf};
 
 use std::alloc::AllocError;
 use vp_bool::BoolEncoder;
-use vp_tables::{CATEGORY_BASES, Token, extra_probabilities, least_size};
+use vp_tables::{CATEGORY_BASES, Token, extra_probabilities, least_magnitude};
 
 /// Writes a number of one bit for each probability, most significant first.
 fn write_bits(value: u16, probabilities: &[u8], e: &mut BoolEncoder) -> Result<(), AllocError>
@@ -25,7 +25,7 @@ fn write_bits(value: u16, probabilities: &[u8], e: &mut BoolEncoder) -> Result<(
 
 /// The token of a magnitude.
 #[inline(always)]
-#[tactic(auto, unfolding(vp_tables::specs::Tables::least_size, vp_tables::specs::Tables::extra_probabilities))]
+#[tactic(auto, unfolding(vp_tables::specs::Tables::least_magnitude, vp_tables::specs::Tables::extra_probabilities))]
 pub(crate) fn token_of(value: u16) -> Token
     requires { value ≤ 2114 }
     ensures { IsTokenOf result value }
@@ -47,9 +47,13 @@ pub(crate) fn token_of(value: u16) -> Token
 
 /// Writes the extra bits of a magnitude.
 #[inline(always)]
-pub(crate) fn write_size(token: Token, value: u16, e: &mut BoolEncoder) -> Result<(), AllocError>
+pub(crate) fn write_magnitude(
+    token: Token,
+    value: u16,
+    e: &mut BoolEncoder,
+) -> Result<(), AllocError>
     requires { IsTokenOf token value }
-    ensures { OnOk result (Writes (size token) e.old e.new value) }
+    ensures { OnOk result (Writes (magnitude token) e.old e.new value) }
 {
     if value < CATEGORY_BASES[0] {
         return Ok(());
@@ -60,12 +64,16 @@ pub(crate) fn write_size(token: Token, value: u16, e: &mut BoolEncoder) -> Resul
 
 /// Writes the extra bits of a magnitude, as many as its token has.
 #[inline(never)]
-#[tactic(auto, unfolding(crate::specs::Levels::size))]
+#[tactic(auto, unfolding(crate::specs::Levels::magnitude))]
 fn write_category(token: Token, value: u16, e: &mut BoolEncoder) -> Result<(), AllocError>
     requires { IsTokenOf token value }
-    ensures { OnOk result (Writes (size token) e.old e.new value) }
+    ensures { OnOk result (Writes (magnitude token) e.old e.new value) }
 {
-    write_bits(value - least_size(token), extra_probabilities(token), e)?;
+    write_bits(
+        value - least_magnitude(token),
+        extra_probabilities(token),
+        e,
+    )?;
     Ok(())
 }
 

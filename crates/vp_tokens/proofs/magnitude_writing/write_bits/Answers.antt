@@ -2,7 +2,7 @@ use Rattle.std.proofs.Common.{◌≡◌, ◌+◌, ◌-◌, ◌/◌, ◌^◌, suc
 use Rattle.std.proofs.Math.Nat.{sub-zero, div-eq_of_lt}
 use Rattle.vp_bool.proofs.WritingLemmas.{Continues-none, Continues-then}
 use Rattle.vp_tokens.proofs.WritingLemmas.{next_bit, bits_written, bits_end}
-use Rattle.vp_tokens.proofs.size_writing.write_bits.Goals as goal
+use Rattle.vp_tokens.proofs.magnitude_writing.write_bits.Goals as goal
 
 pub loop-i-init : goal.loop-i-init
 loop-i-init c =

@@ -2,7 +2,7 @@ use Rattle.std.proofs.Common.{◌∙◌, ◌++◌, ap}
 use Rattle.vp_motion.specs.Vector.{MacroblockMotion}
 use Rattle.vp_motion.specs.Near.{candidates, clamped_vector, neighbours, split_count, weighted_neighbour}
 use Rattle.vp_motion.proofs.FirstTwo.{chosen, entries_are_chosen}
-use Rattle.vp_motion.proofs.candidates.nearby.Goals as goal
+use Rattle.vp_motion.proofs.candidates.count_neighbours.Goals as goal
 
 pub returns-clause-value : goal.returns-clause-value
 unfolding candidates neighbours
