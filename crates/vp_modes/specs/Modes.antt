@@ -36,8 +36,8 @@ segment_of h kept = when h.segmentation.update_map (walk_from 0 SEGMENT_TREE h.s
 abbrev pub skip_by : Option ℕ → Reader Bool
 skip_by p = option_map_or read p (give false)
 
--- the reference frame of an inter macroblock: last (`mb_ref_frame_sel1`), golden or altref (`mb_ref_frame_sel2`, chapter
--- 16.2)
+-- the reference frame of an inter macroblock: last (`mb_ref_frame_sel1`), golden or altref (`mb_ref_frame_sel2`,
+-- chapter 16.2)
 unfoldable pub inter_reference : ReferenceProbabilities → Reader Reference
 inter_reference p = do
   far ← read p.last

@@ -19,8 +19,8 @@ pub trait ModeGrid {
         ensures value { result ≡ (at plain (grid self.now) place).segment }
         ensures small { result < 4 };
 
-    /// Returns the mode of subblock `k`, 0 to 15, of the macroblock at a place, as a context of other subblocks (chapter
-    /// 11.3).
+    /// Returns the mode of subblock `k`, 0 to 15, of the macroblock at a place, as other subblocks see it: their
+    /// context (chapter 11.3).
     fn sub_mode(&self, place: Place, k: usize) -> SubMode
         requires place { Has (grid self.now) place }
         requires sub { k < 16 }

@@ -92,17 +92,8 @@ impl ModeMap {
     pub fn of_segments(alloc: Global, segments: &Grid<Segment>) -> Result<ModeMap, AllocError>
         ensures { IfOk result (λ m. m ≡ of_segments segments.now) }
     {
-        ModeMap::empty(alloc).refill_of(segments)
-    }
-
-    /// Resets the map to `of_segments(segments)`. Allocates only if its buffer is too small.
-    pub fn refill_of(self, segments: &Grid<Segment>) -> Result<ModeMap, AllocError>
-        ensures { IfOk result (λ m. m ≡ of_segments segments.now) }
-    {
         let kept = segments.as_slice();
-        let mut entries = self.grid.into_entries();
-        entries.truncate(0);
-        entries.reserve(kept.len())?;
+        let mut entries = Vec::with_capacity(alloc, kept.len())?;
         for segment in kept {
             entries.push_reserved(plain_of(*segment));
         }
@@ -114,17 +105,8 @@ impl ModeMap {
     pub fn segments(&self, alloc: Global) -> Result<Grid<Segment>, AllocError>
         ensures { IfOk result (λ g. g ≡ segments_of self.now) }
     {
-        self.segments_in(Grid::empty(alloc))
-    }
-
-    /// Stores the segments of the macroblocks in the buffer of `room`. Allocates only if it is too small.
-    pub fn segments_in(&self, room: Grid<Segment>) -> Result<Grid<Segment>, AllocError>
-        ensures { IfOk result (λ g. g ≡ segments_of self.now) }
-    {
         let entries = self.grid.as_slice();
-        let mut segments = room.into_entries();
-        segments.truncate(0);
-        segments.reserve(entries.len())?;
+        let mut segments = Vec::with_capacity(alloc, entries.len())?;
         for modes in entries {
             segments.push_reserved(Segment {
                 number: modes.segment,

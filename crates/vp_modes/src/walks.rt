@@ -1,6 +1,6 @@
 //! Reading the leaves of the mode trees (RFC 6386, chapter 8.1). The walks are unrolled, each pair of a tree an `if`: a
-//! loop over the table of a tree takes some 20 instructions more for each bool. They are inlined: a decoder that is lent
-//! to a function stays in registers in none of a row's macroblocks, which costs 40 instructions for each.
+//! loop over the table of a tree takes some 20 instructions more for each bool. They are inlined: a decoder that is
+//! lent to a function stays in registers in none of a row's macroblocks, which costs 40 instructions for each.
 
 ghost use Rattle.std.specs.Prelude.{◌≡◌};
 ghost use Rattle.vp_tree.specs.Tree.{walk_from};

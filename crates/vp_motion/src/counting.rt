@@ -70,7 +70,8 @@ fn two(zeros: u8, first: Weighted, second: Weighted) -> NeighbourCount
 #[inline(always)]
 fn corner_after_none(zeros: u8, corner: Option<PackedVector>) -> NeighbourCount
     requires { zeros ≤ 4 }
-    ensures value { Counts result (zeros + still_weight (weighted_vector 1 corner)) (runs (moving (weighted_vector 1 corner))) }
+    ensures value { Counts result (zeros + still_weight (weighted_vector 1 corner))
+        (runs (moving (weighted_vector 1 corner))) }
     ensures light { AreLight result }
 {
     let Some(vector) = corner else {
@@ -193,7 +194,8 @@ fn left_after_one(
     corner: Option<PackedVector>,
 ) -> NeighbourCount
     ensures value { Counts result (still_weight (weighted_vector 2 left ++ weighted_vector 1 corner))
-        (onto (record { vector = above; weight = 2 }) (runs (moving (weighted_vector 2 left ++ weighted_vector 1 corner)))) }
+        (onto (record { vector = above; weight = 2 })
+        (runs (moving (weighted_vector 2 left ++ weighted_vector 1 corner)))) }
     ensures light { AreLight result }
 {
     let first = Weighted {

@@ -1,5 +1,5 @@
 use Rattle.std.proofs.Common.{◌≡◌, ◌+◌, ◌-◌, ◌≤◌, length, map, take, vec_len, vec_capacity}
-use Rattle.vp_modes.proofs.map.ModeMap.segments_in.Given as goal
+use Rattle.vp_modes.proofs.map.ModeMap.segments.Given as goal
 
 abbrev pub invariant-loop-modes : goal.invariant-loop-modes
 invariant-loop-modes l = record {

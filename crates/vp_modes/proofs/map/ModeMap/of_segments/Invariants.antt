@@ -1,6 +1,6 @@
 use Rattle.std.proofs.Common.{◌≡◌, ◌+◌, ◌-◌, ◌≤◌, length, map, take, vec_len, vec_capacity}
 use Rattle.vp_modes.specs.Entry.{plain_of}
-use Rattle.vp_modes.proofs.map.ModeMap.refill_of.Given as goal
+use Rattle.vp_modes.proofs.map.ModeMap.of_segments.Given as goal
 
 abbrev pub invariant-loop-segment : goal.invariant-loop-segment
 invariant-loop-segment l = record {
