@@ -335,7 +335,7 @@ def has_token(b): return b.end > 0
 def bands_of(probabilities, kind): return probabilities[("LumaAfterY2", "Y2", "Chroma", "Luma").index(kind)]
 def first_of(kind): return 1 if kind == "LumaAfterY2" else 0
 def bits(high, ps, s): return functools.reduce(lambda high, p: 2 * high + read(p, s), ps, high)
-def magnitude(token_, s): return LEAST_MAGNITUDE[token_] + bits(0, EXTRA_PROBABILITIES.get(token_, []), s)
+def level_magnitude(token_, s): return LEAST_MAGNITUDE[token_] + bits(0, EXTRA_PROBABILITIES.get(token_, []), s)
 def signed_level(n, s): return -n if n != 0 and read(128, s) else n
 def token(bands, i, context_, from_, s): return walk_from(T.TOKEN_TREE, bands[T.BANDS[i]][context_], from_, s)
 def levels(bands, i, context_, from_, s):
@@ -343,7 +343,7 @@ def levels(bands, i, context_, from_, s):
     for position in range(i, 16):
         t = token(bands, position, context_, from_, s)
         if t == "EndOfBlock": break
-        n = magnitude(t, s)
+        n = level_magnitude(t, s)
         found.append(signed_level(n, s))
         context_, from_ = min(n, 2), 2 if n == 0 else 0
     return found

@@ -20,7 +20,7 @@ use Rattle.vp_head.specs.Header.{segment_values, tree_probabilities, segmentatio
 use Rattle.vp_modes.specs.Modes.{segment_of, skip_by, inter_reference, reference_of, luma_mode, chroma_mode, sub_row, sub_modes, intra_modes, modes_at}
 use Rattle.vp_motion.specs.Vector.{Vector, MacroblockMotion, Candidates}
 use Rattle.vp_motion.specs.Motion.{with_bit, long_size, component_magnitude, component, vector, new_vector, part_by, part_vector, part_row, split_vectors, vector_mode, vectors_by, motion_by, motion_at}
-use Rattle.vp_tokens.specs.Levels.{Probabilities, bits, magnitude, signed_level, token, levels, coefficient_block}
+use Rattle.vp_tokens.specs.Levels.{Probabilities, bits, level_magnitude, signed_level, token, levels, coefficient_block}
 use Rattle.vp_tokens.specs.Blocks.{Blocks, block_at, macroblock}
 use Rattle.vp_decode.specs.Frame.{FrameInfo}
 use Rattle.vp_decode.specs.TokenRows.{tokens_at, seen_read, row_seen}
@@ -148,7 +148,7 @@ by_signed_level zero = search by_parts
 by_signed_level (suc n) = search by_parts
 
 by_levels : (bands : List (List (List ℕ))) (n i context from : ℕ) → ReadsBools (levels bands n i context from)
-unfolding levels token magnitude
+unfolding levels token level_magnitude
 by_levels bands zero i context from = search by_parts
 by_levels bands (suc n) i context from = let more = by_levels bands n in search (by_parts, by_bits, by_signed_level, more) depth 20
 

@@ -7,7 +7,7 @@ use Rattle.vp_bool.specs.Writing.{Writes}
 use Rattle.vp_tables.specs.declared.modes.Token.{Token}
 use Rattle.vp_tables.specs.declared.modes.Token.TheVariants.{Zero, One}
 use Rattle.vp_tables.specs.Tables.{least_magnitude, extra_probabilities}
-use Rattle.vp_tokens.specs.Levels.{is_end, magnitude, signed_level}
+use Rattle.vp_tokens.specs.Levels.{is_end, level_magnitude, signed_level}
 use Rattle.vp_tokens.specs.Written.{IsTokenOf, IsLevelWritten}
 use Rattle.vp_tokens.proofs.WritingLemmas.{size_unwritten, sign_unwritten}
 use Rattle.vp_tokens.proofs.BlockWriting.{abs_zero}
@@ -22,7 +22,7 @@ one_is = record { goes_on = refl; least = omega arith; extra = omega arith }
 
 module _ (m : Reader Token) where
   pub any_level : (t : Token) (n : ℕ) (z : ℤ) {old mid later new : Interval} → n ≡ unsigned_abs z → is_end t ≡ false → Writes m old mid t
-      → Writes (magnitude t) mid later n → Writes (signed_level n) later new z → IsLevelWritten m (unsigned_abs z) z old new
+      → Writes (level_magnitude t) mid later n → Writes (signed_level n) later new z → IsLevelWritten m (unsigned_abs z) z old new
   any_level t n z {mid = mid} {later = later} e going wt ws wl =
       record { what = t; goes_on = going; mid = mid; later = later; token = wt; magnitude = rw e at ws; sign = rw e at wl }
 

@@ -16,7 +16,7 @@ use Rattle.vp_tables.specs.declared.trees.TheConstants.{TOKEN_TREE}
 use Rattle.std.proofs.lemmas.List.{get_or_append_left, get_or-append-add, get_or-set_same, get_or-set_other, set_past, length-replicate}
 use Rattle.vp_tokens.specs.declared.block.BlockKind.{BlockKind}
 use Rattle.vp_tokens.specs.Block.{Block, no_tokens}
-use Rattle.vp_tokens.specs.Levels.{Probabilities, bands_of, first_of, token, is_end, row, magnitude, signed_level, levels, block_with, coefficient_block}
+use Rattle.vp_tokens.specs.Levels.{Probabilities, bands_of, first_of, token, is_end, row, level_magnitude, signed_level, levels, block_with, coefficient_block}
 use Rattle.vp_tokens.specs.Pieces.{context_after, pair_after, all_blocks}
 use Rattle.vp_tokens.specs.Blocks.{kind_of, is_there, block_at, no_blocks}
 use Rattle.vp_tokens.specs.Contexts.{had_of}
@@ -110,11 +110,11 @@ unfolding levels reader.bind
 levels-end_of_block bands zero i context from s = record { ends = λ short some. absurd (omega arith); goes = λ two some. absurd (omega arith) }
 levels-end_of_block bands (suc n) i context from s =
     let r = token bands i context from s in
-    let m = magnitude r.0 r.1 in
+    let m = level_magnitude r.0 r.1 in
     let l = signed_level m.0 m.1 in
     let o = levels-end_of_block bands n (i + 1) (context_after m.0) (pair_after m.0) l.1 in
     ended_or (is_end r.0)
-    (λ u. let m' = magnitude r.0 u in let l' = signed_level m'.0 m'.1 in let o' = levels bands n (i + 1) (context_after m'.0) (pair_after m'.0) l'.1 in (l'.0 ∷ o'.0, o'.1))
+    (λ u. let m' = level_magnitude r.0 u in let l' = signed_level m'.0 m'.1 in let o' = levels bands n (i + 1) (context_after m'.0) (pair_after m'.0) l'.1 in (l'.0 ∷ o'.0, o'.1))
     (suc n) from r.1
     (λ two. rw two (no_end bands i context s))
     (level_ended n from m.0 l.0 _ (sign_kept m.0 m.1) o)

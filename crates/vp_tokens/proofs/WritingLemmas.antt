@@ -16,7 +16,7 @@ use Rattle.vp_bool.proofs.WritingLemmas.{Writes-then, Continues-none, Continues-
 use Rattle.vp_tables.specs.declared.modes.Token.{Token}
 use Rattle.vp_tables.specs.declared.modes.Token.TheVariants as token_is
 use Rattle.vp_tables.specs.Tables.{least_magnitude, extra_probabilities}
-use Rattle.vp_tokens.specs.Levels.{bits, magnitude, signed_level}
+use Rattle.vp_tokens.specs.Levels.{bits, level_magnitude, signed_level}
 use Rattle.vp_tokens.specs.Written.{IsTokenOf}
 
 -- ---- bits
@@ -43,12 +43,12 @@ unfolding bits
 bits_end v w i ps old le same = rw (drop_all i ps le) (Continues-given same old)
 
 -- a magnitude that is its token's only one
-only_size : (t : Token) (v : ℕ) (old : Interval) → extra_probabilities t ≡ [] → least_magnitude t ≡ v → Writes (magnitude t) old old v
-unfolding magnitude bits
+only_size : (t : Token) (v : ℕ) (old : Interval) → extra_probabilities t ≡ [] → least_magnitude t ≡ v → Writes (level_magnitude t) old old v
+unfolding level_magnitude bits
 only_size t v old none same = rw none (Writes-then _ (Continues-none _ old) (Continues-given (rw same (omega arith)) old))
 
 -- magnitudes below 5 have no extra bits
-pub size_unwritten : (t : Token) (v : ℕ) (old : Interval) → IsTokenOf t v → v < 5 → Writes (magnitude t) old old v
+pub size_unwritten : (t : Token) (v : ℕ) (old : Interval) → IsTokenOf t v → v < 5 → Writes (level_magnitude t) old old v
 unfolding least_magnitude extra_probabilities
 size_unwritten token_is.EndOfBlock v old is small = absurd (let on = is.goes_on in cc)
 size_unwritten token_is.Zero v old is small = only_size token_is.Zero v old refl (omega (arith, is.least, is.extra))

@@ -12,7 +12,7 @@ use Rattle.vp_tables.specs.Tables.{least_magnitude, extra_probabilities}
 use Rattle.vp_tree.specs.Tree.{walk_from}
 use Rattle.vp_tables.specs.declared.trees.TheConstants.{TOKEN_TREE}
 use Rattle.vp_tokens.specs.Block.{Block, level_of, IsBlock}
-use Rattle.vp_tokens.specs.Levels.{bits, magnitude, signed_level, token, is_end, row}
+use Rattle.vp_tokens.specs.Levels.{bits, level_magnitude, signed_level, token, is_end, row}
 use Rattle.vp_tokens.specs.Pieces.{context_after, pair_after}
 use Rattle.vp_tokens.specs.Walks.{one_of, categories_3_6, any_category, two_to_four, above_one, nonzero, more, end_of_block, is_nonzero}
 use Rattle.vp_tokens.specs.Zeros.{NonzeroAt, zeros}
@@ -93,8 +93,8 @@ least token_is.Category4 h = omega arith
 least token_is.Category5 h = omega arith
 least token_is.Category6 h = omega arith
 
-large : (t : Token) (s : State) → is_nonzero t ≡ true → 1 ≤ (magnitude t s).0
-unfolding magnitude reader.bind
+large : (t : Token) (s : State) → is_nonzero t ≡ true → 1 ≤ (level_magnitude t s).0
+unfolding level_magnitude reader.bind
 large t s h = omega (arith, least t h)
 
 -- after it, the end of block may be coded
@@ -109,13 +109,13 @@ module _ (bands : List (List (List ℕ))) where
   from_nonzero levels None = give (record { levels = levels; end = 16 })
   from_nonzero levels (Some next) = do
     t ← nonzero next.row
-    s ← magnitude t
+    s ← level_magnitude t
     level ← signed_level s
     tokens_from bands (16 - (next.position + 1)) (next.position + 1) (context_after s) 0 (record { levels = slice_set levels next.position level; end = next.position + 1 })
 
   abbrev after : ℕ → ℕ → Block → Token → Reader Block
   after n i b t = if is_end t then give b else (do
-    s ← magnitude t
+    s ← level_magnitude t
     level ← signed_level s
     tokens_from bands n (i + 1) (context_after s) (pair_after s) (record { levels = slice_set b.levels i level; end = i + 1 }))
 
@@ -130,11 +130,11 @@ module _ (bands : List (List (List ℕ))) where
       let t = nonzero (row bands i context) u in
       let here = in_nonzero (row bands i context) u in
       let left : n ≡ 16 - (i + 1) = omega arith in
-      rw (goes_on t.0 here, first_pair (magnitude t.0 t.1).0 (large t.0 t.1 here), left) refl
+      rw (goes_on t.0 here, first_pair (level_magnitude t.0 t.1).0 (large t.0 t.1 here), left) refl
 
   after-zero : (n i : ℕ) (b : Block) (u : State) → level_of b i ≡ pos 0
       → after n i b token_is.Zero u ≡ tokens_from bands n (i + 1) 0 2 (record { levels = b.levels; end = i + 1 }) u
-  unfolding reader.bind magnitude bits signed_level least_magnitude extra_probabilities
+  unfolding reader.bind level_magnitude bits signed_level least_magnitude extra_probabilities
   after-zero n i b u none =
       let same : slice_set b.levels i (pos 0) ≡ b.levels = ap (λ (z : ℤ). slice_set b.levels i z) (sym none) ∙ set-get_or b.levels i (pos 0) in
       ap (λ (levels : List ℤ). tokens_from bands n (i + 1) 0 2 (record { levels = levels; end = i + 1 }) u) same
@@ -213,7 +213,7 @@ module _ (bands : List (List (List ℕ))) where
   all_zeros levels u = refl
 
   pub nonzero-read : (levels : List ℤ) (next : NonzeroAt) (n : ℕ) (t : Token) (level : ℤ) (s u v w : State) → t ≡ (nonzero next.row s).0 → u ≡ (nonzero next.row s).1
-      → n ≡ (magnitude t u).0 → v ≡ (magnitude t u).1 → level ≡ (signed_level n v).0 → w ≡ (signed_level n v).1
+      → n ≡ (level_magnitude t u).0 → v ≡ (level_magnitude t u).1 → level ≡ (signed_level n v).0 → w ≡ (signed_level n v).1
       → from_nonzero levels (Some next) s
       ≡ tokens_from bands (16 - (next.position + 1)) (next.position + 1) (context_after n) 0 (record { levels = slice_set levels next.position level; end = next.position + 1 }) w
   unfolding from_nonzero reader.bind

@@ -6,7 +6,7 @@ use Rattle.vp_bool.specs.Writing.{Writes}
 use Rattle.vp_tables.specs.declared.modes.Token.{Token}
 use Rattle.vp_tables.specs.Tables.{least_magnitude, extra_probabilities}
 use Rattle.vp_tokens.specs.Block.{Block, no_tokens}
-use Rattle.vp_tokens.specs.Levels.{is_end, magnitude, signed_level}
+use Rattle.vp_tokens.specs.Levels.{is_end, level_magnitude, signed_level}
 
 -- The token encodes magnitude s: its extra bits encode the difference between s and its least magnitude.
 pub record IsTokenOf (t : Token) (s : ℕ) : Type 0 where
@@ -21,7 +21,7 @@ pub record IsLevelWritten (m : Reader Token) (n : ℕ) (level : ℤ) (old new : 
   pub mid : Interval
   pub later : Interval
   pub token : Writes m old mid what
-  pub magnitude : Writes (magnitude what) mid later n
+  pub magnitude : Writes (level_magnitude what) mid later n
   pub sign : Writes (signed_level n) later new level
 
 -- the first n items, and other for each later one

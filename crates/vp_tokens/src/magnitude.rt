@@ -2,7 +2,7 @@
 
 ghost use Rattle.std.specs.Prelude.{◌≡◌, ◌≤◌, ◌<◌, ◌^◌, length, unsigned_abs};
 ghost use Rattle.vp_tables.specs.Tables.{least_magnitude};
-ghost use Rattle.vp_tokens.specs.Levels.{bits, magnitude, signed_level};
+ghost use Rattle.vp_tokens.specs.Levels.{bits, level_magnitude, signed_level};
 ghost use Rattle.vp_tokens.specs.Pieces.{context_after};
 ghost use Rattle.vp_tokens.specs.Walks.{context_after_token};
 
@@ -26,10 +26,10 @@ fn read_bits(probabilities: &[u8], d: &mut BoolDecoder) -> u16
 
 /// Reads the magnitude of a token that has extra bits.
 #[inline(always)]
-#[tactic(auto, unfolding(crate::specs::Levels::magnitude, vp_bool::specs::Reader::bind))]
+#[tactic(auto, unfolding(crate::specs::Levels::level_magnitude, vp_bool::specs::Reader::bind))]
 fn read_category(token: Token, d: &mut BoolDecoder) -> u16
-    ensures value { result ≡ (magnitude token d.old).0 }
-    ensures rest { d.new ≡ (magnitude token d.old).1 }
+    ensures value { result ≡ (level_magnitude token d.old).0 }
+    ensures rest { d.new ≡ (level_magnitude token d.old).1 }
     ensures small { result ≤ 2114 }
     ensures least { least_magnitude token ≤ result }
 {
@@ -39,10 +39,10 @@ fn read_category(token: Token, d: &mut BoolDecoder) -> u16
 
 /// Reads the magnitude of a token.
 #[inline(always)]
-#[tactic(auto, unfolding(crate::specs::Levels::magnitude, crate::specs::Levels::bits, vp_tables::specs::Tables::least_magnitude, vp_tables::specs::Tables::extra_probabilities, vp_bool::specs::Reader::bind))]
+#[tactic(auto, unfolding(crate::specs::Levels::level_magnitude, crate::specs::Levels::bits, vp_tables::specs::Tables::least_magnitude, vp_tables::specs::Tables::extra_probabilities, vp_bool::specs::Reader::bind))]
 pub(crate) fn read_magnitude(token: Token, d: &mut BoolDecoder) -> u16
-    ensures value { result ≡ (magnitude token d.old).0 }
-    ensures rest { d.new ≡ (magnitude token d.old).1 }
+    ensures value { result ≡ (level_magnitude token d.old).0 }
+    ensures rest { d.new ≡ (level_magnitude token d.old).1 }
     ensures small { result ≤ 2114 }
     ensures context { context_after_token token ≡ context_after result }
 {

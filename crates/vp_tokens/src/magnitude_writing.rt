@@ -2,7 +2,7 @@
 
 ghost use Rattle.std.specs.Prelude.{◌≡◌, ◌<◌, ◌≤◌, ◌^◌, length, unsigned_abs, OnOk};
 ghost use Rattle.vp_bool.specs.Writing.{Writes};
-ghost use Rattle.vp_tokens.specs.Levels.{bits, magnitude, signed_level};
+ghost use Rattle.vp_tokens.specs.Levels.{bits, level_magnitude, signed_level};
 ghost use Rattle.vp_tokens.specs.Written.{IsTokenOf};
 
 use std::alloc::AllocError;
@@ -53,7 +53,7 @@ pub(crate) fn write_magnitude(
     e: &mut BoolEncoder,
 ) -> Result<(), AllocError>
     requires { IsTokenOf token value }
-    ensures { OnOk result (Writes (magnitude token) e.old e.new value) }
+    ensures { OnOk result (Writes (level_magnitude token) e.old e.new value) }
 {
     if value < CATEGORY_BASES[0] {
         return Ok(());
@@ -64,10 +64,10 @@ pub(crate) fn write_magnitude(
 
 /// Writes the extra bits of a magnitude, as many as its token has.
 #[inline(never)]
-#[tactic(auto, unfolding(crate::specs::Levels::magnitude))]
+#[tactic(auto, unfolding(crate::specs::Levels::level_magnitude))]
 fn write_category(token: Token, value: u16, e: &mut BoolEncoder) -> Result<(), AllocError>
     requires { IsTokenOf token value }
-    ensures { OnOk result (Writes (magnitude token) e.old e.new value) }
+    ensures { OnOk result (Writes (level_magnitude token) e.old e.new value) }
 {
     write_bits(
         value - least_magnitude(token),
