@@ -26,7 +26,7 @@ use crate::luma::{IntraLuma, choose_luma_below};
 use crate::motion::{Moved, coded_motion};
 use vp_base::{Picture, Place};
 use vp_head::Reference;
-use vp_inter::{chroma_vector, luma_vector, predict_block8, predict_block16};
+use vp_inter::{chroma_vector, luma_vector, predict_block};
 use vp_modes::Modes;
 use vp_motion::{Motion, Vector, VectorMap};
 use vp_recon::MacroblockPixels;
@@ -99,11 +99,11 @@ fn inter_prediction(reference: &Picture, place: Place, vector: QuarterVector) ->
     let [x, y] = [8 * place.column, 8 * place.row];
     let QuarterVector { row, column } = vector;
     let vector = chroma_vector(VERSION, &[row; 4], &[column; 4]);
-    let u = predict_block8(reference.plane(1), x, y, vector, VERSION);
-    let v = predict_block8(reference.plane(2), x, y, vector, VERSION);
+    let u = predict_block::<8, 64>(reference.plane(1), x, y, vector, VERSION);
+    let v = predict_block::<8, 64>(reference.plane(2), x, y, vector, VERSION);
     let vector = luma_vector(row, column);
     let [x, y] = [16 * place.column, 16 * place.row];
-    let luma = predict_block16(reference.plane(0), x, y, vector, VERSION);
+    let luma = predict_block::<16, 256>(reference.plane(0), x, y, vector, VERSION);
     MacroblockPixels { luma, u, v }
 }
 

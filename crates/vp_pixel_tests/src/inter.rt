@@ -6,10 +6,7 @@ use crate::check::equal;
 use std::alloc::Global;
 use std::process::Abort;
 use vp_base::{Dim, Limits, Picture, Plane};
-use vp_inter::{
-    PlaneVector, chroma_vector, luma_vector, predict_block4, predict_block8, predict_block16,
-    predict_into4, predict_into8, predict_into16,
-};
+use vp_inter::{PlaneVector, chroma_vector, luma_vector, predict_block, predict_into};
 
 /// Sets three columns of a plane of 16 columns to 0.
 fn darken(plane: &mut Plane) {
@@ -27,10 +24,10 @@ fn edge_pixels(plane: &Plane) -> Option<[u8; 4]> {
     }
     let quarter = luma_vector(0, 1);
     let turned = luma_vector(-400, 1 - 4000);
-    let six_taps = predict_block4(plane, 0, 0, quarter, 0)[2];
-    let bilinear = predict_block4(plane, 0, 0, quarter, 1)[2];
-    let large = predict_block16(plane, 0, 0, quarter, 0)[242];
-    let outside = predict_block8(plane, 8, 8, turned, 0)[63];
+    let six_taps = predict_block::<4, 16>(plane, 0, 0, quarter, 0)[2];
+    let bilinear = predict_block::<4, 16>(plane, 0, 0, quarter, 1)[2];
+    let large = predict_block::<16, 256>(plane, 0, 0, quarter, 0)[242];
+    let outside = predict_block::<8, 64>(plane, 8, 8, turned, 0)[63];
     Some([six_taps, bilinear, large, outside])
 }
 
@@ -167,9 +164,9 @@ fn differ(plane: &Plane, vector: PlaneVector, version: u8) -> bool
 {
     let rows = moved_rows(plane, vector, version);
     let down = weights(version, vector.row);
-    let large = predict_block16(plane, 16, 16, vector, version);
-    let middle = predict_block8(plane, 16, 16, vector, version);
-    let small = predict_block4(plane, 16, 16, vector, version);
+    let large = predict_block::<16, 256>(plane, 16, 16, vector, version);
+    let middle = predict_block::<8, 64>(plane, 16, 16, vector, version);
+    let small = predict_block::<4, 16>(plane, 16, 16, vector, version);
     !is_made_of(&large, 16, &rows, down)
         || !is_made_of(&middle, 8, &rows, down)
         || !is_made_of(&small, 4, &rows, down)
@@ -278,9 +275,9 @@ fn other_pixels(picture: &Picture, reference: &Plane, vector: PlaneVector) -> [O
     requires wide { 0 < reference.now.width }
     requires high { 0 < reference.now.height }
 {
-    let large = predict_block16(reference, 16, 16, vector, 0);
-    let middle = predict_block8(reference, 8, 8, vector, 0);
-    let small = predict_block4(reference, 8, 8, vector, 0);
+    let large = predict_block::<16, 256>(reference, 16, 16, vector, 0);
+    let middle = predict_block::<8, 64>(reference, 8, 8, vector, 0);
+    let small = predict_block::<4, 16>(reference, 8, 8, vector, 0);
     [
         other_of_plane(picture.plane(0), &large, 16, 16),
         other_of_plane(picture.plane(1), &middle, 8, 8),
@@ -303,9 +300,9 @@ fn others_of_written(
     requires rows { 48 ≤ dim.h }
 {
     let mut picture = Picture::new(alloc, dim, 7).expect(rt, "memory");
-    predict_into16(&mut picture, 0, 16, 16, reference, vector, 0);
-    predict_into8(&mut picture, 1, 8, 8, reference, vector, 0);
-    predict_into4(&mut picture, 2, 8, 8, reference, vector, 0);
+    predict_into::<16>(&mut picture, 0, 16, 16, reference, vector, 0);
+    predict_into::<8>(&mut picture, 1, 8, 8, reference, vector, 0);
+    predict_into::<4>(&mut picture, 2, 8, 8, reference, vector, 0);
     other_pixels(&picture, reference, vector)
 }
 

@@ -13,7 +13,7 @@ use crate::refinement::refine_found;
 use crate::searcher::Searcher;
 use crate::vector::{Found, QuarterVector, Refined, WholeVector, quarters};
 use vp_base::{Place, Plane};
-use vp_inter::{luma_vector, predict_block16};
+use vp_inter::{luma_vector, predict_block};
 
 /// Searches as `Searcher` does without sums and without a limit.
 pub fn search_block(block: &[u8; 256], reference: &Plane, place: Place, range: u8) -> Found
@@ -83,7 +83,7 @@ pub fn refine_block(
 {
     let [x, y] = [16 * place.column, 16 * place.row];
     let QuarterVector { row, column } = quarters(centre);
-    let prediction = predict_block16(reference, x, y, luma_vector(row, column), 0);
+    let prediction = predict_block::<16, 256>(reference, x, y, luma_vector(row, column), 0);
     let found = Found {
         vector: centre,
         cost: sad16(block, &prediction),

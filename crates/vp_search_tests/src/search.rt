@@ -7,7 +7,7 @@ use crate::check::equal;
 use std::alloc::Global;
 use std::process::Abort;
 use vp_base::{Place, Plane};
-use vp_inter::{luma_vector, predict_block16};
+use vp_inter::{luma_vector, predict_block};
 use vp_search::{
     Found, QuarterVector, Refined, Searcher, WholeVector, first_least, full_search, refine,
     refine_found, sad16, search_block, sse,
@@ -128,7 +128,7 @@ fn predict_middle(source: &mut Plane, reference: &Plane, row: i32, column: i32)
 {
     let is_wide = source.width() == 48 && reference.width() == 48;
     if is_wide && source.height() == 48 && reference.height() == 48 {
-        let block = predict_block16(reference, 16, 16, luma_vector(row, column), 0);
+        let block = predict_block::<16, 256>(reference, 16, 16, luma_vector(row, column), 0);
         source.write_block::<16>(16, 16, &block);
     }
 }
@@ -141,7 +141,7 @@ fn searched(reference: &Plane, row: i32, column: i32) -> Option<Refined>
         return None;
     }
     let place = Place { column: 1, row: 1 };
-    let block = predict_block16(reference, 16, 16, luma_vector(row, column), 0);
+    let block = predict_block::<16, 256>(reference, 16, 16, luma_vector(row, column), 0);
     let found = search_block(&block, reference, place, 8);
     Some(refine_found(&block, reference, place, found))
 }

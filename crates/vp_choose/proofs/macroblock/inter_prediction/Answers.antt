@@ -13,19 +13,19 @@ pub returns-clause-luma : goal.returns-clause-luma
 returns-clause-luma c e p are =
     let v : Vector = record { row = c.args.vector.row; column = c.args.vector.column } in
     let turned = rw (read v.row c.requires.short.0, read v.column c.requires.short.1) at c.luma_vector-vector.ensures in
-    moved_listed 4 c.args.reference.now.luma (16 * c.args.place.column) (16 * c.args.place.row) (luma_moved e) c.luma_vector-vector.result c.predict_block16-luma.result
-    (omega arith) (search rules) (λ k below. luma_is e v are k below ∙ sym turned) (rw c.plane-3.ensures at c.predict_block16-luma.ensures)
+    moved_listed 4 c.args.reference.now.luma (16 * c.args.place.column) (16 * c.args.place.row) (luma_moved e) c.luma_vector-vector.result c.predict_block-luma.result
+    (omega arith) (search rules) (λ k below. luma_is e v are k below ∙ sym turned) (rw c.plane-3.ensures at c.predict_block-luma.ensures)
 
 pub returns-clause-u : goal.returns-clause-u
 returns-clause-u c e p are =
     let v : Vector = record { row = c.args.vector.row; column = c.args.vector.column } in
     let turned = rw (read v.row c.requires.short.0, read v.column c.requires.short.1) at c.chroma_vector-vector.ensures in
-    moved_listed 2 c.args.reference.now.u (8 * c.args.place.column) (8 * c.args.place.row) (chroma_moved 0 e) c.chroma_vector-vector.result c.predict_block8-u.result
-    (omega arith) (search rules) (λ k below. chroma_is e v are k below ∙ sym turned) (rw c.plane.ensures at c.predict_block8-u.ensures)
+    moved_listed 2 c.args.reference.now.u (8 * c.args.place.column) (8 * c.args.place.row) (chroma_moved 0 e) c.chroma_vector-vector.result c.predict_block-u.result
+    (omega arith) (search rules) (λ k below. chroma_is e v are k below ∙ sym turned) (rw c.plane.ensures at c.predict_block-u.ensures)
 
 pub returns-clause-v : goal.returns-clause-v
 returns-clause-v c e p are =
     let v : Vector = record { row = c.args.vector.row; column = c.args.vector.column } in
     let turned = rw (read v.row c.requires.short.0, read v.column c.requires.short.1) at c.chroma_vector-vector.ensures in
-    moved_listed 2 c.args.reference.now.v (8 * c.args.place.column) (8 * c.args.place.row) (chroma_moved 0 e) c.chroma_vector-vector.result c.predict_block8-v.result
-    (omega arith) (search rules) (λ k below. chroma_is e v are k below ∙ sym turned) (rw c.plane-2.ensures at c.predict_block8-v.ensures)
+    moved_listed 2 c.args.reference.now.v (8 * c.args.place.column) (8 * c.args.place.row) (chroma_moved 0 e) c.chroma_vector-vector.result c.predict_block-v.result
+    (omega arith) (search rules) (λ k below. chroma_is e v are k below ∙ sym turned) (rw c.plane-2.ensures at c.predict_block-v.ensures)

@@ -19,7 +19,7 @@ refine_found-requires-clause-cost c =
     let ec : to_z w32 (of_z w32 c.quarters-row.result.column) ≡ pos 4 *ℤ c.args.centre.column = omega (arith, ints) in
     let moved = c.luma_vector.ensures ∙ ap₂ luma_vector er ec in
     c.sad16.ensures.value
-    ∙ sum_of_differences-same 16 16 (block16 c.args.block.now) (block16 c.args.block.now) (block16 c.predict_block16-prediction.result)
+    ∙ sum_of_differences-same 16 16 (block16 c.args.block.now) (block16 c.args.block.now) (block16 c.predict_block-prediction.result)
     (predicted_block c.args.reference.now c.args.place (quarters c.args.centre)) (λ r k h i. refl)
-    (λ r k h i. c.predict_block16-prediction.ensures r k h i
+    (λ r k h i. c.predict_block-prediction.ensures r k h i
     ∙ ap (λ (v : PlaneVector). inter_pixel 0 c.args.reference.now (16 * c.args.place.column) (16 * c.args.place.row) v r k) moved)
