@@ -577,7 +577,7 @@ def stepped(step_, l):
     small = is_small_step(step_.limit, l)
     smooth = small and (step_.kind == "Simple" or is_smooth(step_.interior, l))
     if step_.kind == "Simple": return common_adjusted(True, l) if small else l
-    if step_.kind == "Inner": return subblock_edge_filtered(is_high(step_.hev, l), l) if smooth else l
+    if step_.kind == "Subblock": return subblock_edge_filtered(is_high(step_.hev, l), l) if smooth else l
     return macroblock_edge_filtered(is_high(step_.hev, l), l) if smooth else l
 # ---- vp_loop/specs/Edges.antt
 def line_step(step_, across, i, p):  # i is the index of p3, and across the distance to p2
@@ -588,23 +588,23 @@ def edge_lines(orientation, step_, n, x, y, p):
     for j in range(n): line_step(step_, across, pixel_index(p, x, y) + j * along, p)
 def edge_limits(level):
     kind = "Simple" if level.interior == 0 else "Normal"
-    limits = R(kind=kind, outer=level.edge, inner=level.inner or None, interior=level.interior, hev=level.hev)
+    limits = R(kind=kind, macroblock=level.edge, subblock=level.inner or None, interior=level.interior, hev=level.hev)
     return limits if level.edge != 0 else None
 def chroma_limits(limits): return None if limits is None or limits.kind == "Simple" else limits
-STEP_KINDS = {"Simple": ("Simple", "Simple"), "Normal": ("Macroblock", "Inner")}
-def outer_step(limits):
-    return R(kind=STEP_KINDS[limits.kind][0], limit=limits.outer, interior=limits.interior, hev=limits.hev)
-def inner_step(limits, limit): return but(outer_step(limits), limit=limit, kind=STEP_KINDS[limits.kind][1])
-def own_edge(orientation, step_, size_, x, y, p):
+STEP_KINDS = {"Simple": ("Simple", "Simple"), "Normal": ("Macroblock", "Subblock")}
+def macroblock_step(limits):
+    return R(kind=STEP_KINDS[limits.kind][0], limit=limits.macroblock, interior=limits.interior, hev=limits.hev)
+def subblock_step(limits, limit): return but(macroblock_step(limits), limit=limit, kind=STEP_KINDS[limits.kind][1])
+def macroblock_edge(orientation, step_, size_, x, y, p):
     if orientation == "vertical" and x > 0: edge_lines(orientation, step_, size_, x - 4, y, p)
     if orientation == "horizontal" and y > 0: edge_lines(orientation, step_, size_, x, y - 4, p)
-def inner_edges(orientation, step_, size_, x, y, p):
+def subblock_edges(orientation, step_, size_, x, y, p):
     for i in range(0, size_ - 4, 4):
         edge_lines(orientation, step_, size_, *((x + i, y) if orientation == "vertical" else (x, y + i)), p)
 def edges_inside(orientation, limits, size_, x, y, p):
-    if limits.inner is not None: inner_edges(orientation, inner_step(limits, limits.inner), size_, x, y, p)
+    if limits.subblock is not None: subblock_edges(orientation, subblock_step(limits, limits.subblock), size_, x, y, p)
 def block_edges(orientation, size_, limits, x, y, p):
-    own_edge(orientation, outer_step(limits), size_, x, y, p)
+    macroblock_edge(orientation, macroblock_step(limits), size_, x, y, p)
     edges_inside(orientation, limits, size_, x, y, p)
 def block_filtered(size_, limits, x, y, p):
     for orientation in ("vertical", "horizontal") if limits else []: block_edges(orientation, size_, limits, x, y, p)

@@ -7,7 +7,7 @@ use Rattle.vp_loop.specs.declared.edges.Orientation.{Orientation}
 use Rattle.vp_loop.specs.declared.edges.Orientation.TheVariants.{Vertical, Horizontal}
 use Rattle.vp_loop.specs.declared.lines.LineStep.{LineStep}
 use Rattle.vp_loop.specs.declared.limits.EdgeLimits.{EdgeLimits}
-use Rattle.vp_loop.specs.Edges.{pick, line_step, edge_lines, inner_edges, outer_step, inner_step, own_edge, edges_inside, block_edges, block_filtered}
+use Rattle.vp_loop.specs.Edges.{pick, line_step, edge_lines, subblock_edges, macroblock_step, subblock_step, macroblock_edge, edges_inside, block_edges, block_filtered}
 
 -- n lines that end before column right and row bottom, and begin at row top at the earliest, or down columns four rows above
 pub record IsInBand (right top bottom : ℕ) (orientation : Orientation) (n x y : ℕ) : Type 0 where
@@ -27,22 +27,18 @@ pub record IsBlockIn (right top bottom size x y : ℕ) : Type 0 where
 module _ (right top bottom : ℕ) where
   line_in : (orientation : Orientation) (n x y m : ℕ) → IsInBand right top bottom orientation n x y → m < n
       → IsInBand right top bottom orientation 1 (pick orientation x (x + m)) (pick orientation (y + m) y)
-  line_in Vertical n x y m fits below = record { columns = omega arith; rows = omega arith; begins = omega arith }
-  line_in Horizontal n x y m fits below = record { columns = omega arith; rows = omega arith; begins = omega arith }
+  line_in orientation n x y m fits below = record { columns = grind arith; rows = grind arith; begins = grind arith }
 
   inner_in : (orientation : Orientation) (size x y i : ℕ) → IsBlockIn right top bottom size x y → i < size / 4 - 1
       → IsInBand right top bottom orientation size (pick orientation (x + 4 * i) x) (pick orientation y (y + 4 * i))
-  inner_in Vertical size x y i fits below = record { columns = omega arith; rows = omega arith; begins = omega arith }
-  inner_in Horizontal size x y i fits below = record { columns = omega arith; rows = omega arith; begins = omega arith }
+  inner_in orientation size x y i fits below = record { columns = grind arith; rows = grind arith; begins = grind arith }
 
   own_in : (orientation : Orientation) (size x y : ℕ) → IsBlockIn right top bottom size x y → nat_lt 0 (pick orientation x y) ≡ true
       → IsInBand right top bottom orientation size (pick orientation (x - 4) x) (pick orientation y (y - 4))
-  own_in Vertical size x y fits e =
-      let left : 4 ≤ x = fits.left (grind (arith, nat_tests)) in
-      record { columns = omega arith; rows = omega arith; begins = omega arith }
-  own_in Horizontal size x y fits e =
-      let high : 4 ≤ y = fits.high (grind (arith, nat_tests)) in
-      record { columns = omega arith; rows = omega arith; begins = omega arith }
+  own_in orientation size x y fits e =
+      let left = fits.left in
+      let high = fits.high in
+      record { columns = grind (arith, nat_tests); rows = grind (arith, nat_tests); begins = grind (arith, nat_tests) }
 
 module _ (P : (Raster → Raster) → Type 0) (same : P (λ p. p)) (next : (f g : Raster → Raster) → P f → P g → P (λ p. g (f p))) where
   pub holds-over : (n : ℕ) (f : ℕ → Raster → Raster) → ((m : ℕ) → m < n → P (f m)) → P (λ p. over n f p)
@@ -62,8 +58,8 @@ module _ (P : (Raster → Raster) → Type 0) (same : P (λ p. p)) (next : (f g 
         holds-over n (λ k. line_step orientation step (pick orientation x (x + k)) (pick orientation (y + k) y))
         (λ m below. line orientation step (pick orientation x (x + m)) (pick orientation (y + m) y) (line_in right top bottom orientation n x y m fits below))
 
-    holds-inner : (orientation : Orientation) (step : LineStep) (size x y : ℕ) → IsBlockIn right top bottom size x y → P (λ p. inner_edges orientation step size x y p)
-    unfolding inner_edges
+    holds-inner : (orientation : Orientation) (step : LineStep) (size x y : ℕ) → IsBlockIn right top bottom size x y → P (λ p. subblock_edges orientation step size x y p)
+    unfolding subblock_edges
     holds-inner orientation step size x y fits =
         holds-over (size / 4 - 1) (λ i. edge_lines orientation step size (pick orientation (x + 4 * i) x) (pick orientation y (y + 4 * i)))
         (λ i below. holds-lines orientation step size (pick orientation (x + 4 * i) x) (pick orientation y (y + 4 * i)) (inner_in right top bottom orientation size x y i fits below))
@@ -71,14 +67,14 @@ module _ (P : (Raster → Raster) → Type 0) (same : P (λ p. p)) (next : (f g 
     holds-edges : (orientation : Orientation) (size : ℕ) (limits : EdgeLimits) (x y : ℕ) → IsBlockIn right top bottom size x y → P (λ p. block_edges orientation size limits x y p)
     unfolding block_edges
     holds-edges orientation size limits x y fits =
-        next (λ p. own_edge orientation (outer_step limits) size x y p) (λ p. edges_inside orientation limits size x y p)
-        (holds-when (nat_lt 0 (pick orientation x y)) (edge_lines orientation (outer_step limits) size (pick orientation (x - 4) x) (pick orientation y (y - 4)))
-        (λ e. holds-lines orientation (outer_step limits) size (pick orientation (x - 4) x) (pick orientation y (y - 4)) (own_in right top bottom orientation size x y fits e)))
-        (inside limits.inner)
+        next (λ p. macroblock_edge orientation (macroblock_step limits) size x y p) (λ p. edges_inside orientation limits size x y p)
+        (holds-when (nat_lt 0 (pick orientation x y)) (edge_lines orientation (macroblock_step limits) size (pick orientation (x - 4) x) (pick orientation y (y - 4)))
+        (λ e. holds-lines orientation (macroblock_step limits) size (pick orientation (x - 4) x) (pick orientation y (y - 4)) (own_in right top bottom orientation size x y fits e)))
+        (inside limits.subblock)
       where
-        inside : (inner : Option ℕ) → P (λ p. edges_inside orientation (record limits { inner = inner }) size x y p)
+        inside : (inner : Option ℕ) → P (λ p. edges_inside orientation (record limits { subblock = inner }) size x y p)
         inside None = same
-        inside (Some limit) = holds-inner orientation (inner_step limits limit) size x y fits
+        inside (Some limit) = holds-inner orientation (subblock_step limits limit) size x y fits
 
     pub holds-block : (size : ℕ) (limits : Option EdgeLimits) (x y : ℕ) → IsBlockIn right top bottom size x y → P (λ p. block_filtered size limits x y p)
     unfolding block_filtered

@@ -8,8 +8,6 @@ use Rattle.vp_base.specs.Image.{Image}
 use Rattle.vp_base.proofs.BlockLemmas.{pixel-with_block, IsWhole-with_block, with_block_none, same_raster}
 use Rattle.vp_loop.specs.declared.edges.Orientation.{Orientation}
 use Rattle.vp_loop.specs.declared.edges.Orientation.TheVariants.{Vertical, Horizontal}
-use Rattle.vp_loop.specs.declared.edges.Planes.{Planes}
-use Rattle.vp_loop.specs.declared.edges.Planes.TheVariants.{Luma, Chroma}
 use Rattle.vp_loop.specs.declared.edges.Edge.{Edge}
 use Rattle.vp_loop.specs.declared.lines.Line.{Line}
 use Rattle.vp_loop.specs.declared.lines.LineStep.{LineStep}
@@ -19,8 +17,9 @@ use Rattle.vp_loop.specs.declared.limits.FilterKind.{FilterKind}
 use Rattle.vp_loop.specs.declared.limits.FilterKind.TheVariants as filter_is
 use Rattle.vp_loop.specs.LineSteps.{is_small_step, is_smooth, is_high, common_adjusted, subblock_edge_filtered, stepped}
 use Rattle.vp_loop.specs.Lanes.{KeepsEnds, line_of, own_line, IsEdgeIn, HasLines, EachPlane, on_planes, with_lines, unwritten}
-use Rattle.vp_loop.specs.Edges.{pick, pixel_at, edge_lines, inner_step}
-use Rattle.vp_loop.proofs.StepLemmas.{stepped_ends, pixel_at-line_at, edge_pixel, at_once}
+use Rattle.vp_loop.specs.Edges.{pick, pixel_at, edge_lines, subblock_step}
+use Rattle.vp_loop.proofs.EdgeLemmas.{on_planes-none, on_planes-same}
+use Rattle.vp_loop.proofs.StepLemmas.{cond_both, stepped_ends, pixel_at-line_at, edge_pixel, at_once}
 
 -- ---- what the steps keep
 
@@ -28,20 +27,16 @@ pub keeps_last : (step : LineStep) → KeepsEnds 1 step
 keeps_last step l zero h = stepped_ends step l
 keeps_last step l (suc n) h = absurd (omega arith)
 
-second_kept : (b : Bool) (l m : Line) → (m.p2 ≡ l.p2) × (m.q2 ≡ l.q2) → ((cond b m l).p2 ≡ l.p2) × ((cond b m l).q2 ≡ l.q2)
-second_kept true l m same = same
-second_kept false l m same = (refl, refl)
-
 -- a step inside a macroblock
-inside_kept : (kind : FilterKind) (limits : EdgeLimits) (limit : ℕ) (l : Line) → let step = inner_step (record limits { kind = kind }) limit in
+inside_kept : (kind : FilterKind) (limits : EdgeLimits) (limit : ℕ) (l : Line) → let step = subblock_step (record limits { kind = kind }) limit in
     ((stepped step l).p2 ≡ l.p2) × ((stepped step l).q2 ≡ l.q2)
 unfolding stepped
-inside_kept filter_is.Simple limits limit l = second_kept (is_small_step limit l) l (common_adjusted true l) (refl, refl)
+inside_kept filter_is.Simple limits limit l = cond_both (λ m. (m.p2 ≡ l.p2) × (m.q2 ≡ l.q2)) (is_small_step limit l) (common_adjusted true l) l (refl, refl) (refl, refl)
 inside_kept filter_is.Normal limits limit l =
-    second_kept (is_small_step limit l && is_smooth limits.interior l) l (subblock_edge_filtered (is_high limits.hev l) l) (refl, refl)
+    cond_both (λ m. (m.p2 ≡ l.p2) × (m.q2 ≡ l.q2)) (is_small_step limit l && is_smooth limits.interior l) (subblock_edge_filtered (is_high limits.hev l) l) l (refl, refl) (refl, refl)
 
-pub keeps_two : (limits : EdgeLimits) (limit : ℕ) → KeepsEnds 2 (inner_step limits limit)
-keeps_two limits limit l zero h = stepped_ends (inner_step limits limit) l
+pub keeps_two : (limits : EdgeLimits) (limit : ℕ) → KeepsEnds 2 (subblock_step limits limit)
+keeps_two limits limit l zero h = stepped_ends (subblock_step limits limit) l
 keeps_two limits limit l (suc zero) h = inside_kept limits.kind limits limit l
 keeps_two limits limit l (suc (suc n)) h = absurd (omega arith)
 
@@ -54,8 +49,6 @@ end_kept k step keeps l r small outside =
           let place : 7 - (7 - r) ≡ r = omega arith in
           subst (λ (i : ℕ). pixel_at (stepped step l) i ≡ pixel_at l i) place (keeps l (7 - r) (omega arith)).1
     ]
-
--- ---- a part of a block
 
 pub keeps_outer : (orientation : Orientation) (step : LineStep) → KeepsEnds (unwritten false orientation) step
 keeps_outer Vertical step l n h = absurd (omega arith)
@@ -90,26 +83,27 @@ module _ (p : Raster) (x y w h s t u v : ℕ) (f g : ℕ → ℕ → ℕ) (left 
 
 in_edge : (orientation : Orientation) (n x y i j : ℕ) → is_in_block x y (pick orientation 8 n) (pick orientation n 8) i j ≡ true
     → (pick orientation (j - y) (i - x) < n) × (pick orientation (i - x) (j - y) < 8) × (x ≤ i) × (y ≤ j)
-in_edge Vertical n x y i j e = grind (arith, nat_tests)
-in_edge Horizontal n x y i j e = grind (arith, nat_tests)
+in_edge orientation n x y i j e = grind (arith, nat_tests)
+
+edge_place : (o : Orientation) (x y i j : ℕ) → x ≤ i → y ≤ j
+    → (pick o (pick o x (x + pick o (j - y) (i - x)) + pick o (i - x) (j - y)) (pick o x (x + pick o (j - y) (i - x))) ≡ i)
+    × (pick o (pick o (y + pick o (j - y) (i - x)) y) (pick o (y + pick o (j - y) (i - x)) y + pick o (i - x) (j - y)) ≡ j)
+edge_place o x y i j left top = (grind arith, grind arith)
 
 in_part : (orientation : Orientation) (n x y k i j : ℕ) → is_in_block (pick orientation (x + k) x) (pick orientation y (y + k)) (pick orientation (8 - k - k) n) (pick orientation n (8 - k - k)) i j ≡ true
     → (pick orientation (j - y) (i - x) < n) × (pick orientation (j - pick orientation y (y + k)) (i - pick orientation (x + k) x) ≡ pick orientation (j - y) (i - x))
     × (pick orientation (i - pick orientation (x + k) x) (j - pick orientation y (y + k)) + k ≡ pick orientation (i - x) (j - y))
-in_part Vertical n x y k i j e = grind (arith, nat_tests)
-in_part Horizontal n x y k i j e = grind (arith, nat_tests)
+in_part orientation n x y k i j e = grind (arith, nat_tests)
 
 not_in_part : (orientation : Orientation) (n x y k i j : ℕ) → is_in_block x y (pick orientation 8 n) (pick orientation n 8) i j ≡ true
     → is_in_block (pick orientation (x + k) x) (pick orientation y (y + k)) (pick orientation (8 - k - k) n) (pick orientation n (8 - k - k)) i j ≡ false
     → k ≤ pick orientation (i - x) (j - y) → 8 - k ≤ pick orientation (i - x) (j - y)
-not_in_part Vertical n x y k i j e d low = grind (arith, nat_tests)
-not_in_part Horizontal n x y k i j e d low = grind (arith, nat_tests)
+not_in_part orientation n x y k i j e d low = grind (arith, nat_tests)
 
 part_fits : (orientation : Orientation) (n x y k : ℕ) → k ≤ 4
     → (x ≤ pick orientation (x + k) x) × (pick orientation (x + k) x + pick orientation (8 - k - k) n ≤ x + pick orientation 8 n)
     × (y ≤ pick orientation y (y + k)) × (pick orientation y (y + k) + pick orientation n (8 - k - k) ≤ y + pick orientation n 8)
-part_fits Vertical n x y k few = (omega arith, omega arith, omega arith, omega arith)
-part_fits Horizontal n x y k few = (omega arith, omega arith, omega arith, omega arith)
+part_fits orientation n x y k few = grind arith
 
 in_no_block : (x y i j : ℕ) → is_in_block x y 0 0 i j ≡ true → ⊥
 in_no_block x y i j e = grind (arith, nat_tests)
@@ -120,13 +114,7 @@ module _ (orientation : Orientation) (step : LineStep) (n x y : ℕ) (p : Raster
   own_pixel i j e =
       let here = in_edge orientation n x y i j e in
       pixel_at-line_at orientation p (pick orientation x (x + pick orientation (j - y) (i - x))) (pick orientation (y + pick orientation (j - y) (i - x)) y) (pick orientation (i - x) (j - y)) here.1
-      ∙ place orientation here.2 here.3
-    where
-      place : (o : Orientation) → x ≤ i → y ≤ j
-          → pixel p (pick o (pick o x (x + pick o (j - y) (i - x)) + pick o (i - x) (j - y)) (pick o x (x + pick o (j - y) (i - x))))
-          (pick o (pick o (y + pick o (j - y) (i - x)) y) (pick o (y + pick o (j - y) (i - x)) y + pick o (i - x) (j - y))) ≡ pixel p i j
-      place Vertical left top = ap₂ (pixel p) (let e : x + (i - x) ≡ i = omega arith in e) (let e : y + (j - y) ≡ j = omega arith in e)
-      place Horizontal left top = ap₂ (pixel p) (let e : x + (i - x) ≡ i = omega arith in e) (let e : y + (j - y) ≡ j = omega arith in e)
+      ∙ ap₂ (pixel p) (edge_place orientation x y i j here.2 here.3).0 (edge_place orientation x y i j here.2 here.3).1
 
   -- an edge of which the step changes no line
   pub still : ((k : ℕ) → k < n → stepped step (own_line orientation p x y k) ≡ own_line orientation p x y k) → p ≡ edge_lines orientation step n x y p
@@ -157,9 +145,7 @@ module _ (orientation : Orientation) (step : LineStep) (n x y : ℕ) (p : Raster
 -- ---- the edges of a picture's planes
 
 few_unwritten : (inside : Bool) (orientation : Orientation) → unwritten inside orientation ≤ 4
-few_unwritten true orientation = omega arith
-few_unwritten false Vertical = omega arith
-few_unwritten false Horizontal = omega arith
+few_unwritten inside orientation = grind arith
 
 module _ (edge : Edge) (step : LineStep) (l : Lines) where
   abbrev filtered_planes : Image → Image
@@ -171,11 +157,9 @@ module _ (edge : Edge) (step : LineStep) (l : Lines) where
       still edge.orientation step n edge.x edge.y p has.whole has.fits (λ k h. subst (λ (m : Line). stepped step m ≡ m) (has.lines k h) (sym (same (lane k) (few k h))))
 
   pub still_edge : (p : Image) → ((j : ℕ) → j < 16 → line_of l j ≡ stepped step (line_of l j)) → EachPlane edge.planes (HasLines edge l) p → p ≡ filtered_planes p
-  still_edge p same has = go edge.planes has
-    where
-      go : (planes : Planes) → EachPlane planes (HasLines edge l) p → p ≡ on_planes planes (λ n lane. edge_lines edge.orientation step n edge.x edge.y) p
-      go Luma has = ap (λ (q : Raster). record p { luma = q }) (still_plane same 16 (λ k. k) p.luma (λ k h. h) has)
-      go Chroma has = ap₂ (λ (q r : Raster). record p { u = q; v = r }) (still_plane same 8 (λ k. k) p.u (λ k h. omega arith) has.0) (still_plane same 8 (λ k. k + 8) p.v (λ k h. omega arith) has.1)
+  still_edge p same has =
+      on_planes-none edge.planes p
+      ∙ on_planes-same edge.planes (HasLines edge l) (λ n lane q. q) (λ n lane. edge_lines edge.orientation step n edge.x edge.y) p has (still_plane same)
 
   module _ (m : Lines) (inside : Bool) (keeps : KeepsEnds (unwritten inside edge.orientation) step) (same : (j : ℕ) → j < 16 → line_of m j ≡ stepped step (line_of l j)) where
     stored_plane : (n : ℕ) (lane : ℕ → ℕ) (p : Raster) → ((k : ℕ) → k < n → lane k < 16) → HasLines edge l n lane p
@@ -185,9 +169,5 @@ module _ (edge : Edge) (step : LineStep) (l : Lines) where
         (λ k h. same (lane k) (few k h) ∙ ap (stepped step) (has.lines k h))
 
     pub stored_edge : (p : Image) → EachPlane edge.planes (HasLines edge l) p → on_planes edge.planes (with_lines edge.orientation edge.x edge.y (unwritten inside edge.orientation) m) p ≡ filtered_planes p
-    stored_edge p has = go edge.planes has
-      where
-        go : (planes : Planes) → EachPlane planes (HasLines edge l) p
-            → on_planes planes (with_lines edge.orientation edge.x edge.y (unwritten inside edge.orientation) m) p ≡ on_planes planes (λ n lane. edge_lines edge.orientation step n edge.x edge.y) p
-        go Luma has = ap (λ (q : Raster). record p { luma = q }) (stored_plane 16 (λ k. k) p.luma (λ k h. h) has)
-        go Chroma has = ap₂ (λ (q r : Raster). record p { u = q; v = r }) (stored_plane 8 (λ k. k) p.u (λ k h. omega arith) has.0) (stored_plane 8 (λ k. k + 8) p.v (λ k h. omega arith) has.1)
+    stored_edge p has =
+        on_planes-same edge.planes (HasLines edge l) (with_lines edge.orientation edge.x edge.y (unwritten inside edge.orientation) m) (λ n lane. edge_lines edge.orientation step n edge.x edge.y) p has stored_plane

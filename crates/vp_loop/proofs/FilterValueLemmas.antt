@@ -9,16 +9,13 @@ use Rattle.vp_lanes.proofs.Ranges.{InByte}
 use Rattle.vp_loop.proofs.Shift.{same, same_is, shift_is, fits_byte}
 
 abs_128 : (z : ℤ) → InByte z → unsigned_abs z ≤ 128
-abs_128 (pos n) p = omega (arith, ints)
-abs_128 (negsuc n) p = omega (arith, ints)
+abs_128 z p = grind (arith, ints)
 
 abs_27 : (z : ℤ) → pos 0 ≤ℤ z → z ≤ℤ pos 27 → unsigned_abs z ≤ 27
-abs_27 (pos n) p q = omega (arith, ints)
-abs_27 (negsuc n) p q = absurd (omega (arith, ints))
+abs_27 z p q = grind (arith, ints)
 
 within : (z : ℤ) → unsigned_abs z ≤ 3456 → (negsuc 3455 ≤ℤ z) × (z ≤ℤ pos 3456)
-within (pos n) p = (omega (arith, ints), omega (arith, ints))
-within (negsuc n) p = (omega (arith, ints), omega (arith, ints))
+within z p = (grind (arith, ints), grind (arith, ints))
 
 product_in : (w k : ℤ) → InByte w → pos 0 ≤ℤ k → k ≤ℤ pos 27 → (negsuc 3455 ≤ℤ (w *ℤ k)) × ((w *ℤ k) ≤ℤ pos 3456)
 product_in w k p q r =

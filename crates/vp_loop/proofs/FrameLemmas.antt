@@ -18,6 +18,3 @@ module _ {X : Type 0} (look : Image → X) (keeps : (level : Level) (column row 
   pub keeps_row : (row : ℕ) (p : Image) → look (row_filtered level row p) ≡ look p
   unfolding row_filtered
   keeps_row row p = keeps_macroblocks row (macroblocks p.width) p
-
-  pub keeps_rows : (n : ℕ) (p : Image) → look (over n (row_filtered level) p) ≡ look p
-  keeps_rows n p = over-kept look n (row_filtered level) p keeps_row

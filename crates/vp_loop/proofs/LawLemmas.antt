@@ -1,5 +1,5 @@
 -- Line steps that share no pixel.
-use Rattle.std.proofs.Common.{◌≡◌, ◌∙◌, ℕ, ◌-◌, ◌<◌, ◌&&◌, Bool, true, false, cond, refl, ap, sym}
+use Rattle.std.proofs.Common.{◌≡◌, ◌∙◌, ℕ, ◌-◌, ◌<◌, ◌&&◌, Bool, true, false, cond, refl, ap, sym, arith}
 use Rattle.vp_base.specs.Raster.{Raster, pixel}
 use Rattle.vp_base.proofs.BlockLemmas.{same_raster}
 use Rattle.vp_loop.specs.declared.edges.Orientation.TheVariants.{Vertical, Horizontal}
@@ -19,14 +19,10 @@ pixel-step_of : (step : LineStep) (l : PlaneLine) (p : Raster) (i j : ℕ) → i
 pixel-step_of step l p i j iin jin = pixel-line_step l.orientation step l.x l.y p i j iin jin
 
 other_false : (a b : Bool) → (a && b) ≡ false → b ≡ true → a ≡ false
-other_false true b e h = sym h ∙ e
-other_false false b e h = refl
+other_false a b e h = grind arith
 
 flipped : (a b : Bool) → (a && b) ≡ false → (b && a) ≡ false
-flipped true true e = e
-flipped true false e = refl
-flipped false true e = refl
-flipped false false e = refl
+flipped a b e = grind arith
 
 -- a step leaves the pixels of the other line, and so the line, as they are
 put-after : (a b : LineStep) (l m : PlaneLine) (p : Raster) → IsLineWithin m p → SharesNoPixel l m → (i j : ℕ) → put b m (step_of a l p) i j ≡ put b m p i j
@@ -38,9 +34,7 @@ put-after a b l m p fits apart i j =
     ∙ ap (λ (t : Bool). cond t (put a l p u v) (pixel p u v)) (other_false (has_pixel l u v) (has_pixel m u v) (apart u v) here)))
 
 chosen : (s t : Bool) (x y z : ℕ) → (s && t) ≡ false → cond t x (cond s y z) ≡ cond s y (cond t x z)
-chosen true true x y z e = cc
-chosen true false x y z e = refl
-chosen false t x y z e = refl
+chosen s t x y z e = grind arith
 
 both : (a b : LineStep) (l m : PlaneLine) (p : Raster) → IsLineWithin m p → SharesNoPixel l m → (i j : ℕ) → i < p.width → j < p.height
     → pixel (step_of b m (step_of a l p)) i j ≡ cond (has_pixel m i j) (put b m p i j) (cond (has_pixel l i j) (put a l p i j) (pixel p i j))

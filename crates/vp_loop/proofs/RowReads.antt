@@ -11,6 +11,7 @@ use Rattle.vp_loop.specs.declared.edges.Edge.{Edge}
 use Rattle.vp_loop.specs.declared.lanes.Lines.{Lines}
 use Rattle.vp_loop.specs.Edges.{pick, line_from, line_at}
 use Rattle.vp_loop.specs.Lanes.{line_of, own_line, IsEdgeIn, HasLines, HasCorner}
+use Rattle.vp_loop.proofs.TransposeLemmas.{line_from-same}
 
 -- a block's last row ends within the list
 pub block_room : (x y w h n r size : ℕ) → size ≡ h * w → x + n ≤ w → y + r < h → (y * w + x) + r * w + n ≤ size
@@ -26,12 +27,6 @@ pixel_is p ps x y at w r c same wide here =
     ap (λ (l : List ℕ). get_or l (at + r * w + c) 0) same
     ∙ (ap (λ (n : ℕ). get_or p.pixels n 0) (let e : at + r * w + c ≡ (y + r) * w + (x + c) = omega arith in e)
     ∙ ap (λ (v : ℕ). get_or p.pixels ((y + r) * v + (x + c)) 0) wide)
-
-pub line_from-same : (f g : ℕ → ℕ) → ((k : ℕ) → k < 8 → f k ≡ g k) → line_from f ≡ line_from g
-line_from-same f g all =
-    let e0 = all 0 (omega arith) in let e1 = all 1 (omega arith) in let e2 = all 2 (omega arith) in let e3 = all 3 (omega arith) in
-    let e4 = all 4 (omega arith) in let e5 = all 5 (omega arith) in let e6 = all 6 (omega arith) in let e7 = all 7 (omega arith) in
-    λ i. record { p3 = e0 i; p2 = e1 i; p1 = e2 i; p0 = e3 i; q0 = e4 i; q1 = e5 i; q2 = e6 i; q3 = e7 i }
 
 -- a line of those pixels
 pub own_line_is : (orientation : Orientation) (p : Raster) (f : ℕ → ℕ) (x y k : ℕ) → ((m : ℕ) → m < 8 → f m ≡ pixel p (x + pick orientation m k) (y + pick orientation k m)) → line_from f ≡ own_line orientation p x y k
@@ -56,8 +51,7 @@ corner_lines edge rows l lane p orientation e corner fits read = record {
     each Horizontal k m h below = corner.pixels m k below h
 
 pub corner_fits : (orientation : Orientation) (x y : ℕ) (p : Raster) → IsEdgeIn orientation 8 x y p → (x + 8 ≤ p.width) × (y + 8 ≤ p.height)
-corner_fits Vertical x y p fits = fits
-corner_fits Horizontal x y p fits = fits
+corner_fits orientation x y p fits = let columns = fits.0 in let rows = fits.1 in (grind arith, grind arith)
 
 -- eight lines, and eight more
 pub both_halves : (p : Raster) (l : Lines) (x y : ℕ) → ((j : ℕ) → j < 8 → line_of l j ≡ own_line Vertical p x y j) → ((j : ℕ) → j < 8 → line_of l (j + 8) ≡ own_line Vertical p x (y + 8) j)

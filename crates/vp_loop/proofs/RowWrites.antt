@@ -1,5 +1,5 @@
 -- Rows of a block, stored one after another.
-use Rattle.std.proofs.Common.{◌≡◌, ◌∙◌, ℕ, ◌+◌, ◌-◌, ◌*◌, ◌<◌, ◌≤◌, List, [], ◌++◌, length, take, drop, map, get_or, refl, sym, ap, ap₂, arith, rules, length-append, length-drop}
+use Rattle.std.proofs.Common.{◌≡◌, ◌∙◌, ℕ, ◌+◌, ◌-◌, ◌*◌, ◌<◌, ◌≤◌, List, [], ◌++◌, length, take, drop, map, get_or, sym, ap, ap₂, arith, rules, length-append, length-drop}
 use Rattle.std.specs.List.{slice_range}
 use Rattle.std.proofs.lemmas.Simd.{put_chunk_is}
 use Rattle.std.proofs.lemmas.List.{length-take, length-map, map-id, take-map, drop-map, take_all, take-append-le, places}
@@ -15,7 +15,6 @@ use Rattle.vp_loop.specs.declared.lines.Line.{Line}
 use Rattle.vp_loop.specs.declared.lanes.Lines.{Lines}
 use Rattle.vp_loop.specs.Edges.{pixel_at}
 use Rattle.vp_loop.specs.Lanes.{line_of, middle_of, with_lines, pixel_of, on_planes}
-use Rattle.vp_loop.proofs.TransposeLemmas.{below_four}
 use Rattle.vp_base.proofs.BlockLemmas.{with_block_none, with_block_more, with_block_same}
 
 pub put_over : (xs : List ℕ) (i : ℕ) (vs : List ℕ) → i + length vs ≤ length xs → put_chunk i xs vs ≡ overlay xs i vs
@@ -86,7 +85,7 @@ columns_stored planes x y k s w l rows left wide same p = go planes
     go Chroma = ap₂ (λ (q r : Raster). record p { u = q; v = r }) (each 8 (λ j. j) p.u (λ j h. omega arith)) (each 8 (λ j. j + 8) p.v (λ j h. omega arith))
 
 pub middle_pixel : (l : Line) (c : ℕ) → c < 4 → get_or (middle_of l) c 0 ≡ pixel_at l (c + 2)
-middle_pixel l = below_four (λ c. get_or (middle_of l) c 0 ≡ pixel_at l (c + 2)) refl refl refl refl
+middle_pixel l c h = grind arith
 
 -- eight rows of lines, but for those at both ends
 pub rows_stored : (x y k n : ℕ) (lane : ℕ → ℕ) (l : Lines) (p : Raster) (rows : List (List ℕ)) → length rows ≡ 8 → k ≤ 4

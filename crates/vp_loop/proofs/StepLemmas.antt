@@ -10,20 +10,14 @@ use Rattle.vp_loop.specs.declared.edges.Orientation.TheVariants.{Vertical, Horiz
 use Rattle.vp_loop.specs.declared.lines.Line.{Line}
 use Rattle.vp_loop.specs.declared.lines.LineStep.{LineStep}
 use Rattle.vp_loop.specs.declared.lines.EdgeKind.{EdgeKind}
-use Rattle.vp_loop.specs.declared.lines.EdgeKind.TheVariants.{Simple, Inner, Macroblock}
+use Rattle.vp_loop.specs.declared.lines.EdgeKind.TheVariants.{Simple, Subblock, Macroblock}
 use Rattle.vp_loop.specs.LineSteps.{is_small_step, is_smooth, is_high, common_adjusted, subblock_edge_filtered, macroblock_edge_filtered, stepped}
 use Rattle.vp_loop.specs.Edges.{pick, line_at, pixel_at, line_step, edge_lines}
 use Rattle.vp_loop.specs.Lanes.{own_line, IsEdgeIn}
 use Rattle.vp_loop.specs.Laws.{columns_of, rows_of}
-use Rattle.vp_loop.proofs.TransposeLemmas.{below_eight}
+use Rattle.vp_loop.proofs.TransposeLemmas.{below_eight, line_from-same}
 
 -- ---- a line by its pixels
-
-pub same_line : (l m : Line) → ((k : ℕ) → k < 8 → pixel_at l k ≡ pixel_at m k) → l ≡ m
-same_line l m all =
-    let e0 = all 0 (omega arith) in let e1 = all 1 (omega arith) in let e2 = all 2 (omega arith) in let e3 = all 3 (omega arith) in
-    let e4 = all 4 (omega arith) in let e5 = all 5 (omega arith) in let e6 = all 6 (omega arith) in let e7 = all 7 (omega arith) in
-    λ i. record { p3 = e0 i; p2 = e1 i; p1 = e2 i; p0 = e3 i; q0 = e4 i; q1 = e5 i; q2 = e6 i; q3 = e7 i }
 
 pub pixel_at-line_at : (orientation : Orientation) (p : Raster) (x y k : ℕ) → k < 8 → pixel_at (line_at orientation p x y) k ≡ pixel p (pick orientation (x + k) x) (pick orientation y (y + k))
 unfolding line_at
@@ -36,22 +30,20 @@ Within orientation x y p = (x + columns_of orientation ≤ p.width) × (y + rows
 
 -- where pixel k of a line is
 in_line : (orientation : Orientation) (x y k : ℕ) → k < 8 → is_in_block x y (columns_of orientation) (rows_of orientation) (pick orientation (x + k) x) (pick orientation y (y + k)) ≡ true
-in_line Vertical x y k h = grind (arith, nat_tests)
-in_line Horizontal x y k h = grind (arith, nat_tests)
+in_line orientation x y k h = grind (arith, nat_tests)
 
 in_plane : (orientation : Orientation) (x y k : ℕ) (p : Raster) → k < 8 → Within orientation x y p → (pick orientation (x + k) x < p.width) × (pick orientation y (y + k) < p.height)
-in_plane Vertical x y k p h fits = let columns = fits.0 in let rows = fits.1 in (omega arith, omega arith)
-in_plane Horizontal x y k p h fits = let columns = fits.0 in let rows = fits.1 in (omega arith, omega arith)
+in_plane orientation x y k p h fits = let columns = fits.0 in let rows = fits.1 in (grind arith, grind arith)
 
 -- two planes of one size that agree on a line's pixels have that line
 pub line_at-same : (orientation : Orientation) (p q : Raster) (x y : ℕ) → Within orientation x y p
     → ((i j : ℕ) → i < p.width → j < p.height → is_in_block x y (columns_of orientation) (rows_of orientation) i j ≡ true → pixel p i j ≡ pixel q i j)
     → line_at orientation p x y ≡ line_at orientation q x y
+unfolding line_at
 line_at-same orientation p q x y fits same =
-    same_line (line_at orientation p x y) (line_at orientation q x y) (λ k h.
+    line_from-same (λ k. pixel p (pick orientation (x + k) x) (pick orientation y (y + k))) (λ k. pixel q (pick orientation (x + k) x) (pick orientation y (y + k))) (λ k h.
     let inside = in_plane orientation x y k p h fits in
-    pixel_at-line_at orientation p x y k h
-    ∙ (same (pick orientation (x + k) x) (pick orientation y (y + k)) inside.0 inside.1 (in_line orientation x y k h) ∙ sym (pixel_at-line_at orientation q x y k h)))
+    same (pick orientation (x + k) x) (pick orientation y (y + k)) inside.0 inside.1 (in_line orientation x y k h))
 
 pub pixel-line_step : (orientation : Orientation) (step : LineStep) (x y : ℕ) (p : Raster) (i j : ℕ) → i < p.width → j < p.height
     → pixel (line_step orientation step x y p) i j
@@ -67,8 +59,7 @@ IsWhole-line_step orientation step x y p = IsWhole-with_block p x y (columns_of 
 -- ---- the block of an edge: its columns and rows, and the line at row r and column c of it
 
 in_none : (orientation : Orientation) (x y i j : ℕ) → is_in_block x y (pick orientation 8 0) (pick orientation 0 8) i j ≡ false
-in_none Vertical x y i j = grind (arith, nat_tests)
-in_none Horizontal x y i j = grind (arith, nat_tests)
+in_none orientation x y i j = grind (arith, nat_tests)
 
 in_last : (orientation : Orientation) (x y n i j : ℕ) → is_in_block (pick orientation x (x + n)) (pick orientation (y + n) y) (columns_of orientation) (rows_of orientation) i j ≡ true
     → (is_in_block x y (pick orientation 8 (suc n)) (pick orientation (suc n) 8) i j ≡ true) × (is_in_block x y (pick orientation 8 n) (pick orientation n 8) i j ≡ false)
@@ -83,8 +74,7 @@ in_other Horizontal x y n i j e = grind (arith, nat_tests)
 
 fits_more : (orientation : Orientation) (n x y : ℕ) (p : Raster) → IsEdgeIn orientation (suc n) x y p
     → IsEdgeIn orientation n x y p × Within orientation (pick orientation x (x + n)) (pick orientation (y + n) y) p
-fits_more Vertical n x y p fits = let rows = fits.1 in ((fits.0, omega arith), (fits.0, omega arith))
-fits_more Horizontal n x y p fits = let columns = fits.0 in ((omega arith, fits.1), (omega arith, fits.1))
+fits_more orientation n x y p fits = let columns = fits.0 in let rows = fits.1 in ((grind arith, grind arith), (grind arith, grind arith))
 
 module _ (orientation : Orientation) (step : LineStep) (x y : ℕ) (p : Raster) where
   -- the filtered pixel at row r and column c of the block
@@ -140,21 +130,23 @@ module _ (orientation : Orientation) (step : LineStep) (x y : ℕ) (p : Raster) 
 
 -- ---- no step changes the pixels at the ends of a line
 
-macroblock_ends : (high : Bool) (l : Line) → ((macroblock_edge_filtered high l).p3 ≡ l.p3) × ((macroblock_edge_filtered high l).q3 ≡ l.q3)
-macroblock_ends true l = (refl, refl)
-macroblock_ends false l = (refl, refl)
+pub cond_both : (P : Line → Type 0) (b : Bool) (l m : Line) → P l → P m → P (cond b l m)
+cond_both P true l m here there = here
+cond_both P false l m here there = there
 
-cond_ends : (b : Bool) (l m : Line) → (m.p3 ≡ l.p3) × (m.q3 ≡ l.q3) → ((cond b m l).p3 ≡ l.p3) × ((cond b m l).q3 ≡ l.q3)
-cond_ends true l m same = same
-cond_ends false l m same = (refl, refl)
+-- l has the pixels at the ends of m
+abbrev HasEnds : Line → Line → Type 0
+HasEnds m l = (l.p3 ≡ m.p3) × (l.q3 ≡ m.q3)
 
 ends_by : (kind : EdgeKind) (limit interior hev : ℕ) (l : Line) → let step : LineStep = record { kind = kind; limit = limit; interior = interior; hev = hev } in
-    ((stepped step l).p3 ≡ l.p3) × ((stepped step l).q3 ≡ l.q3)
+    HasEnds l (stepped step l)
 unfolding stepped
-ends_by Simple limit interior hev l = cond_ends (is_small_step limit l) l (common_adjusted true l) (refl, refl)
-ends_by Inner limit interior hev l = cond_ends (is_small_step limit l && is_smooth interior l) l (subblock_edge_filtered (is_high hev l) l) (refl, refl)
+ends_by Simple limit interior hev l = cond_both (HasEnds l) (is_small_step limit l) (common_adjusted true l) l (refl, refl) (refl, refl)
+ends_by Subblock limit interior hev l =
+    cond_both (HasEnds l) (is_small_step limit l && is_smooth interior l) (subblock_edge_filtered (is_high hev l) l) l (refl, refl) (refl, refl)
 ends_by Macroblock limit interior hev l =
-    cond_ends (is_small_step limit l && is_smooth interior l) l (macroblock_edge_filtered (is_high hev l) l) (macroblock_ends (is_high hev l) l)
+    cond_both (HasEnds l) (is_small_step limit l && is_smooth interior l) (macroblock_edge_filtered (is_high hev l) l) l
+    (cond_both (HasEnds l) (is_high hev l) (common_adjusted true l) _ (refl, refl) (refl, refl)) (refl, refl)
 
 pub stepped_ends : (step : LineStep) (l : Line) → ((stepped step l).p3 ≡ l.p3) × ((stepped step l).q3 ≡ l.q3)
 stepped_ends step l = ends_by step.kind step.limit step.interior step.hev l

@@ -1,7 +1,7 @@
 -- Sixteen rows of eight bytes, joined two by two.
 use Rattle.std.proofs.Common.{◌≡◌, ℕ, zero, suc, ◌+◌, ◌-◌, ◌*◌, ◌/◌, ◌%◌, ◌<◌, List, [], ◌∷◌, ◌++◌, length, get_or, refl, ap, ◌∙◌, subst, arith}
 use Rattle.std.proofs.lemmas.List.{get_or_append_left, get_or-append_right}
-use Rattle.vp_loop.specs.declared.lines.Line.{Line}
+use Rattle.vp_loop.specs.Edges.{line_from}
 use Rattle.vp_loop.specs.Lanes.{line_in}
 
 pub below_four : (P : ℕ → Type 0) → P 0 → P 1 → P 2 → P 3 → (j : ℕ) → j < 4 → P j
@@ -25,29 +25,17 @@ low n a b k l h = get_or_append_left a b 0 k (omega arith)
 pub high : (n : ℕ) (a b : List ℕ) (k i : ℕ) → length a ≡ n → i ≡ n + k → get_or (a ++ b) i 0 ≡ get_or b k 0
 high n a b k i l h = let e : i - n ≡ k = omega arith in get_or-append_right a b n i 0 l (omega arith) ∙ ap (λ (m : ℕ). get_or b m 0) e
 
+pub line_from-same : (f g : ℕ → ℕ) → ((k : ℕ) → k < 8 → f k ≡ g k) → line_from f ≡ line_from g
+line_from-same f g all =
+    let e0 = all 0 (omega arith) in let e1 = all 1 (omega arith) in let e2 = all 2 (omega arith) in let e3 = all 3 (omega arith) in
+    let e4 = all 4 (omega arith) in let e5 = all 5 (omega arith) in let e6 = all 6 (omega arith) in let e7 = all 7 (omega arith) in
+    λ i. record { p3 = e0 i; p2 = e1 i; p1 = e2 i; p0 = e3 i; q0 = e4 i; q1 = e5 i; q2 = e6 i; q3 = e7 i }
+
 pub front : (a b : List ℕ) → length a ≡ 8 → line_in (a ++ b) ≡ line_in a
-front a b l =
-    let e0 = low 8 a b 0 l (omega arith) in let e1 = low 8 a b 1 l (omega arith) in let e2 = low 8 a b 2 l (omega arith) in let e3 = low 8 a b 3 l (omega arith) in
-    let e4 = low 8 a b 4 l (omega arith) in let e5 = low 8 a b 5 l (omega arith) in let e6 = low 8 a b 6 l (omega arith) in let e7 = low 8 a b 7 l (omega arith) in
-    λ i. record { p3 = e0 i; p2 = e1 i; p1 = e2 i; p0 = e3 i; q0 = e4 i; q1 = e5 i; q2 = e6 i; q3 = e7 i }
+front a b l = line_from-same (λ k. get_or (a ++ b) k 0) (λ k. get_or a k 0) (λ k h. low 8 a b k l h)
 
-abbrev pub second : List ℕ → Line
-second r = record {
-  p3 = get_or r 8 0;
-  p2 = get_or r 9 0;
-  p1 = get_or r 10 0;
-  p0 = get_or r 11 0;
-  q0 = get_or r 12 0;
-  q1 = get_or r 13 0;
-  q2 = get_or r 14 0;
-  q3 = get_or r 15 0;
-}
-
-pub back : (a b : List ℕ) → length a ≡ 8 → second (a ++ b) ≡ line_in b
-back a b l =
-    let e0 = high 8 a b 0 8 l (omega arith) in let e1 = high 8 a b 1 9 l (omega arith) in let e2 = high 8 a b 2 10 l (omega arith) in let e3 = high 8 a b 3 11 l (omega arith) in
-    let e4 = high 8 a b 4 12 l (omega arith) in let e5 = high 8 a b 5 13 l (omega arith) in let e6 = high 8 a b 6 14 l (omega arith) in let e7 = high 8 a b 7 15 l (omega arith) in
-    λ i. record { p3 = e0 i; p2 = e1 i; p1 = e2 i; p0 = e3 i; q0 = e4 i; q1 = e5 i; q2 = e6 i; q3 = e7 i }
+pub back : (a b : List ℕ) → length a ≡ 8 → line_from (λ k. get_or (a ++ b) (8 + k) 0) ≡ line_in b
+back a b l = line_from-same (λ k. get_or (a ++ b) (8 + k) 0) (λ k. get_or b k 0) (λ k h. high 8 a b k (8 + k) l refl)
 
 pub below_eight : (P : ℕ → Type 0) → P 0 → P 1 → P 2 → P 3 → P 4 → P 5 → P 6 → P 7 → (k : ℕ) → k < 8 → P k
 below_eight P a0 a1 a2 a3 b0 b1 b2 b3 k h =
@@ -68,10 +56,7 @@ joined c0 c1 c2 c3 c4 c5 c6 c7 m =
 
 pub joined_is : (c0 c1 c2 c3 c4 c5 c6 c7 : List ℕ) (m : ℕ) → length c0 ≡ 16 → length c1 ≡ 16 → length c2 ≡ 16 → length c3 ≡ 16 → m < 16
     → joined c0 c1 c2 c3 c4 c5 c6 c7 m ≡ (get_or c0 m 0 ∷ get_or c1 m 0 ∷ get_or c2 m 0 ∷ get_or c3 m 0 ∷ get_or c4 m 0 ∷ get_or c5 m 0 ∷ get_or c6 m 0 ∷ get_or c7 m 0 ∷ [])
-joined_is c0 c1 c2 c3 c4 c5 c6 c7 m l0 l1 l2 l3 h =
-    let e0 = low 16 c0 c4 m l0 h in let e1 = low 16 c1 c5 m l1 h in let e2 = low 16 c2 c6 m l2 h in let e3 = low 16 c3 c7 m l3 h in
-    let e4 = high 16 c0 c4 m (16 + m) l0 refl in let e5 = high 16 c1 c5 m (16 + m) l1 refl in let e6 = high 16 c2 c6 m (16 + m) l2 refl in let e7 = high 16 c3 c7 m (16 + m) l3 refl in
-    λ i. e0 i ∷ e1 i ∷ e2 i ∷ e3 i ∷ e4 i ∷ e5 i ∷ e6 i ∷ e7 i ∷ []
+joined_is c0 c1 c2 c3 c4 c5 c6 c7 m l0 l1 l2 l3 h = grind (arith, low, high)
 
 -- .. and of four
 abbrev pub joined_four : List ℕ → List ℕ → List ℕ → List ℕ → ℕ → List ℕ
@@ -80,6 +65,4 @@ joined_four c0 c1 c2 c3 m =
 
 pub joined_four_is : (c0 c1 c2 c3 : List ℕ) (m : ℕ) → length c0 ≡ 16 → length c1 ≡ 16 → m < 16
     → joined_four c0 c1 c2 c3 m ≡ (get_or c0 m 0 ∷ get_or c1 m 0 ∷ get_or c2 m 0 ∷ get_or c3 m 0 ∷ [])
-joined_four_is c0 c1 c2 c3 m l0 l1 h =
-    let e0 = low 16 c0 c2 m l0 h in let e1 = low 16 c1 c3 m l1 h in let e2 = high 16 c0 c2 m (16 + m) l0 refl in let e3 = high 16 c1 c3 m (16 + m) l1 refl in
-    λ i. e0 i ∷ e1 i ∷ e2 i ∷ e3 i ∷ []
+joined_four_is c0 c1 c2 c3 m l0 l1 h = grind (arith, low, high)

@@ -9,7 +9,7 @@ use Rattle.vp_base.specs.Image.{Image, plane_of, with_plane}
 use Rattle.vp_base.specs.Over.{over}
 use Rattle.vp_loop.specs.declared.lines.Line.{Line}
 use Rattle.vp_loop.specs.declared.lines.LineStep.{LineStep}
-use Rattle.vp_loop.specs.declared.lines.EdgeKind.TheVariants.{Simple, Inner, Macroblock}
+use Rattle.vp_loop.specs.declared.lines.EdgeKind.TheVariants.{Simple, Subblock, Macroblock}
 use Rattle.vp_loop.specs.declared.edges.Orientation.{Orientation}
 use Rattle.vp_loop.specs.declared.edges.Orientation.TheVariants.{Vertical, Horizontal}
 use Rattle.vp_loop.specs.declared.limits.EdgeLimits.{EdgeLimits}
@@ -51,8 +51,8 @@ edge_limits level =
     if level.edge == 0 then None
     else Some (record {
       kind = if level.interior == 0 then filter_is.Simple else filter_is.Normal;
-      outer = level.edge;
-      inner = if level.inner == 0 then None else Some level.inner;
+      macroblock = level.edge;
+      subblock = if level.inner == 0 then None else Some level.inner;
       interior = level.interior;
       hev = level.hev;
     })
@@ -61,40 +61,40 @@ edge_limits level =
 abbrev pub chroma_limits : Option EdgeLimits → Option EdgeLimits
 chroma_limits = option_and_then (λ limits. elim limits.kind [ filter_is.Simple ↦ None | filter_is.Normal ↦ Some limits ])
 
--- the line steps of macroblock edges, and of the edges inside a macroblock
-abbrev pub outer_step : EdgeLimits → LineStep
-outer_step limits = record {
+-- the line steps of macroblock edges, and of the subblock edges inside a macroblock
+abbrev pub macroblock_step : EdgeLimits → LineStep
+macroblock_step limits = record {
   kind = elim limits.kind [ filter_is.Simple ↦ Simple | filter_is.Normal ↦ Macroblock ];
-  limit = limits.outer;
+  limit = limits.macroblock;
   interior = limits.interior;
   hev = limits.hev;
 }
 
-abbrev pub inner_step : EdgeLimits → ℕ → LineStep
-inner_step limits limit = record (outer_step limits) {
-  kind = elim limits.kind [ filter_is.Simple ↦ Simple | filter_is.Normal ↦ Inner ];
+abbrev pub subblock_step : EdgeLimits → ℕ → LineStep
+subblock_step limits limit = record (macroblock_step limits) {
+  kind = elim limits.kind [ filter_is.Simple ↦ Simple | filter_is.Normal ↦ Subblock ];
   limit = limit;
 }
 
 -- the left or top edge of a macroblock, unless the plane begins there
-abbrev pub own_edge : Orientation → LineStep → ℕ → ℕ → ℕ → Raster → Raster
-own_edge o step size x y p =
+abbrev pub macroblock_edge : Orientation → LineStep → ℕ → ℕ → ℕ → Raster → Raster
+macroblock_edge o step size x y p =
     if nat_lt 0 (pick o x y) then edge_lines o step size (pick o (x - 4) x) (pick o y (y - 4)) p else p
 
--- the edges inside a macroblock of size by size pixels: at 4, 8 and 12 of 16, at 4 of 8
-unfoldable pub inner_edges : Orientation → LineStep → ℕ → ℕ → ℕ → Raster → Raster
-inner_edges o step size x y p =
+-- the subblock edges of a macroblock of size by size pixels: at 4, 8 and 12 of 16, at 4 of 8
+unfoldable pub subblock_edges : Orientation → LineStep → ℕ → ℕ → ℕ → Raster → Raster
+subblock_edges o step size x y p =
     over (size / 4 - 1) (λ i. edge_lines o step size (pick o (x + 4 * i) x) (pick o y (y + 4 * i))) p
 
--- the edges inside a macroblock, where they are filtered
+-- the subblock edges of a macroblock, where they are filtered
 abbrev pub edges_inside : Orientation → EdgeLimits → ℕ → ℕ → ℕ → Raster → Raster
 edges_inside o limits size x y p =
-    elim limits.inner [ None ↦ p | Some limit ↦ inner_edges o (inner_step limits limit) size x y p ]
+    elim limits.subblock [ None ↦ p | Some limit ↦ subblock_edges o (subblock_step limits limit) size x y p ]
 
 -- the edges of a macroblock in one direction: its own one, then those inside
 unfoldable pub block_edges : Orientation → ℕ → EdgeLimits → ℕ → ℕ → Raster → Raster
 block_edges o size limits x y p =
-    edges_inside o limits size x y (own_edge o (outer_step limits) size x y p)
+    edges_inside o limits size x y (macroblock_edge o (macroblock_step limits) size x y p)
 
 -- the macroblock whose first pixel is at column x of row y of a plane: vertical edges, then horizontal ones
 unfoldable pub block_filtered : ℕ → Option EdgeLimits → ℕ → ℕ → Raster → Raster

@@ -46,6 +46,15 @@ KeepsEnds n step =
     (l : Line) (k : ℕ) → k < n
     → (pixel_at (stepped step l) k ≡ pixel_at l k) × (pixel_at (stepped step l) (7 - k) ≡ pixel_at l (7 - k))
 
+-- the pixels that a step may change are bytes
+pub record AreBytes (l : Line) : Type 0 where
+  pub p2 : l.p2 < 256
+  pub p1 : l.p1 < 256
+  pub p0 : l.p0 < 256
+  pub q0 : l.q0 < 256
+  pub q1 : l.q1 < 256
+  pub q2 : l.q2 < 256
+
 -- the middle four pixels of a line
 abbrev pub middle_of : Line → List ℕ
 middle_of l = l.p1 ∷ l.p0 ∷ l.q0 ∷ l.q1 ∷ []

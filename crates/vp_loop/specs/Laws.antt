@@ -15,7 +15,7 @@ use Rattle.vp_loop.specs.declared.limits.FilterKind.TheVariants as filter_is
 use Rattle.vp_loop.specs.declared.strength.Level.{Level}
 use Rattle.vp_loop.specs.LineSteps.{stepped}
 use Rattle.vp_loop.specs.Edges.{line_at, pixel_at, line_step, edge_lines}
-use Rattle.vp_loop.specs.Edges.{pick, edge_limits, outer_step, own_edge, edges_inside, on_plane}
+use Rattle.vp_loop.specs.Edges.{pick, edge_limits, macroblock_step, macroblock_edge, edges_inside, on_plane}
 use Rattle.vp_loop.specs.Filtered.{macroblock_filtered, row_filtered}
 
 -- the number of columns and rows of a line
@@ -110,9 +110,9 @@ abbrev pub filtered_by_edges : Option EdgeLimits → ℕ → ℕ → Image → I
 filtered_by_edges None column row p = p
 filtered_by_edges (Some limits) column row p =
     in_planes limits.kind (edges_inside Horizontal limits) column row
-    (in_planes limits.kind (own_edge Horizontal (outer_step limits)) column row
+    (in_planes limits.kind (macroblock_edge Horizontal (macroblock_step limits)) column row
     (in_planes limits.kind (edges_inside Vertical limits) column row
-    (in_planes limits.kind (own_edge Vertical (outer_step limits)) column row p)))
+    (in_planes limits.kind (macroblock_edge Vertical (macroblock_step limits)) column row p)))
 
 -- Filtering edge by edge gives the same result as plane by plane.
 abbrev pub EdgeByEdge : Type 0

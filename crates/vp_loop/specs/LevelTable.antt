@@ -1,4 +1,4 @@
--- The table of a frame's filter parameters, and where it has those of a kind of macroblock.
+-- The table of a frame's levels, and where it has that of a kind of macroblock.
 use Rattle.std.specs.Prelude.{◌≡◌, ◌<◌, ℕ, Bool, [], slice_index_or, if◌then◌else◌}
 use Rattle.vp_head.specs.declared.fields.Header.{Header}
 use Rattle.vp_head.specs.declared.fields.Reference.{Reference}

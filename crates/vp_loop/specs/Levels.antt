@@ -70,11 +70,11 @@ abbrev pub has_inner_edges : MacroblockKind → Bool
 has_inner_edges kind =
     kind.coded || elim kind.prediction [ Subblocks ↦ Bool.true | Split ↦ Bool.true | class ↦ Bool.false ]
 
--- the filter parameters of a macroblock that isn't filtered
+-- the limits of a macroblock that isn't filtered
 abbrev pub no_level : Level
 no_level = record { edge = 0; inner = 0; interior = 0; hev = 0 }
 
--- the filter parameters; the simple filter has no interior limit and no threshold
+-- the limits of a macroblock's edges; the simple filter has no interior limit and no threshold
 unfoldable pub filter_level : Header → ℕ → MacroblockKind → Level
 filter_level header segment kind =
     let level = macroblock_level header segment kind in

@@ -7,7 +7,7 @@ use Rattle.std.specs.Int.{abs_diff, int_min, int_max}
 use lib.Signed.{shr_z as floor_div}
 use Rattle.vp_loop.specs.declared.lines.Line.{Line}
 use Rattle.vp_loop.specs.declared.lines.LineStep.{LineStep}
-use Rattle.vp_loop.specs.declared.lines.EdgeKind.TheVariants.{Simple, Inner, Macroblock}
+use Rattle.vp_loop.specs.declared.lines.EdgeKind.TheVariants.{Simple, Subblock, Macroblock}
 
 -- z clamped to -128 to 127 (`c` of chapter 15.2)
 abbrev pub clamp8 : ℤ → ℤ
@@ -85,6 +85,6 @@ stepped step l =
     let high = is_high step.hev l in
     elim step.kind [
       | Simple ↦ cond small (common_adjusted Bool.true l) l
-      | Inner ↦ cond smooth (subblock_edge_filtered high l) l
+      | Subblock ↦ cond smooth (subblock_edge_filtered high l) l
       | Macroblock ↦ cond smooth (macroblock_edge_filtered high l) l
     ]

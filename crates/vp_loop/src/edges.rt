@@ -2,16 +2,15 @@
 //! together. The parameters `LUMA` and `VERTICAL` change no result: they give each kind of edge its own copy of a
 //! function, and a copy with one caller is compiled for that kind alone.
 
-ghost use Rattle.std.specs.Prelude.{◌≡◌, ℕ, ◌+◌, ◌-◌, ◌*◌, ◌/◌, ◌<◌, ◌≤◌, Some};
-ghost use Rattle.vp_base.specs.Image.{Image};
-ghost use Rattle.vp_loop.specs.Edges.{pick, edge_lines, own_edge, inner_edges, block_edges};
+ghost use Rattle.std.specs.Prelude.{◌≡◌, ◌+◌, ◌-◌, ◌*◌, ◌/◌, ◌<◌, ◌≤◌, Some};
+ghost use Rattle.vp_loop.specs.Edges.{pick, edge_lines, macroblock_edge, subblock_edges, block_edges};
 ghost use Rattle.vp_loop.specs.Edges.{block_filtered};
 ghost use Rattle.vp_loop.specs.Lanes.{KeepsEnds, unwritten, size_in, on_planes, IsEdgeWithin, IsBlockWithin};
 
 use crate::limits::EdgeLimits;
 use crate::lines::LineStep;
-use crate::load::load;
-use crate::store::store;
+use crate::load::load_lines;
+use crate::store::store_lines;
 use vp_base::Picture;
 
 /// The planes whose edges are filtered at once.
@@ -23,16 +22,16 @@ pub(crate) enum Planes {
     Chroma,
 }
 
-/// The orientation of an edge; a line of eight pixels crosses it.
+/// The orientation of an edge; lines of eight pixels cross it.
 #[derive(Clone, Copy)]
 pub(crate) enum Orientation {
-    /// Its lines are in rows.
+    /// The lines across it are in rows.
     Vertical,
-    /// Its lines are in columns.
+    /// The lines across it are in columns.
     Horizontal,
 }
 
-/// An edge of a macroblock. Its first line begins at column `x` of row `y`.
+/// An edge of a macroblock. Pixel `p3` of the first line across it is at column `x` of row `y`.
 #[derive(Clone, Copy)]
 pub(crate) struct Edge {
     pub(crate) planes: Planes,
@@ -42,7 +41,7 @@ pub(crate) struct Edge {
 }
 
 impl Planes {
-    /// The number of edges inside a macroblock in each direction.
+    /// The number of subblock edges inside a macroblock in each direction.
     #[inline(always)]
     fn edges_inside(self) -> usize
         ensures { result ≡ size_in self / 4 - 1 }
@@ -77,7 +76,7 @@ impl Edge {
     }
 }
 
-/// Filters an edge. One `inside` a macroblock has a step that changes only the middle four pixels of each line.
+/// Filters one edge. Of an edge `inside` a macroblock, `step` changes only the middle four pixels of each line.
 #[inline(always)]
 fn filter_edge(picture: &mut Picture, edge: Edge, step: LineStep, inside: bool)
     requires within { IsEdgeWithin edge picture.old }
@@ -85,45 +84,44 @@ fn filter_edge(picture: &mut Picture, edge: Edge, step: LineStep, inside: bool)
     ensures { picture.new ≡ on_planes edge.planes (λ n lane. edge_lines edge.orientation step n edge.x edge.y)
         picture.old }
 {
-    match step.apply_to_all(load(picture, edge)) {
+    match step.apply_to_lines(load_lines(picture, edge)) {
         None => {}
-        Some(lines) => store(picture, edge, lines, inside),
+        Some(lines) => store_lines(picture, edge, lines, inside),
     }
 }
 
-/// Filters the left or top edge of a macroblock, unless the plane begins there. `edge` is at its first pixel.
+/// Filters the left or the top edge of a macroblock, unless the plane begins there. `edge` begins at the macroblock's
+/// first pixel; the lines that cross it begin four pixels before.
 #[inline(always)]
-fn filter_own_edge<const LUMA: bool, const VERTICAL: bool>(
+fn filter_macroblock_edge<const LUMA: bool, const VERTICAL: bool>(
     picture: &mut Picture,
     edge: Edge,
     step: LineStep,
 )
     requires { IsBlockWithin edge.planes edge.x edge.y picture.old }
-    ensures { picture.new ≡ on_planes edge.planes (λ n lane. own_edge edge.orientation step n edge.x edge.y)
+    ensures { picture.new ≡ on_planes edge.planes (λ n lane. macroblock_edge edge.orientation step n edge.x edge.y)
         picture.old }
 {
     match edge.orientation {
-        Orientation::Vertical => {
-            if edge.x > 0 {
-                let x = edge.x - 4;
-                filter_edge(picture, Edge { x, ..edge }, step, false);
-            }
+        Orientation::Vertical if edge.x > 0 => {
+            let x = edge.x - 4;
+            filter_edge(picture, Edge { x, ..edge }, step, false);
         }
-        Orientation::Horizontal => {
-            if edge.y > 0 {
-                let y = edge.y - 4;
-                filter_edge(picture, Edge { y, ..edge }, step, false);
-            }
+        Orientation::Horizontal if edge.y > 0 => {
+            let y = edge.y - 4;
+            filter_edge(picture, Edge { y, ..edge }, step, false);
         }
+        _ => {}
     }
 }
 
-/// Filters the edges inside a macroblock in one direction. `edge` is at its first pixel.
+/// Filters the subblock edges of a macroblock in one direction: those inside it, every four pixels. `edge` begins at
+/// the macroblock's first pixel.
 #[inline(always)]
-fn filter_inner_edges(picture: &mut Picture, edge: Edge, step: LineStep)
+fn filter_subblock_edges(picture: &mut Picture, edge: Edge, step: LineStep)
     requires within { IsBlockWithin edge.planes edge.x edge.y picture.old }
     requires ends { KeepsEnds 2 step }
-    ensures { picture.new ≡ on_planes edge.planes (λ n lane. inner_edges edge.orientation step n edge.x edge.y)
+    ensures { picture.new ≡ on_planes edge.planes (λ n lane. subblock_edges edge.orientation step n edge.x edge.y)
         picture.old }
 {
     let _known = picture.dim();
@@ -132,9 +130,10 @@ fn filter_inner_edges(picture: &mut Picture, edge: Edge, step: LineStep)
     }
 }
 
-/// Filters the edges of a macroblock in one direction. `edge` is at its first pixel.
+/// Filters all edges of a macroblock in one direction: its left or top edge, then those inside. `edge` begins at the
+/// macroblock's first pixel.
 #[inline(always)]
-fn filter_edges<const LUMA: bool, const VERTICAL: bool>(
+fn filter_parallel_edges<const LUMA: bool, const VERTICAL: bool>(
     picture: &mut Picture,
     edge: Edge,
     limits: EdgeLimits,
@@ -143,16 +142,17 @@ fn filter_edges<const LUMA: bool, const VERTICAL: bool>(
     ensures { picture.new ≡ on_planes edge.planes (λ n lane. block_edges edge.orientation n limits edge.x edge.y)
         picture.old }
 {
-    filter_own_edge::<LUMA, VERTICAL>(picture, edge, limits.outer_step());
-    match limits.inner {
+    filter_macroblock_edge::<LUMA, VERTICAL>(picture, edge, limits.macroblock_step());
+    match limits.subblock {
         None => {}
-        Some(limit) => filter_inner_edges(picture, edge, limits.inner_step(limit)),
+        Some(limit) => filter_subblock_edges(picture, edge, limits.subblock_step(limit)),
     }
 }
 
-/// Filters the edges of a macroblock in these planes. Its first pixels are at column `x` of row `y`.
+/// Filters the edges of a macroblock in luma, or in both chroma planes: all vertical ones, then all horizontal ones.
+/// Its first pixel is at column `x` of row `y` of these planes.
 #[inline(always)]
-pub(crate) fn filter_block<const LUMA: bool>(
+pub(crate) fn filter_planes<const LUMA: bool>(
     picture: &mut Picture,
     planes: Planes,
     x: usize,
@@ -162,20 +162,18 @@ pub(crate) fn filter_block<const LUMA: bool>(
     requires { IsBlockWithin planes x y picture.old }
     ensures { picture.new ≡ on_planes planes (λ n lane. block_filtered n (Some limits) x y) picture.old }
 {
+    let orientation = Orientation::Vertical;
     let edge = Edge {
         planes,
-        orientation: Orientation::Vertical,
+        orientation,
         x,
         y,
     };
-    filter_edges::<LUMA, true>(picture, edge, limits);
+    filter_parallel_edges::<LUMA, true>(picture, edge, limits);
     let orientation = Orientation::Horizontal;
-    filter_edges::<LUMA, false>(
-        picture,
-        Edge {
-            orientation,
-            ..edge
-        },
-        limits,
-    );
+    let edge = Edge {
+        orientation,
+        ..edge
+    };
+    filter_parallel_edges::<LUMA, false>(picture, edge, limits);
 }

@@ -1,16 +1,15 @@
 //! Filtering a picture in place.
 
-ghost use Rattle.std.specs.Prelude.{◌≡◌, ℕ, ◌+◌, ◌*◌, ◌/◌, ◌<◌, ◌≤◌, length};
-ghost use Rattle.vp_base.specs.Image.{Image, macroblocks, plane_of, with_plane};
-ghost use Rattle.vp_loop.specs.Edges.{edge_limits, chroma_limits, block_filtered};
+ghost use Rattle.std.specs.Prelude.{◌≡◌, ◌+◌, ◌*◌, ◌<◌, ◌≤◌, length};
+ghost use Rattle.vp_base.specs.Image.{macroblocks};
 ghost use Rattle.vp_loop.specs.Filtered.{macroblock_filtered, row_filtered, filtered, level_in};
 
-use crate::edges::{Planes, filter_block};
+use crate::edges::{Planes, filter_planes};
 use crate::limits::{EdgeLimits, FilterKind};
 use crate::strength::Level;
 use vp_base::Picture;
 
-/// Filters one macroblock.
+/// Filters the edges of one macroblock: in luma and, unless the filter is the simple one, in both chroma planes.
 #[inline(always)]
 fn filter_macroblock(picture: &mut Picture, level: Level, column: usize, row: usize)
     requires column { column < macroblocks picture.old.width }
@@ -22,10 +21,10 @@ fn filter_macroblock(picture: &mut Picture, level: Level, column: usize, row: us
         None => return,
         Some(limits) => limits,
     };
-    filter_block::<true>(picture, Planes::Luma, 16 * column, 16 * row, limits);
+    filter_planes::<true>(picture, Planes::Luma, 16 * column, 16 * row, limits);
     match limits.kind {
         FilterKind::Simple => {}
-        FilterKind::Normal => filter_block::<false>(
+        FilterKind::Normal => filter_planes::<false>(
             picture,
             Planes::Chroma,
             8 * column,
@@ -69,7 +68,7 @@ pub trait RowFilter {
         ensures { picture.new ≡ row_filtered (level_in levels.now (macroblocks picture.old.width)) row picture.old };
 }
 
-/// The loop filter of this crate, in lanes.
+/// The loop filter of this crate, over `std::simd`: sixteen lines at a time. Callers rely on the name.
 #[derive(Clone, Copy, Debug, PartialEq, Eq)]
 pub struct Lanes;
 

@@ -1,11 +1,12 @@
-//! The line step on sixteen lines at once. Each line has its own filter mask and high edge variance.
+//! The line step on sixteen lines at once, in the lanes of vectors. Each line has its own filter mask and high edge
+//! variance. Values from -128 to 127 are bytes with bias 128, so sums that saturate clamp as the standard does.
 
-ghost use Rattle.std.specs.Prelude.{◌≡◌, ℕ, ◌<◌, ◌≤◌, ◌*◌, ◌/◌, ◌+◌, slice_index, max, cond, ◌&&◌, true};
-ghost use Rattle.std.specs.Int.{abs_diff};
-ghost use Rattle.vp_loop.specs.declared.lines.Line.{Line};
+ghost use Rattle.std.specs.Prelude.{◌≡◌, ℕ, ◌<◌, ◌≤◌, ◌+◌, ◌-ℤ◌, pos, slice_index, cond, ◌&&◌, nat_le, nat_lt};
+ghost use Rattle.std.specs.Prelude.{Bool, true};
+ghost use Rattle.vp_lanes.specs.Lane.{biased};
 ghost use Rattle.vp_loop.specs.LineSteps.{stepped, common_adjusted, subblock_edge_filtered, macroblock_edge_filtered};
-ghost use Rattle.vp_loop.specs.LineSteps.{is_small_step, is_smooth, is_high};
-ghost use Rattle.vp_loop.specs.Lanes.{line_of, lines_or};
+ghost use Rattle.vp_loop.specs.LineSteps.{clamp8, filter_value, is_small_step, is_smooth, is_high};
+ghost use Rattle.vp_loop.specs.Lanes.{line_of, lines_or, AreBytes};
 
 use crate::lines::{EdgeKind, LineStep};
 use std::simd::prelude::*;
@@ -14,7 +15,7 @@ use vp_lanes::{
     masked, raised, saturating_difference, weighted_filter_value, where_high, where_low,
 };
 
-/// Sixteen lines, with one vector for each of their eight pixels.
+/// Sixteen lines, with one vector for each of their eight pixels: lane j of it is that pixel of line j.
 #[derive(Clone, Copy)]
 pub(crate) struct Lines {
     pub(crate) p3: u8x16,
@@ -27,14 +28,13 @@ pub(crate) struct Lines {
     pub(crate) q3: u8x16,
 }
 
-/// The greatest absolute difference of adjacent pixels on one side of the edge.
+/// The greatest absolute difference of adjacent pixels on one side of the edge; a line is smooth if it is within the
+/// interior limit.
+#[tactic(auto, using(crate::proofs::LaneLines::smooth_is))]
 #[inline(always)]
 fn most_apart(l: Lines) -> u8x16
-    ensures { (j : ℕ) → j < 16 → slice_index result j
-        ≡ max (max (max (abs_diff (slice_index l.p3 j) (slice_index l.p2 j))
-        (abs_diff (slice_index l.p2 j) (slice_index l.p1 j))) (abs_diff (slice_index l.p1 j) (slice_index l.p0 j)))
-        (max (max (abs_diff (slice_index l.q1 j) (slice_index l.q0 j))
-        (abs_diff (slice_index l.q2 j) (slice_index l.q1 j))) (abs_diff (slice_index l.q3 j) (slice_index l.q2 j))) }
+    ensures { (j interior : ℕ) → j < 16
+        → nat_le (slice_index result j) interior ≡ is_smooth interior (line_of l j) }
 {
     let p = lane_max(
         lane_max(abs_diff16(l.p3, l.p2), abs_diff16(l.p2, l.p1)),
@@ -47,11 +47,11 @@ fn most_apart(l: Lines) -> u8x16
     lane_max(p, q)
 }
 
-/// The greater of `|p1 - p0|` and `|q1 - q0|`.
+/// The greater of `|p1 - p0|` and `|q1 - q0|`: above the threshold, a line has high edge variance.
+#[tactic(auto, using(crate::proofs::LaneLines::lt_max))]
 #[inline(always)]
-fn inner_apart(l: Lines) -> u8x16
-    ensures { (j : ℕ) → j < 16 → slice_index result j ≡ max (abs_diff (slice_index l.p1 j) (slice_index l.p0 j))
-        (abs_diff (slice_index l.q1 j) (slice_index l.q0 j)) }
+fn edge_variance(l: Lines) -> u8x16
+    ensures { (j threshold : ℕ) → j < 16 → nat_lt threshold (slice_index result j) ≡ is_high threshold (line_of l j) }
 {
     lane_max(abs_diff16(l.p1, l.p0), abs_diff16(l.q1, l.q0))
 }
@@ -75,51 +75,60 @@ fn is_near_zero(w: u8x16, reach: u8) -> bool
     is_zero(lane_max(above, below))
 }
 
-/// The normal filter of a subblock edge, or `None` if it changes no line: a filter value of -3 to 3 changes no pixel.
+/// The filter value of each line, with bias 128, or 0 where the filter mask excludes the line. `taps` is what `p1` and
+/// `q1` contribute, with bias 128: their difference if the filter uses it, else 0. `most` is compared with the interior
+/// limit.
 #[inline(always)]
-fn inner(l: Lines, limit: u8, interior: u8, threshold: u8) -> Option<Lines>
+fn masked_filter_value(l: Lines, taps: u8x16, limit: u8, most: u8x16, interior: u8) -> u8x16
+    ensures value { (j : ℕ) (outer : Bool) → j < 16
+        → biased 128 taps j ≡ cond outer (clamp8 (pos (slice_index l.p1 j) -ℤ pos (slice_index l.q1 j))) (pos 0)
+        → biased 128 result j ≡ cond (is_small_step limit (line_of l j) && nat_le (slice_index most j) interior)
+        (filter_value outer (line_of l j)) (pos 0) }
+    ensures bytes { (j : ℕ) → j < 16 → AreBytes (line_of l j) }
+{
+    let p0_q0 = lane_abs_diff(l.p0, l.q0);
+    let p1_q1 = lane_abs_diff(l.p1, l.q1);
+    let w = filter_value(taps, l.p0, l.q0);
+    masked(w, p0_q0, p1_q1, limit, most, interior)
+}
+
+/// The normal filter of subblock edges, or `None` if it changes no line: a filter value of -3 to 3 changes no pixel.
+#[inline(always)]
+fn subblock_filter(l: Lines, limit: u8, interior: u8, threshold: u8) -> Option<Lines>
     ensures { (j : ℕ) → j < 16 → line_of (lines_or l result) j ≡ cond (is_small_step limit (line_of l j)
         && is_smooth interior (line_of l j)) (subblock_edge_filtered (is_high threshold (line_of l j)) (line_of l j))
         (line_of l j) }
 {
     let most = most_apart(l);
-    let apart = inner_apart(l);
-    let edge = lane_abs_diff(l.p0, l.q0);
-    let outer = lane_abs_diff(l.p1, l.q1);
-    let d = difference(l.p1, l.q1);
-    let w = where_high(d, apart, threshold, 128);
-    let s = filter_value(w, l.p0, l.q0);
-    let a = masked(s, edge, outer, limit, most, interior);
-    if is_near_zero(a, 3) {
+    let variance = edge_variance(l);
+    let taps = where_high(difference(l.p1, l.q1), variance, threshold, 128);
+    let w = masked_filter_value(l, taps, limit, most, interior);
+    if is_near_zero(w, 3) {
         return None;
     }
-    let f1 = eighth(a, 4);
-    let f2 = eighth(a, 3);
-    let h = half(f1);
-    let t = where_low(h, apart, threshold, 8);
+    let f1 = eighth(w, 4);
+    let f2 = eighth(w, 3);
+    let a = where_low(half(f1), variance, threshold, 8);
     Some(Lines {
-        p1: raised(l.p1, t, 8),
+        p1: raised(l.p1, a, 8),
         p0: raised(l.p0, f2, 16),
         q0: lowered(l.q0, f1, 16),
-        q1: lowered(l.q1, t, 8),
+        q1: lowered(l.q1, a, 8),
         ..l
     })
 }
 
-/// The normal filter of a macroblock edge, or `None` if it changes no line: a filter value of -2 to 2 changes no pixel.
+/// The normal filter of macroblock edges, or `None` if it changes no line: a filter value of -2 to 2 changes no pixel.
 #[inline(always)]
-fn outer(l: Lines, limit: u8, interior: u8, threshold: u8) -> Option<Lines>
+fn macroblock_filter(l: Lines, limit: u8, interior: u8, threshold: u8) -> Option<Lines>
     ensures { (j : ℕ) → j < 16 → line_of (lines_or l result) j ≡ cond (is_small_step limit (line_of l j)
         && is_smooth interior (line_of l j)) (macroblock_edge_filtered (is_high threshold (line_of l j)) (line_of l j))
         (line_of l j) }
 {
     let most = most_apart(l);
-    let apart = inner_apart(l);
-    let edge = lane_abs_diff(l.p0, l.q0);
-    let outer = lane_abs_diff(l.p1, l.q1);
-    let d = difference(l.p1, l.q1);
-    let s = filter_value(d, l.p0, l.q0);
-    let w = masked(s, edge, outer, limit, most, interior);
+    let variance = edge_variance(l);
+    let taps = difference(l.p1, l.q1);
+    let w = masked_filter_value(l, taps, limit, most, interior);
     if is_near_zero(w, 2) {
         return None;
     }
@@ -128,33 +137,30 @@ fn outer(l: Lines, limit: u8, interior: u8, threshold: u8) -> Option<Lines>
     let t0 = weighted_filter_value(w, 27);
     let t1 = weighted_filter_value(w, 18);
     let t2 = weighted_filter_value(w, 9);
-    let u0 = either(f2, t0, apart, threshold);
-    let v0 = either(f1, t0, apart, threshold);
-    let u1 = where_low(t1, apart, threshold, 18);
-    let u2 = where_low(t2, apart, threshold, 9);
+    let u0 = either(f2, t0, variance, threshold);
+    let v0 = either(f1, t0, variance, threshold);
+    let a1 = where_low(t1, variance, threshold, 18);
+    let a2 = where_low(t2, variance, threshold, 9);
     Some(Lines {
-        p2: raised(l.p2, u2, 9),
-        p1: raised(l.p1, u1, 18),
+        p2: raised(l.p2, a2, 9),
+        p1: raised(l.p1, a1, 18),
         p0: raised(l.p0, u0, 27),
         q0: lowered(l.q0, v0, 27),
-        q1: lowered(l.q1, u1, 18),
-        q2: lowered(l.q2, u2, 9),
+        q1: lowered(l.q1, a1, 18),
+        q2: lowered(l.q2, a2, 9),
         ..l
     })
 }
 
 /// The simple filter, or `None` if it changes no line: a filter value of -3 to 3 changes no pixel.
 #[inline(always)]
-fn simple(l: Lines, limit: u8) -> Option<Lines>
+fn simple_filter(l: Lines, limit: u8) -> Option<Lines>
     ensures { (j : ℕ) → j < 16 → line_of (lines_or l result) j ≡ cond (is_small_step limit (line_of l j))
         (common_adjusted true (line_of l j)) (line_of l j) }
 {
-    let edge = lane_abs_diff(l.p0, l.q0);
-    let outer = lane_abs_diff(l.p1, l.q1);
-    let d = difference(l.p1, l.q1);
-    let s = filter_value(d, l.p0, l.q0);
+    let taps = difference(l.p1, l.q1);
     // No byte is above 255, so this interior limit never excludes a line.
-    let w = masked(s, edge, outer, limit, l.p0, 255);
+    let w = masked_filter_value(l, taps, limit, l.p0, 255);
     if is_near_zero(w, 3) {
         return None;
     }
@@ -171,13 +177,13 @@ impl LineStep {
     /// Filters sixteen lines. `None` says that each stays as it is.
     #[tactic(auto, unfolding(crate::specs::LineSteps::stepped))]
     #[inline(always)]
-    pub(crate) fn apply_to_all(self, lines: Lines) -> Option<Lines>
+    pub(crate) fn apply_to_lines(self, lines: Lines) -> Option<Lines>
         ensures { (j : ℕ) → j < 16 → line_of (lines_or lines result) j ≡ stepped self (line_of lines j) }
     {
         match self.kind {
-            EdgeKind::Simple => simple(lines, self.limit),
-            EdgeKind::Inner => inner(lines, self.limit, self.interior, self.hev),
-            EdgeKind::Macroblock => outer(lines, self.limit, self.interior, self.hev),
+            EdgeKind::Simple => simple_filter(lines, self.limit),
+            EdgeKind::Subblock => subblock_filter(lines, self.limit, self.interior, self.hev),
+            EdgeKind::Macroblock => macroblock_filter(lines, self.limit, self.interior, self.hev),
         }
     }
 }

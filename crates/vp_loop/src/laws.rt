@@ -3,6 +3,7 @@ ghost use Rattle.vp_loop.specs.Laws.{DisjointStepsCommute, EdgesAtOnce, PlanesCo
 ghost use Rattle.vp_loop.specs.Laws.{RowReadsAbove, RowKeepsAbove, RowKeepsSize, RowKeepsAligned, RowKeepsWhole};
 
 /// Line steps that share no pixel commute.
+#[tactic(auto, using(crate::proofs::LawLemmas::commutes))]
 pub fn disjoint_steps_commute()
     ensures { DisjointStepsCommute }
 {}
@@ -13,6 +14,7 @@ pub fn edge_at_once()
 {}
 
 /// Steps on two planes commute, so a macroblock may be filtered plane by plane or edge by edge.
+#[tactic(auto, using(crate::proofs::PlaneLaws::edge_by_edge))]
 pub fn planes_commute()
     ensures commute { PlanesCommute }
     ensures edges { EdgeByEdge }
@@ -30,6 +32,7 @@ pub fn rows_above_are_final()
 {}
 
 /// Filtering a row of macroblocks changes no size.
+#[tactic(auto, using(crate::proofs::WindowLemmas::row_size, crate::proofs::WindowLemmas::row_aligned))]
 pub fn sizes_are_kept()
     ensures sizes { RowKeepsSize }
     ensures aligned { RowKeepsAligned }

@@ -1,4 +1,4 @@
-//! The filter parameters of all kinds of macroblocks of a frame.
+//! The levels of all kinds of macroblocks of a frame.
 
 ghost use Rattle.std.specs.Prelude.{◌≡◌, ◌<◌, length, Bool};
 ghost use Rattle.vp_head.specs.declared.fields.Header.{Header};
@@ -9,26 +9,26 @@ ghost use Rattle.vp_loop.specs.LevelTable.{AreLevels, AreSegmentLevels, AreFrame
 use crate::strength::{Level, MacroblockKind, ModeClass, levels};
 use vp_head::{Header, Reference};
 
-/// The filter parameters of macroblocks of one segment, reference frame and mode class: of coded ones, and of others.
+/// The levels of macroblocks of one segment, reference frame and mode class: of coded ones, and of others.
 #[derive(Clone, Copy, Drop)]
 struct KindLevels {
     coded: Level,
     uncoded: Level,
 }
 
-/// The filter parameters of macroblocks of one segment and reference frame, by mode class.
+/// The levels of macroblocks of one segment and reference frame, by mode class.
 #[derive(Clone, Copy, Drop)]
 struct ClassLevels {
     classes: [KindLevels; 5],
 }
 
-/// The filter parameters of macroblocks of one segment, by reference frame.
+/// The levels of macroblocks of one segment, by reference frame.
 #[derive(Clone, Copy, Drop)]
 struct SegmentLevels {
     references: [ClassLevels; 4],
 }
 
-/// The filter parameters of a frame's macroblocks, worked out once for each kind of macroblock.
+/// The levels of a frame's macroblocks, worked out once for each kind of macroblock.
 #[derive(Clone, Copy, Drop)]
 pub struct LevelTable {
     segments: [SegmentLevels; 4],
@@ -131,7 +131,7 @@ impl LevelTable {
         LevelTable { segments }
     }
 
-    /// The filter parameters of a macroblock of segment `segment`, 0 to 3, as [`levels`] gives them.
+    /// The level of a macroblock of segment `segment`, 0 to 3, as [`levels`] gives them.
     pub fn level(&self, segment: u8, kind: &MacroblockKind) -> Level
         requires { segment < 4 }
         ensures { (header : Header) → AreFrameLevels header self.now → result ≡ filter_level header segment kind.now }

@@ -1,7 +1,7 @@
 //! The limits of a macroblock's edges.
 
 ghost use Rattle.std.specs.Prelude.{◌≡◌};
-ghost use Rattle.vp_loop.specs.Edges.{edge_limits, outer_step, inner_step};
+ghost use Rattle.vp_loop.specs.Edges.{edge_limits, macroblock_step, subblock_step};
 
 use crate::lines::{EdgeKind, LineStep};
 use crate::strength::Level;
@@ -15,15 +15,15 @@ pub(crate) enum FilterKind {
     Normal,
 }
 
-/// The limits of the edges of a macroblock that is filtered.
+/// The limits of the edges of a macroblock that is filtered: those of its [`Level`], with types for its zeros.
 #[derive(Clone, Copy)]
 pub(crate) struct EdgeLimits {
     /// The kind of filter.
     pub(crate) kind: FilterKind,
     /// The edge limit of macroblock edges.
-    pub(crate) outer: u8,
+    pub(crate) macroblock: u8,
     /// The edge limit of subblock edges, if they are filtered.
-    pub(crate) inner: Option<u8>,
+    pub(crate) subblock: Option<u8>,
     /// The interior limit. Unused by the simple filter.
     pub(crate) interior: u8,
     /// The threshold of high edge variance. Unused by the simple filter.
@@ -45,8 +45,8 @@ impl EdgeLimits {
             } else {
                 FilterKind::Normal
             },
-            outer: level.edge,
-            inner: if level.inner == 0 {
+            macroblock: level.edge,
+            subblock: if level.inner == 0 {
                 None
             } else {
                 Some(level.inner)
@@ -58,15 +58,15 @@ impl EdgeLimits {
 
     /// The line step of macroblock edges.
     #[inline(always)]
-    pub(crate) fn outer_step(self) -> LineStep
-        ensures { result ≡ outer_step self }
+    pub(crate) fn macroblock_step(self) -> LineStep
+        ensures { result ≡ macroblock_step self }
     {
         LineStep {
             kind: match self.kind {
                 FilterKind::Simple => EdgeKind::Simple,
                 FilterKind::Normal => EdgeKind::Macroblock,
             },
-            limit: self.outer,
+            limit: self.macroblock,
             interior: self.interior,
             hev: self.hev,
         }
@@ -74,13 +74,13 @@ impl EdgeLimits {
 
     /// The line step of subblock edges with this edge limit.
     #[inline(always)]
-    pub(crate) fn inner_step(self, limit: u8) -> LineStep
-        ensures { result ≡ inner_step self limit }
+    pub(crate) fn subblock_step(self, limit: u8) -> LineStep
+        ensures { result ≡ subblock_step self limit }
     {
         LineStep {
             kind: match self.kind {
                 FilterKind::Simple => EdgeKind::Simple,
-                FilterKind::Normal => EdgeKind::Inner,
+                FilterKind::Normal => EdgeKind::Subblock,
             },
             limit,
             interior: self.interior,

@@ -1,7 +1,8 @@
-//! The line step: filters the eight pixels of one line across an edge.
+//! The eight pixels of one line across an edge, and the line step: how it is filtered. The functions are the scalar
+//! form, which only tests call; the decoder takes the types, and filters sixteen lines at once (`lanes.rt`).
 
-ghost use Rattle.std.specs.Prelude.{◌≡◌, ℕ, ℤ, ◌+◌, ◌*◌, ◌/◌, ◌≤◌, ◌≤ℤ◌, ◌+ℤ◌, ◌-ℤ◌, ◌*ℤ◌, pos, negsuc, cond, nat_le};
-ghost use Rattle.std.specs.Prelude.{nat_lt, ◌&&◌, ◌||◌, Bool, true};
+ghost use Rattle.std.specs.Prelude.{◌≡◌, ℤ, ◌+◌, ◌*◌, ◌/◌, ◌≤◌, ◌≤ℤ◌, ◌+ℤ◌, ◌-ℤ◌, ◌*ℤ◌, pos, negsuc, cond};
+ghost use Rattle.std.specs.Prelude.{◌&&◌, ◌||◌, Bool, true};
 ghost use Rattle.std.specs.Int.{abs_diff};
 ghost use lib.Signed.{shr_z as floor_div};
 ghost use Rattle.vp_loop.specs.LineSteps.{clamp8, signed, pixel_from, filter_value, eighth, common_adjusted};
@@ -35,7 +36,7 @@ pub enum EdgeKind {
     /// The simple filter, for both kinds of edges.
     Simple,
     /// The normal filter of an edge between subblocks.
-    Inner,
+    Subblock,
     /// The normal filter of an edge between macroblocks.
     Macroblock,
 }
@@ -53,7 +54,7 @@ pub struct LineStep {
     pub hev: u8,
 }
 
-/// Clamps to -128 to 127.
+/// Clamps to -128 to 127 (`c` in the standard).
 fn clamped(x: i32) -> i32
     ensures value { result ≡ clamp8 x }
     ensures range { (negsuc 127 ≤ℤ result) × (result ≤ℤ pos 127) }
@@ -95,6 +96,7 @@ fn half(x: i32) -> i32
     (x + 1) >> 1
 }
 
+/// The difference of two pixels, `p - q`.
 fn difference(p: u8, q: u8) -> i32
     ensures value { result ≡ signed p -ℤ signed q }
     ensures range { (negsuc 254 ≤ℤ result) × (result ≤ℤ pos 255) }
@@ -115,6 +117,7 @@ fn outer_tap_difference(outer: bool, line: Line) -> i32
 }
 
 /// The filter value: `3 * (q0 - p0)`, with or without the outer taps, clamped to -128 to 127.
+#[tactic(auto, using(crate::proofs::FilterValueLemmas::pull_same, crate::proofs::Shift::same_is))]
 fn filter_value(outer: bool, line: Line) -> i32
     ensures value { result ≡ filter_value outer line }
     ensures range { (negsuc 127 ≤ℤ result) × (result ≤ℤ pos 127) }
@@ -125,6 +128,7 @@ fn filter_value(outer: bool, line: Line) -> i32
 }
 
 /// `weight / 128` of the filter value, rounded to the nearest and clamped to -128 to 127.
+#[tactic(auto, using(crate::proofs::FilterValueLemmas::shared, crate::proofs::Shift::same_is))]
 fn weighted_filter_value(weight: i32, w: i32) -> i32
     requires weight { (pos 0 ≤ℤ weight) × (weight ≤ℤ pos 27) }
     requires w { (negsuc 127 ≤ℤ w) × (w ≤ℤ pos 127) }
@@ -134,6 +138,8 @@ fn weighted_filter_value(weight: i32, w: i32) -> i32
     clamped((w * weight + 63) >> 7)
 }
 
+/// A pixel plus `by`, clamped to 0 to 255.
+#[tactic(auto, using(crate::proofs::Shift::sum_same))]
 fn raised(pixel: u8, by: i32) -> u8
     requires { (negsuc 127 ≤ℤ by) × (by ≤ℤ pos 127) }
     ensures { result ≡ pixel_from (signed pixel +ℤ by) }
@@ -141,6 +147,8 @@ fn raised(pixel: u8, by: i32) -> u8
     pixel_from(signed(pixel) + by)
 }
 
+/// A pixel minus `by`, clamped to 0 to 255.
+#[tactic(auto, using(crate::proofs::Shift::difference_same))]
 fn lowered(pixel: u8, by: i32) -> u8
     requires { (negsuc 127 ≤ℤ by) × (by ≤ℤ pos 127) }
     ensures { result ≡ pixel_from (signed pixel -ℤ by) }
@@ -179,7 +187,7 @@ fn outer_tap_adjustment(high: bool, by: i32) -> i32
 }
 
 /// The normal filter of a subblock edge.
-fn subblock_filter(high: bool, line: Line) -> Line
+fn subblock_edge_filtered(high: bool, line: Line) -> Line
     ensures { result ≡ subblock_edge_filtered high line }
 {
     let w = filter_value(high, line);
@@ -192,7 +200,7 @@ fn subblock_filter(high: bool, line: Line) -> Line
 }
 
 /// The normal filter of a macroblock edge.
-fn macroblock_filter(high: bool, line: Line) -> Line
+fn macroblock_edge_filtered(high: bool, line: Line) -> Line
     ensures { result ≡ macroblock_edge_filtered high line }
 {
     if high {
@@ -251,8 +259,8 @@ impl LineStep {
         let high = is_high(self.hev, line);
         match self.kind {
             EdgeKind::Simple if small => common_adjust(true, line),
-            EdgeKind::Inner if smooth => subblock_filter(high, line),
-            EdgeKind::Macroblock if smooth => macroblock_filter(high, line),
+            EdgeKind::Subblock if smooth => subblock_edge_filtered(high, line),
+            EdgeKind::Macroblock if smooth => macroblock_edge_filtered(high, line),
             _ => line,
         }
     }

@@ -63,7 +63,7 @@ fn rows16(pixels: &[u8], at: usize, stride: usize) -> Lines
     }
 }
 
-/// The lines of a luma edge.
+/// The sixteen lines across a luma edge.
 #[inline(always)]
 fn load_luma(plane: &Plane, edge: Edge) -> Lines
     requires { IsEdgeIn edge.orientation 16 edge.x edge.y plane.now }
@@ -83,6 +83,7 @@ fn load_luma(plane: &Plane, edge: Edge) -> Lines
 }
 
 /// Eight rows of eight pixels of a plane, with their top left corner at the edge's.
+#[tactic(auto, using(crate::proofs::RowReads::pixel_is))]
 #[inline(always)]
 fn corner(plane: &Plane, edge: Edge) -> [u8x8; 8]
     requires { IsEdgeIn edge.orientation 8 edge.x edge.y plane.now }
@@ -93,7 +94,7 @@ fn corner(plane: &Plane, edge: Edge) -> [u8x8; 8]
     rows8(plane.pixels(), edge.y * stride + edge.x, stride)
 }
 
-/// The lines of a chroma edge: eight of one plane, followed by eight of the other.
+/// The lines across a chroma edge: eight of one plane, followed by eight of the other.
 #[inline(always)]
 fn load_chroma(u: &Plane, v: &Plane, edge: Edge) -> Lines
     requires u { IsEdgeIn edge.orientation 8 edge.x edge.y u.now }
@@ -109,9 +110,9 @@ fn load_chroma(u: &Plane, v: &Plane, edge: Edge) -> Lines
     }
 }
 
-/// The lines of an edge.
+/// Loads the sixteen lines across an edge.
 #[inline(always)]
-pub(crate) fn load(picture: &Picture, edge: Edge) -> Lines
+pub(crate) fn load_lines(picture: &Picture, edge: Edge) -> Lines
     requires { IsEdgeWithin edge picture.now }
     ensures { EachPlane edge.planes (HasLines edge result) picture.now }
 {

@@ -1,9 +1,9 @@
 //! Storing the lines of an edge.
 
-ghost use Rattle.std.specs.Prelude.{◌≡◌, ℕ, ◌+◌, ◌*◌, ◌<◌, ◌≤◌, List, [], length, slice_index, slice_index_or};
+ghost use Rattle.std.specs.Prelude.{◌≡◌, ℕ, ◌+◌, ◌*◌, ◌<◌, ◌≤◌, List, length};
 ghost use Rattle.std.specs.Simd.Lanes.{put_chunk};
 ghost use Rattle.vp_base.specs.Raster.{Raster, pixel_index};
-ghost use Rattle.vp_base.specs.Image.{Image, plane_of, with_plane};
+ghost use Rattle.vp_base.specs.Image.{plane_of};
 ghost use Rattle.vp_base.specs.Block.{with_block, written, IsWhole};
 ghost use Rattle.vp_loop.specs.declared.edges.Orientation.TheVariants.{Vertical, Horizontal};
 ghost use Rattle.vp_loop.specs.Edges.{on_plane};
@@ -60,8 +60,9 @@ impl Row for u8x16 {
 }
 
 /// Stores rows of pixels, the first from index `at` on; rows are `stride` apart.
+#[tactic(auto, using(crate::proofs::RowWrites::none_yet))]
 #[inline(always)]
-fn put_rows<R: Row>(pixels: &mut [u8], at: usize, stride: usize, rows: &[R])
+fn write_rows_at<R: Row>(pixels: &mut [u8], at: usize, stride: usize, rows: &[R])
     requires room { (r : ℕ) → r < length rows.now → at + r * stride + R.count ≤ length pixels.old }
     requires end { at + length rows.now * stride ≤ 300000000 }
     ensures value { (p : Raster) (x y : ℕ) → IsWhole p → p.pixels ≡ pixels.old → p.width ≡ stride
@@ -88,12 +89,13 @@ fn write_rows<R: Row>(picture: &mut Picture, k: usize, x: usize, y: usize, rows:
 {
     let _known = picture.plane(k).height();
     let stride = picture.plane(k).width();
-    put_rows(picture.pixels_mut(k), y * stride + x, stride, rows);
+    write_rows_at(picture.pixels_mut(k), y * stride + x, stride, rows);
 }
 
-/// Writes sixteen rows of pixels from column `x` of row `y` on: all to luma, or eight to each chroma plane.
+/// Writes sixteen rows of pixels, as lines across a vertical edge are, from column `x` of row `y` on: all to luma, or
+/// eight to each chroma plane.
 #[inline(always)]
-fn write_columns<R: Row>(picture: &mut Picture, planes: Planes, x: usize, y: usize, rows: &[R])
+fn write_sixteen_rows<R: Row>(picture: &mut Picture, planes: Planes, x: usize, y: usize, rows: &[R])
     requires len { length rows.now ≡ 16 }
     requires within { EachPlane planes (λ n lane p. (x + R.count ≤ p.width) × (y + n ≤ p.height)) picture.old }
     ensures { picture.new ≡ on_planes planes (λ n lane p. with_block p x y R.count n
@@ -132,7 +134,7 @@ fn store_rows(picture: &mut Picture, edge: Edge, l: Lines, kept: usize)
 
 /// Stores the lines of an edge. Of one `inside` a macroblock, only the middle four pixels of each line are stored.
 #[inline(always)]
-pub(crate) fn store(picture: &mut Picture, edge: Edge, lines: Lines, inside: bool)
+pub(crate) fn store_lines(picture: &mut Picture, edge: Edge, lines: Lines, inside: bool)
     requires { IsEdgeWithin edge picture.old }
     ensures { picture.new ≡ on_planes edge.planes (with_lines edge.orientation edge.x edge.y
         (unwritten inside edge.orientation) lines) picture.old }
@@ -141,11 +143,11 @@ pub(crate) fn store(picture: &mut Picture, edge: Edge, lines: Lines, inside: boo
     match edge.orientation {
         Orientation::Vertical if inside => {
             let rows = untranspose_middle(lines);
-            write_columns(picture, edge.planes, edge.x + 2, edge.y, &rows);
+            write_sixteen_rows(picture, edge.planes, edge.x + 2, edge.y, &rows);
         }
         Orientation::Vertical => {
             let rows = untranspose(lines);
-            write_columns(picture, edge.planes, edge.x, edge.y, &rows);
+            write_sixteen_rows(picture, edge.planes, edge.x, edge.y, &rows);
         }
         Orientation::Horizontal => store_rows(picture, edge, lines, if inside { 2 } else { 1 }),
     }

@@ -1,10 +1,9 @@
-//! The filter level of a macroblock.
+//! The filter level of a macroblock, 0 to 63, and the limits of its edges that are computed from it: its [`Level`].
 
-ghost use Rattle.std.specs.Prelude.{◌≡◌, ℕ, ℤ, ◌+◌, ◌-◌, ◌*◌, ◌/◌, ◌<◌, ◌≤◌, ◌≤ℤ◌, ◌+ℤ◌, pos, negsuc, ◌==◌, ◌||◌};
-ghost use Rattle.std.specs.Prelude.{length};
+ghost use Rattle.std.specs.Prelude.{◌≡◌, ℤ, ◌+◌, ◌-◌, ◌*◌, ◌/◌, ◌≤◌, ◌≤ℤ◌, pos, negsuc, ◌==◌, ◌||◌};
 ghost use Rattle.vp_loop.specs.Levels.{clamped_level, signed_at, segment_level, reference_delta, mode_delta};
 ghost use Rattle.vp_loop.specs.Levels.{summed_level, macroblock_level, interior_limit, variance_threshold};
-ghost use Rattle.vp_loop.specs.Levels.{has_inner_edges, no_level, filter_level};
+ghost use Rattle.vp_loop.specs.Levels.{has_inner_edges, filter_level};
 
 use vp_head::{Header, LevelDeltas, Reference};
 
@@ -34,7 +33,8 @@ pub struct MacroblockKind {
     pub coded: bool,
 }
 
-/// The filter parameters of a macroblock (RFC 6386, chapters 15.2 to 15.4).
+/// The four limits of a macroblock's edges, computed from its filter level (RFC 6386, chapters 15.2 to 15.4). In three
+/// of them 0 is no limit: it says what isn't filtered, or that the filter is the simple one.
 #[derive(Clone, Copy, Debug, PartialEq, Eq)]
 pub struct Level {
     /// The edge limit of macroblock edges, at most 193; 0 if they aren't filtered.
@@ -47,6 +47,7 @@ pub struct Level {
     pub hev: u8,
 }
 
+/// Clamps to the range of filter levels, 0 to 63.
 fn clamped_level(level: i32) -> u8
     ensures value { result ≡ clamped_level level }
     ensures range { result ≤ 63 }
@@ -54,6 +55,7 @@ fn clamped_level(level: i32) -> u8
     level.clamp(0, 63) as u8
 }
 
+/// Entry `index`, or 0 if there is none.
 fn signed_at(values: &[i8; 4], index: u8) -> i32
     ensures value { result ≡ signed_at values.now index }
     ensures range { (negsuc 127 ≤ℤ result) × (result ≤ℤ pos 127) }
@@ -64,7 +66,7 @@ fn signed_at(values: &[i8; 4], index: u8) -> i32
     }
 }
 
-/// The level of the frame or, with segmentation, of the segment.
+/// The level of the frame (`loop_filter_level`) or, with segmentation, of the segment: its own, or the sum of both.
 fn segment_level(header: &Header, segment: u8) -> u8
     ensures { result ≡ segment_level header.now segment }
 {
@@ -79,6 +81,7 @@ fn segment_level(header: &Header, segment: u8) -> u8
     }
 }
 
+/// The delta of the reference frame (`ref_frame_delta_magnitude` with its sign).
 fn reference_delta(deltas: &LevelDeltas, reference: Reference) -> i32
     ensures value { result ≡ reference_delta deltas.now reference }
     ensures range { (negsuc 127 ≤ℤ result) × (result ≤ℤ pos 127) }
@@ -91,6 +94,7 @@ fn reference_delta(deltas: &LevelDeltas, reference: Reference) -> i32
     }
 }
 
+/// The delta of the prediction mode (`mb_mode_delta_magnitude` with its sign); none for whole intra modes.
 fn mode_delta(deltas: &LevelDeltas, prediction: ModeClass) -> i32
     ensures value { result ≡ mode_delta deltas.now prediction }
     ensures range { (negsuc 127 ≤ℤ result) × (result ≤ℤ pos 127) }
@@ -105,6 +109,7 @@ fn mode_delta(deltas: &LevelDeltas, prediction: ModeClass) -> i32
 }
 
 /// The segment level plus the deltas of reference frame and mode, clamped to 0 to 63.
+#[tactic(auto, using(crate::proofs::FilterValueLemmas::level_same))]
 fn summed_level(header: &Header, segment: u8, kind: &MacroblockKind) -> u8
     ensures value { result ≡ summed_level header.now segment kind.now }
     ensures range { result ≤ 63 }
@@ -167,7 +172,7 @@ pub(crate) fn has_inner_edges(kind: &MacroblockKind) -> bool
         }
 }
 
-/// The filter parameters of a macroblock of segment `segment`, 0 to 3; all 0 if it isn't filtered. They depend on the
+/// The limits of the edges of a macroblock of segment `segment`, 0 to 3; all 0 if it isn't filtered. They depend on the
 /// level of the frame and of the segment (RFC 6386, chapter 9.3), the deltas of reference frame and mode (9.4), and
 /// the sharpness (15.4).
 #[tactic(auto, unfolding(crate::specs::Levels::filter_level))]

@@ -1,6 +1,6 @@
 //! Rows of pixels to lines in lanes, and back. The lines of a vertical edge are transposed.
 
-ghost use Rattle.std.specs.Prelude.{◌≡◌, ℕ, ◌+◌, ◌<◌, [], ◌∷◌, length, slice_index, slice_index_or};
+ghost use Rattle.std.specs.Prelude.{◌≡◌, ℕ, ◌+◌, ◌<◌, [], length, slice_index, slice_index_or};
 ghost use Rattle.vp_loop.specs.Edges.{line_from, pixel_at};
 ghost use Rattle.vp_loop.specs.Lanes.{line_of, pixels_of, middle_of};
 
@@ -86,6 +86,7 @@ pub(crate) fn untranspose(l: Lines) -> [u8x8; 16]
 }
 
 /// Transposes the middle four pixels of sixteen lines to rows.
+#[tactic(auto, using(crate::proofs::TransposeLemmas::joined_four_is))]
 pub(crate) fn untranspose_middle(l: Lines) -> [u8x4; 16]
     ensures len { length result ≡ 16 }
     ensures value { (j : ℕ) → j < 16 → slice_index_or result j [] ≡ middle_of (line_of l j) }
@@ -166,7 +167,7 @@ pub(crate) fn second_halves(l: Lines) -> [u8x8; 8]
 
 /// Eight lanes, followed by eight others.
 #[inline(always)]
-fn joined(first: u8x8, second: u8x8) -> u8x16
+fn concat_halves(first: u8x8, second: u8x8) -> u8x16
     ensures first { (c : ℕ) → c < 8 → slice_index result c ≡ slice_index first c }
     ensures second { (c : ℕ) → c < 8 → slice_index result (c + 8) ≡ slice_index second c }
 {
@@ -186,13 +187,13 @@ pub(crate) fn join(first: [u8x8; 8], second: [u8x8; 8]) -> Lines
     let [u0, u1, u2, u3, u4, u5, u6, u7] = first;
     let [v0, v1, v2, v3, v4, v5, v6, v7] = second;
     Lines {
-        p3: joined(u0, v0),
-        p2: joined(u1, v1),
-        p1: joined(u2, v2),
-        p0: joined(u3, v3),
-        q0: joined(u4, v4),
-        q1: joined(u5, v5),
-        q2: joined(u6, v6),
-        q3: joined(u7, v7),
+        p3: concat_halves(u0, v0),
+        p2: concat_halves(u1, v1),
+        p1: concat_halves(u2, v2),
+        p0: concat_halves(u3, v3),
+        q0: concat_halves(u4, v4),
+        q1: concat_halves(u5, v5),
+        q2: concat_halves(u6, v6),
+        q3: concat_halves(u7, v7),
     }
 }

@@ -78,7 +78,7 @@ fn filter_one_line(rt: HostRuntime) {
             [100, 101, 103, 104, 106, 107, 109, 110],
         ),
         (
-            EdgeKind::Inner,
+            EdgeKind::Subblock,
             48,
             [100, 100, 102, 104, 106, 108, 110, 110],
         ),
@@ -310,7 +310,7 @@ impl Pixels {
         let width = self.width;
         let at = width.wrapping_mul(y).wrapping_add(x);
         let outer = step_of(level, EdgeKind::Macroblock, level.edge);
-        let inner = step_of(level, EdgeKind::Inner, level.inner);
+        let inner = step_of(level, EdgeKind::Subblock, level.inner);
         if x > 0 {
             self.filter_edge(at.wrapping_sub(4), 1, width, size, outer);
         }

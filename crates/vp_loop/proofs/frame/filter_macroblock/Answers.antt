@@ -22,6 +22,6 @@ unfolding block_filtered
 returns-in-Simple c =
     let limits = c.in-Some.limits in
     let p = c.args.picture.now in
-    c.filter_block.ensures
+    c.filter_planes.ensures
     ∙ (ap (λ (k : FilterKind). planes c.args.column c.args.row p (Some limits) (Some (record limits { kind = k }))) (sym c.in-Simple.is)
     ∙ ap (λ (l : Option EdgeLimits). planes c.args.column c.args.row p l l) (sym c.in-Some.is ∙ c.of.ensures))

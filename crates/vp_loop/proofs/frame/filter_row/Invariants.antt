@@ -5,4 +5,8 @@ use Rattle.vp_loop.proofs.FrameLemmas.{filtered_at}
 use Rattle.vp_loop.proofs.frame.filter_row.Given as goal
 
 abbrev pub invariant-loop-column : goal.invariant-loop-column
-invariant-loop-column l = l.picture ≡ over l.column (filtered_at (level_in l.levels l.cols) l.row) l.initial.picture
+invariant-loop-column l = record {
+  done : l.picture ≡ over l.column (filtered_at (level_in l.levels l.cols) l.row) l.initial.picture;
+  width : l.picture.width ≡ l.initial.picture.width;
+  height : l.picture.height ≡ l.initial.picture.height;
+}

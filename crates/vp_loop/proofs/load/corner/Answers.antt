@@ -1,5 +1,5 @@
-use Rattle.std.proofs.Common.{◌≡◌, ◌∙◌, ℕ, ◌+◌, ◌*◌, ap, refl, sym, arith, length}
-use Rattle.vp_loop.proofs.RowReads.{block_room, pixel_is, corner_fits}
+use Rattle.std.proofs.Common.{◌≡◌, ◌∙◌, ℕ, ◌*◌, ap, sym, arith, length}
+use Rattle.vp_loop.proofs.RowReads.{block_room, corner_fits}
 use Rattle.vp_loop.proofs.load.corner.Goals as goal
 
 pub rows8-requires : goal.rows8-requires
@@ -12,12 +12,3 @@ rows8-requires c =
     let rows = fits.1 in
     let size : length c.pixels.result.now ≡ p.height * w = c.pixels.ensures.len ∙ ap (λ (k : ℕ). p.height * k) (sym wide) in
     record { room = block_room c.args.edge.x c.args.edge.y w p.height 8 7 (length c.pixels.result.now) size (omega arith) (omega arith) }
-
-pub returns : goal.returns
-returns c =
-    let w = c.width-stride.result in
-    let at = c.args.edge.y * w + c.args.edge.x in
-    record {
-      whole = c.width-stride.ensures.whole;
-      pixels = λ r k h below. c.rows8.ensures r k h below ∙ pixel_is c.args.plane.now c.pixels.result.now c.args.edge.x c.args.edge.y at w r k c.pixels.ensures.value c.width-stride.ensures.value refl;
-    }

@@ -7,8 +7,8 @@ use Rattle.vp_loop.proofs.RowReads.{block_room}
 use Rattle.vp_loop.proofs.RowWrites.{all_put}
 use Rattle.vp_loop.proofs.store.write_rows.Goals as goal
 
-pub put_rows-requires-clause-room : goal.put_rows-requires-clause-room
-put_rows-requires-clause-room g c r within =
+pub write_rows_at-requires-clause-room : goal.write_rows_at-requires-clause-room
+write_rows_at-requires-clause-room g c r within =
     let q = plane_of c.args.picture.now c.args.k in
     let wide : c.width-stride.result ≡ q.width = c.width-stride.ensures.value ∙ ap (λ (p : Raster). p.width) c.plane-2.ensures in
     let rows = c.requires.rows in
@@ -22,6 +22,6 @@ returns g c =
     let wide : q.width ≡ c.width-stride.result = sym (c.width-stride.ensures.value ∙ ap (λ (p : Raster). p.width) c.plane-2.ensures) in
     let whole : IsWhole q = subst IsWhole c.plane-2.ensures c.width-stride.ensures.whole in
     let here : c.args.y * c.width-stride.result + c.args.x ≡ c.args.y * q.width + c.args.x = ap (λ (k : ℕ). c.args.y * k + c.args.x) (sym wide) in
-    let done = c.put_rows.ensures.value q c.args.x c.args.y whole (sym c.pixels_mut.ensures.value) wide here c.requires.columns c.requires.rows in
-    ap (with_plane c.args.picture.now c.args.k) (all_put q c.args.x c.args.y g.R.Row.count (length c.args.rows.now) (pixel_of g.R.Row.pixels c.args.rows.now) c.put_rows.new.pixels done
-    (c.put_rows.ensures.len ∙ ap length c.pixels_mut.ensures.value))
+    let done = c.write_rows_at.ensures.value q c.args.x c.args.y whole (sym c.pixels_mut.ensures.value) wide here c.requires.columns c.requires.rows in
+    ap (with_plane c.args.picture.now c.args.k) (all_put q c.args.x c.args.y g.R.Row.count (length c.args.rows.now) (pixel_of g.R.Row.pixels c.args.rows.now) c.write_rows_at.new.pixels done
+    (c.write_rows_at.ensures.len ∙ ap length c.pixels_mut.ensures.value))

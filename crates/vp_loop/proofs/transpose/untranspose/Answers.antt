@@ -1,9 +1,6 @@
-use Rattle.std.proofs.Common.{◌≡◌, length, refl, arith}
+use Rattle.std.proofs.Common.{◌≡◌, length, arith}
 use Rattle.vp_loop.proofs.TransposeLemmas.{below_sixteen, joined_is}
 use Rattle.vp_loop.proofs.transpose.untranspose.Goals as goal
-
-pub returns-clause-len : goal.returns-clause-len
-returns-clause-len c = refl
 
 pub returns-clause-value : goal.returns-clause-value
 returns-clause-value c =

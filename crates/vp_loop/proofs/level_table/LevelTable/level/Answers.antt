@@ -1,4 +1,4 @@
-use Rattle.std.proofs.Common.{◌≡◌, ◌∙◌, ◌<◌, ℕ, [], Bool, get_or, ap, sym}
+use Rattle.std.proofs.Common.{◌≡◌, ◌<◌, ℕ, [], Bool, get_or}
 use Rattle.vp_loop.specs.declared.strength.Level.{Level}
 use Rattle.vp_loop.specs.declared.strength.MacroblockKind.{MacroblockKind}
 use Rattle.vp_loop.specs.declared.level_table.LevelTable.{LevelTable}
@@ -14,11 +14,8 @@ found : (header : Header) (table : LevelTable) (segment s r m : ℕ) (coded : Bo
     → s ≡ segment → r ≡ reference_index kind.reference → m ≡ class_index kind.prediction → kind.coded ≡ coded
     → entry table s r m coded ≡ filter_level header segment kind
 found header table segment s r m coded kind are below es er em ec =
-    ap (λ (n : ℕ). entry table n r m coded) es
-    ∙ ap (λ (n : ℕ). entry table segment n m coded) er
-    ∙ ap (λ (n : ℕ). entry table segment (reference_index kind.reference) n coded) em
-    ∙ are segment below kind.reference kind.prediction coded
-    ∙ ap (λ (b : Bool). filter_level header segment (record kind { coded = b })) (sym ec)
+    let own = are segment below kind.reference kind.prediction kind.coded in
+    cc
 
 pub returns-then-kind : goal.returns-then-kind
 returns-then-kind c header are =

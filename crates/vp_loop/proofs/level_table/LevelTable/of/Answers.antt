@@ -1,15 +1,11 @@
-use Rattle.std.proofs.Common.{◌≡◌, ◌∙◌, ◌<◌, ℕ, zero, suc, [], ◌∷◌, get_or, refl, ap, arith}
+use Rattle.std.proofs.Common.{◌≡◌, ◌∙◌, ◌<◌, ℕ, [], ◌∷◌, get_or, ap, arith}
 use Rattle.vp_loop.specs.declared.level_table.SegmentLevels.{SegmentLevels}
 use Rattle.vp_loop.specs.LevelTable.{reference_index, class_index, level_if, no_levels}
 use Rattle.vp_loop.proofs.LevelLemmas.{one_segment}
 use Rattle.vp_loop.proofs.level_table.LevelTable.of.Goals as goal
 
 four_alike : (x none : SegmentLevels) (k : ℕ) → k < 4 → get_or (x ∷ x ∷ x ∷ x ∷ []) k none ≡ x
-four_alike x none zero below = refl
-four_alike x none (suc zero) below = refl
-four_alike x none (suc (suc zero)) below = refl
-four_alike x none (suc (suc (suc zero))) below = refl
-four_alike x none (suc (suc (suc (suc n)))) below = absurd (omega arith)
+four_alike x none k below = grind arith
 
 pub returns-else-header : goal.returns-else-header
 returns-else-header c segment below reference class coded =
