@@ -490,9 +490,10 @@ def inter_pixels(version, p, x, y, v, n):  # the rows of inter_pixel in a block 
     return [filter_six(taps(version, fraction(v[0])), *rows[r : r + 6]) for r in range(n)]
 
 # ---- vp_recon/specs/Predictor.antt. Intra has modes; Inter has motion, reference and version.
-def is_inter(source): return hasattr(source, "motion")
-def has_sub_modes(source): return not is_inter(source) and is_by_subblocks(source.modes.luma)
-def has_y2(source): return not (is_split(source.motion.mode) if is_inter(source) else has_sub_modes(source))
+def is_inter(predictor): return hasattr(predictor, "motion")
+def predicts_by_subblocks(predictor): return not is_inter(predictor) and is_by_subblocks(predictor.modes.luma)
+def has_y2(predictor):
+    return not (is_split(predictor.motion.mode) if is_inter(predictor) else predicts_by_subblocks(predictor))
 # ---- vp_recon/specs/Prediction.antt
 def four_from(vectors_, first_): return [vectors_[first_ + k] for k in (0, 1, 4, 5)]
 def chroma_moved(version, e, k): return chroma_vector(version, four_from(e.vectors, 8 * (k // 2) + 2 * (k % 2)))
@@ -503,14 +504,14 @@ def moved_pixels(version, reference, x, y, across, vs):  # the rows of moved_pix
         row = [inter_pixels(version, reference, x + 4 * j, y + 4 * i, vs[across * i + j], 4) for j in range(across)]
         found += [[n for block in row for n in block[r]] for r in range(4)]
     return found
-def luma_prediction(source, x, y, p):  # but B_PRED
-    if not is_inter(source): return whole_pixels_of(source.modes.luma, p, x, y, 16)
-    vs = [luma_vector(v) for v in source.motion.vectors]
-    return moved_pixels(source.version, source.reference.luma, x, y, 4, vs)
-def chroma_prediction(source, k, x, y, p):
-    if not is_inter(source): return whole_pixels_of(source.modes.chroma, p, x, y, 8)
-    vs = [chroma_moved(source.version, source.motion, b) for b in range(4)]
-    return moved_pixels(source.version, plane_of(source.reference, k), x, y, 2, vs)
+def luma_prediction(predictor, x, y, p):  # but B_PRED
+    if not is_inter(predictor): return whole_pixels_of(predictor.modes.luma, p, x, y, 16)
+    vs = [luma_vector(v) for v in predictor.motion.vectors]
+    return moved_pixels(predictor.version, predictor.reference.luma, x, y, 4, vs)
+def chroma_prediction(predictor, k, x, y, p):
+    if not is_inter(predictor): return whole_pixels_of(predictor.modes.chroma, p, x, y, 8)
+    vs = [chroma_moved(predictor.version, predictor.motion, b) for b in range(4)]
+    return moved_pixels(predictor.version, plane_of(predictor.reference, k), x, y, 2, vs)
 # ---- vp_recon/specs/Residue.antt. None is a residue of zeros.
 def residue(coefficients): return idct(coefficients) if any(coefficients) else None
 def luma_residues(y2, t, f):  # luma_residue of subblocks 0 to 15
@@ -532,15 +533,15 @@ def made(across, predictions, residues):  # the rows of luma_made and chroma_mad
     return rows
 def sub_step(m, x, y, k, found, p):
     x, y = x + 4 * (k % 4), y + 4 * (k // 4)
-    with_block(p, x, y, made(1, sub_pixels(m.source.modes.subs[k], p, x, y), [found]))
+    with_block(p, x, y, made(1, sub_pixels(m.predictor.modes.subs[k], p, x, y), [found]))
 def luma_rebuilt(m, x, y, p):
-    found = luma_residues(has_y2(m.source), m.tokens, m.factors)
-    if has_sub_modes(m.source):
+    found = luma_residues(has_y2(m.predictor), m.tokens, m.factors)
+    if predicts_by_subblocks(m.predictor):
         for k in range(16): sub_step(m, x, y, k, found[k], p)
-    else: with_block(p, x, y, made(4, luma_prediction(m.source, x, y, p), found))
+    else: with_block(p, x, y, made(4, luma_prediction(m.predictor, x, y, p), found))
 def chroma_rebuilt(m, k, x, y, p):
     found = [chroma_residue(m.tokens, m.factors, k, b) for b in range(4)]
-    with_block(p, x, y, made(2, chroma_prediction(m.source, k, x, y, p), found))
+    with_block(p, x, y, made(2, chroma_prediction(m.predictor, k, x, y, p), found))
 def rebuilt(m, place, p):
     luma_rebuilt(m, 16 * place[0], 16 * place[1], p.luma)
     for k in (1, 2): chroma_rebuilt(m, k, 8 * place[0], 8 * place[1], plane_of(p, k))
@@ -679,9 +680,9 @@ def all_tokens_read(f, partitions):
     return g
 def factors_of(h, segment): return factors(index_of(h, segment), h.quantiser)
 def inter_mode_class(mode): return mode if mode in ("Zero", "Split") else "Moved"
-def mode_class_of(source):
-    if is_inter(source): return inter_mode_class(source.motion.mode)
-    return "Subblocks" if is_by_subblocks(source.modes.luma) else "Whole"
+def mode_class_of(predictor):
+    if is_inter(predictor): return inter_mode_class(predictor.motion.mode)
+    return "Subblocks" if is_by_subblocks(predictor.modes.luma) else "Whole"
 def level_at(f, p, tokens):
     modes = entry(f.maps.modes, p)
     kind = R(reference=modes.reference, prediction=mode_class_of(predictor_at(f, p)), coded=any_token(tokens))
@@ -690,7 +691,7 @@ def frame_of(f, partitions, width, height):
     tokens, segment_factors = all_tokens_read(f, partitions), [factors_of(f.header, segment) for segment in range(4)]
     factors_at = lambda p: segment_factors[entry(f.maps.modes, p).segment]
     return R(width=width, height=height, level=lambda p: level_at(f, p, entry(tokens, p)),
-             macroblock=lambda p: R(source=predictor_at(f, p), tokens=entry(tokens, p), factors=factors_at(p)))
+             macroblock=lambda p: R(predictor=predictor_at(f, p), tokens=entry(tokens, p), factors=factors_at(p)))
 def unfiltered(f): return all_rebuilt(f.macroblock, blank_image(f.width, f.height, 0))
 def picture_of(f): return filtered(f.level, unfiltered(f))
 # ---- vp_decode/specs/Step.antt. An answer is ("Shown", picture), ("Hidden", None) or ("Fault", fault).

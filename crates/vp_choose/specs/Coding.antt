@@ -20,7 +20,7 @@ use Rattle.vp_quant.specs.declared.factors.Factors.{Factors}
 use Rattle.vp_intra.specs.Edges.{block as listed}
 use Rattle.vp_intra.specs.Whole.{luma_pixel}
 use Rattle.vp_recon.specs.declared.given.MacroblockPixels.{MacroblockPixels}
-use Rattle.vp_recon.specs.Predictor.{Predictor, macroblock_of, has_sub_modes, has_y2}
+use Rattle.vp_recon.specs.Predictor.{Predictor, macroblock_of, predicts_by_subblocks, has_y2}
 use Rattle.vp_recon.specs.Prediction.{luma_prediction, chroma_prediction}
 use Rattle.vp_recon.specs.Rebuilt.{luma_rebuilt}
 use Rattle.vp_choose.specs.declared.subblocks.Subblocks.{Subblocks}
@@ -93,7 +93,7 @@ pub record IsIntraLuma (f : ℕ → ℕ → ℕ) (factors : Factors) (place : Pl
 -- the levels of its subblocks.
 pub record HasPrediction (predictor : Predictor) (factors : Factors) (place : Place) (p : Image) (c : Coding)
     : Type 0 where
-  pub sub_modes : has_sub_modes predictor ≡ is_some c.subblocks
+  pub sub_modes : predicts_by_subblocks predictor ≡ is_some c.subblocks
   pub y2 : has_y2 predictor ≡ not (is_some c.subblocks)
   pub at_once : is_some c.subblocks ≡ false → c.prediction.luma ≡ listed 16 (luma_prediction predictor place p.luma)
   pub by_subblocks : (t : Tokens) → IfSome c.subblocks (λ s. HasSubblocks s t

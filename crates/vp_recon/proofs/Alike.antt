@@ -1,24 +1,16 @@
 -- What a macroblock makes of two planes that have the same pixels round it.
 use Rattle.std.proofs.Common.{◌≡◌, ◌∙◌, ℕ, Bool, true, false, cond, eqb, min, ◌⊎◌, inl, inr, ◌+◌, ◌-◌, ◌*◌, ◌/◌, ◌%◌, ◌<◌, ◌≤◌, List, get_or, sym, refl, ap, arith}
-use Rattle.std.proofs.lemmas.List.FromFn.{fill_by_all, length-map-range_with_len, get_or-map-range_with_len}
-use Rattle.std.proofs.lemmas.Bool.{cases_lt, eq-eqb, ne_eqb}
-use Rattle.vp_base.specs.declared.place.Place.{Place}
-use Rattle.vp_base.specs.Raster.{Raster, pixel}
-use Rattle.vp_tables.specs.declared.modes.LumaMode.{LumaMode}
+use Rattle.vp_recon.proofs.Words.{Place, Raster, pixel, LumaMode, ChromaMode, SubMode, first, rounded_mean, true_motion, around, predicted, Intra, Inter, Macroblock, predicts_by_subblocks, has_y2, luma_residue, chroma_residue, luma_prediction, chroma_prediction, summed, residue_at, luma_made, chroma_made, fill_by_all, length-map-range_with_len, get_or-map-range_with_len, cases_lt, eq-eqb, ne_eqb}
 use Rattle.vp_tables.specs.declared.modes.LumaMode.TheVariants as luma_is
-use Rattle.vp_tables.specs.declared.modes.ChromaMode.{ChromaMode}
 use Rattle.vp_tables.specs.declared.modes.ChromaMode.TheVariants as chroma_is
-use Rattle.vp_tables.specs.declared.modes.SubMode.{SubMode}
 use Rattle.vp_tables.specs.declared.modes.SubMode.TheVariants as sub_is
 use Rattle.vp_tables.specs.Modes.{is_by_subblocks}
-use Rattle.vp_intra.specs.Edges.{first, above_pixel, left_pixel, corner_pixel, edge, rounded_mean, true_motion}
+use Rattle.vp_intra.specs.Edges.{above_pixel, left_pixel, corner_pixel, edge}
 use Rattle.vp_intra.specs.Whole.{luma_pixel, chroma_pixel}
-use Rattle.vp_intra.specs.Sub.{above_right_pixel, above_right_row, around, predicted, sub_pixel}
-use Rattle.vp_recon.specs.Predictor.{Predictor, Intra, Inter, Macroblock, has_sub_modes, has_y2}
-use Rattle.vp_recon.specs.Residue.{luma_residue, chroma_residue}
-use Rattle.vp_recon.specs.Prediction.{luma_prediction, chroma_prediction}
-use Rattle.vp_recon.specs.Rebuilt.{summed, residue_at, luma_made, chroma_made}
+use Rattle.vp_intra.specs.Sub.{above_right_pixel, above_right_row, sub_pixel}
+use Rattle.vp_recon.specs.Predictor.{Predictor}
 use Rattle.vp_recon.proofs.Parts.{sub_at}
+use Rattle.vp_recon.proofs.LumaLemmas.{either}
 
 -- p and q have the same pixels in the row above a block of n by n, up to its last column, and to its left in its rows
 abbrev pub RoundIt : Raster → Raster → ℕ → ℕ → ℕ → Type 0
@@ -126,52 +118,30 @@ module _ (p q : Raster) (mx my i j x y : ℕ) (iin : i < 4) (jin : j < 4) (x_is 
   around_alike =
       let left = left_alike p q x y 4 (omega arith) (omega arith) (omega arith) round_sub in
       let above = above_alike p q x y 4 (omega arith) (omega arith) (omega arith) round_sub in
-      cc (
-        left 0 (omega arith),
-        left 1 (omega arith),
-        left 2 (omega arith),
-        left 3 (omega arith),
-        corner_alike p q x y 4 (omega arith) (omega arith) (omega arith) round_sub,
-        above 0 (omega arith),
-        above 1 (omega arith),
-        above 2 (omega arith),
-        above 3 (omega arith),
-        right_alike 0 (omega arith),
-        right_alike 1 (omega arith),
-        right_alike 2 (omega arith),
-        right_alike 3 (omega arith),
-      )
+      let i : (0 < 4) × (1 < 4) × (2 < 4) × (3 < 4) = (omega arith, omega arith, omega arith, omega arith) in
+      let corner = corner_alike p q x y 4 (omega arith) (omega arith) (omega arith) round_sub in
+      cc (left 0 i.0, left 1 i.1, left 2 i.2, left 3 i.3, corner, above 0 i.0, above 1 i.1, above 2 i.2, above 3 i.3, right_alike 0 i.0, right_alike 1 i.1, right_alike 2 i.2, right_alike 3 i.3)
 
   pub sub_alike : (m : SubMode) (r c : ℕ) → sub_pixel m p x y r c ≡ sub_pixel m q x y r c
   unfolding sub_pixel
   sub_alike m r c = ap (λ (es : List ℕ). get_or (predicted m es) (r * 4 + c) 0) around_alike
 
--- ---- a macroblock, whatever its source
+-- ---- a macroblock, whatever its predictor
 
 -- the number of the macroblock's subblocks that are made before the pixel at row r and column c is predicted
 abbrev pub stage : Predictor → ℕ → ℕ → ℕ
-stage source r c = cond (has_sub_modes source) (sub_at 4 r c) 0
+stage predictor r c = cond (predicts_by_subblocks predictor) (sub_at 4 r c) 0
 
 module _ (place : Place) (p q : Raster) where
   luma_by : (s : Predictor) (r c : ℕ) → 16 * place.column + 16 ≤ p.width → 16 * place.row + 16 ≤ p.height → p.width ≡ q.width
       → AreAlike p q place.column place.row (stage s r c) → r < 16 → c < 16 → luma_prediction s place p r c ≡ luma_prediction s place q r c
   luma_by (Inter motion reference version) r c xfits yfits wide same rin cin = refl
-  luma_by (Intra m) r c xfits yfits wide same rin cin = either (is_by_subblocks m.luma) same
+  luma_by (Intra m) r c xfits yfits wide same rin cin = by (is_by_subblocks m.luma) same
     where
-      x : ℕ
-      x = 16 * place.column + 4 * (c / 4)
-
-      y : ℕ
-      y = 16 * place.row + 4 * (r / 4)
-
-      mode : SubMode
-      mode = get_or m.subs (4 * (r / 4) + c / 4) sub_is.Dc
-
-      either : (b : Bool) → AreAlike p q place.column place.row (cond b (sub_at 4 r c) 0)
-          → cond b (sub_pixel mode p x y (r % 4) (c % 4)) (luma_pixel m.luma p (16 * place.column) (16 * place.row) r c)
-          ≡ cond b (sub_pixel mode q x y (r % 4) (c % 4)) (luma_pixel m.luma q (16 * place.column) (16 * place.row) r c)
-      either true known = sub_alike p q place.column place.row (c / 4) (r / 4) x y (omega arith) (omega arith) refl refl wide xfits yfits known mode (r % 4) (c % 4)
-      either false known = luma_alike m.luma p q (16 * place.column) (16 * place.row) r c xfits yfits
+      by : (b : Bool) → AreAlike p q place.column place.row (cond b (sub_at 4 r c) 0) → either m place p r c b ≡ either m place q r c b
+      by true known = sub_alike p q place.column place.row (c / 4) (r / 4) (16 * place.column + 4 * (c / 4)) (16 * place.row + 4 * (r / 4)) (omega arith) (omega arith) refl refl wide xfits yfits known
+          (get_or m.subs (4 * (r / 4) + c / 4) sub_is.Dc) (r % 4) (c % 4)
+      by false known = luma_alike m.luma p q (16 * place.column) (16 * place.row) r c xfits yfits
           (λ u v uin vin low high right left. known u v uin vin (record { from = omega arith; to = omega arith; left = λ h. omega arith; own = λ h g. omega arith })) rin cin
 
   chroma_by : (s : Predictor) (k r c : ℕ) → 8 * place.column + 8 ≤ p.width → 8 * place.row + 8 ≤ p.height → RoundIt p q (8 * place.column) (8 * place.row) 8
@@ -180,11 +150,11 @@ module _ (place : Place) (p q : Raster) where
   chroma_by (Inter motion reference version) k r c xfits yfits same rin cin = refl
 
   pub luma_made_alike : (m : Macroblock) (r c : ℕ) → 16 * place.column + 16 ≤ p.width → 16 * place.row + 16 ≤ p.height → p.width ≡ q.width
-      → AreAlike p q place.column place.row (stage m.source r c) → r < 16 → c < 16 → luma_made m place p r c ≡ luma_made m place q r c
+      → AreAlike p q place.column place.row (stage m.predictor r c) → r < 16 → c < 16 → luma_made m place p r c ≡ luma_made m place q r c
   luma_made_alike m r c xfits yfits wide same rin cin =
-      ap (λ (n : ℕ). summed n (residue_at 4 (luma_residue (has_y2 m.source) m.tokens m.factors) r c)) (luma_by m.source r c xfits yfits wide same rin cin)
+      ap (λ (n : ℕ). summed n (residue_at 4 (luma_residue (has_y2 m.predictor) m.tokens m.factors) r c)) (luma_by m.predictor r c xfits yfits wide same rin cin)
 
   pub chroma_made_alike : (m : Macroblock) (k r c : ℕ) → 8 * place.column + 8 ≤ p.width → 8 * place.row + 8 ≤ p.height → RoundIt p q (8 * place.column) (8 * place.row) 8
       → r < 8 → c < 8 → chroma_made m k place p r c ≡ chroma_made m k place q r c
   chroma_made_alike m k r c xfits yfits same rin cin =
-      ap (λ (n : ℕ). summed n (residue_at 2 (chroma_residue m.tokens m.factors k) r c)) (chroma_by m.source k r c xfits yfits same rin cin)
+      ap (λ (n : ℕ). summed n (residue_at 2 (chroma_residue m.tokens m.factors k) r c)) (chroma_by m.predictor k r c xfits yfits same rin cin)

@@ -1,33 +1,16 @@
 -- Luma of a macroblock by either way of prediction.
 use Rattle.std.proofs.Common.{◌≡◌, ◌∙◌, ℕ, ◌+◌, ◌*◌, ◌/◌, ◌%◌, ℤ, pos, Bool, true, false, cond, List, get_or, refl, sym, ap, arith}
-use Rattle.std.specs.Prelude.{not}
-use Rattle.vp_base.specs.declared.place.Place.{Place}
-use Rattle.vp_base.specs.Raster.{Raster}
-use Rattle.vp_base.specs.Block.{with_block}
-use Rattle.vp_base.specs.Near.{block_place}
-use Rattle.vp_base.specs.Over.{over}
-use Rattle.vp_base.proofs.RasterLemmas.{raster}
-use Rattle.vp_base.proofs.BlockLemmas.{with_block_same}
-use Rattle.vp_base.proofs.OverLemmas.{over-kept, over-same}
-use Rattle.vp_tables.specs.declared.modes.SubMode.{SubMode}
+use Rattle.vp_recon.proofs.Words.{Place, Raster, with_block, block_place, over, raster, with_block_same, over-kept, over-same, SubMode, Modes, Tokens, block_of, Factors, luma_pixel, sub_pixel, Macroblock, Intra, predicts_by_subblocks, macroblock_of, residue, luma_prediction, summed, residue_at, luma_made, sub_step, luma_rebuilt, with_sub, not}
 use Rattle.vp_tables.specs.declared.modes.SubMode.TheVariants as sub_is
 use Rattle.vp_tables.specs.Modes.{is_by_subblocks}
-use Rattle.vp_modes.specs.Entry.{Modes}
-use Rattle.vp_tokens.specs.declared.contexts.Tokens.{Tokens}
-use Rattle.vp_tokens.specs.Blocks.{block_of}
-use Rattle.vp_quant.specs.declared.factors.Factors.{Factors}
-use Rattle.vp_intra.specs.Whole.{luma_pixel}
-use Rattle.vp_intra.specs.Sub.{sub_pixel}
-use Rattle.vp_recon.specs.Predictor.{Macroblock, Intra, has_sub_modes, macroblock_of}
-use Rattle.vp_recon.specs.Residue.{residue, luma_residue, luma_coefficients}
-use Rattle.vp_recon.specs.Prediction.{luma_prediction}
-use Rattle.vp_recon.specs.Rebuilt.{summed, residue_at, luma_made, sub_step, luma_numbers, luma_rebuilt, with_sub}
+use Rattle.vp_recon.specs.Residue.{luma_residue, luma_coefficients}
+use Rattle.vp_recon.specs.Rebuilt.{luma_numbers}
 
 module _ (m : Macroblock) (place : Place) (p : Raster) where
   abbrev by : Bool → Raster
   by b = raster p.width p.height (cond b (over 16 (sub_step m place) p) (with_block p (16 * place.column) (16 * place.row) 16 16 (luma_made m place p))).pixels
 
-  pub luma_at_once : has_sub_modes m.source ≡ false → with_block p (16 * place.column) (16 * place.row) 16 16 (luma_made m place p) ≡ luma_rebuilt m place p
+  pub luma_at_once : predicts_by_subblocks m.predictor ≡ false → with_block p (16 * place.column) (16 * place.row) 16 16 (luma_made m place p) ≡ luma_rebuilt m place p
   unfolding luma_numbers
   luma_at_once e = ap by (sym e)
 
@@ -37,24 +20,20 @@ module _ (m : Macroblock) (place : Place) (p : Raster) where
   pub high_subs : (k : ℕ) → (over k (sub_step m place) p).height ≡ p.height
   high_subs k = over-kept (λ (r : Raster). r.height) k (sub_step m place) p (λ j b. refl)
 
-  pub luma_by_subs : has_sub_modes m.source ≡ true → over 16 (sub_step m place) p ≡ luma_rebuilt m place p
+  pub luma_by_subs : predicts_by_subblocks m.predictor ≡ true → over 16 (sub_step m place) p ≡ luma_rebuilt m place p
   unfolding luma_numbers
   luma_by_subs e =
       let s : Raster = over 16 (sub_step m place) p in
       ap (λ (w : ℕ). raster w s.height s.pixels) (wide_subs 16) ∙ ap (λ (h : ℕ). raster p.width h s.pixels) (high_subs 16) ∙ ap by (sym e)
 
 module _ (m : Modes) (place : Place) (p : Raster) (r c : ℕ) where
-  abbrev either : Bool → ℕ
+  abbrev pub either : Bool → ℕ
   either b = cond b
       (sub_pixel (get_or m.subs (4 * (r / 4) + c / 4) sub_is.Dc) p (16 * place.column + 4 * (c / 4)) (16 * place.row + 4 * (r / 4)) (r % 4) (c % 4))
       (luma_pixel m.luma p (16 * place.column) (16 * place.row) r c)
 
   pub whole_prediction : is_by_subblocks m.luma ≡ false → luma_prediction (Intra m) place p r c ≡ luma_pixel m.luma p (16 * place.column) (16 * place.row) r c
   whole_prediction e = ap either e
-
-  pub sub_prediction : is_by_subblocks m.luma ≡ true → luma_prediction (Intra m) place p r c
-      ≡ sub_pixel (get_or m.subs (4 * (r / 4) + c / 4) sub_is.Dc) p (16 * place.column + 4 * (c / 4)) (16 * place.row + 4 * (r / 4)) (r % 4) (c % 4)
-  sub_prediction e = ap either e
 
   pub made_by : (t : Tokens) (f : Factors) (b : Bool) → is_by_subblocks m.luma ≡ b
       → luma_made (macroblock_of (Intra m) t f) place p r c ≡ summed (either b) (residue_at 4 (luma_residue (not b) t f) r c)

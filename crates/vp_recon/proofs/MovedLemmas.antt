@@ -1,19 +1,10 @@
 -- A block that is moved, as a whole or subblock after subblock.
 use Rattle.std.proofs.Common.{◌≡◌, ◌∙◌, ℕ, ◌+◌, ◌*◌, ◌/◌, ◌%◌, ◌<◌, ◌≤◌, ℤ, pos, negsuc, ◌+ℤ◌, ◌-ℤ◌, ◌*ℤ◌, neg_ℤ, int_div, suc, Bool, false, cond, ltb, List, [], ◌∷◌, map, get_or, sym, ap, arith}
-use Rattle.std.proofs.lemmas.List.{get_or-replicate}
-use Rattle.std.proofs.lemmas.Int.{ints}
-use Rattle.std.proofs.lemmas.Bool.{ne_eqb}
-use Rattle.std.proofs.lemmas.Bool.Decides.{nat_tests}
-use Rattle.vp_base.specs.Raster.{Raster}
-use Rattle.vp_tables.specs.Modes.{is_split}
-use Rattle.vp_motion.specs.Vector.{Vector, MacroblockMotion, AreOne, last_of, zero_vector}
-use Rattle.vp_inter.specs.declared.vector.PlaneVector.{PlaneVector}
-use Rattle.vp_inter.specs.Inter.{reference_pixel, horizontal_pass, inter_pixel}
-use Rattle.vp_inter.specs.Vectors.{fraction, first_tap, whole_pixels, mean_of_four, chroma_eighths, luma_vector, chroma_vector}
-use Rattle.vp_inter.specs.Filter.{taps, filter_six}
-use Rattle.vp_recon.specs.Prediction.{moved_pixel, four_from, luma_moved, chroma_moved}
-use Rattle.vp_recon.specs.Sums.{AreVectors, vector_at, sub_of_quarter}
-use Rattle.vp_recon.proofs.Parts.{sub_at}
+use Rattle.vp_recon.proofs.Words.{Raster, with_block, with_block_same, is_split, Vector, MacroblockMotion, AreOne, last_of, zero_vector, PlaneVector, reference_pixel, fraction, whole_pixels, luma_vector, taps, filter_six, moved_pixel, four_from, AreVectors, vector_at, sub_of_quarter, get_or-replicate, ints, ne_eqb, nat_tests}
+use Rattle.vp_inter.specs.Inter.{horizontal_pass, inter_pixel}
+use Rattle.vp_inter.specs.Vectors.{first_tap, mean_of_four, chroma_eighths, chroma_vector}
+use Rattle.vp_recon.specs.Prediction.{luma_moved, chroma_moved}
+use Rattle.vp_recon.proofs.Parts.{sub_at, sub_below}
 
 moved_at : (version : ℕ) (reference : Raster) (vector : ℕ → PlaneVector) (x y n r c x' y' n' r' c' : ℕ)
     → x ≡ x' → y ≡ y' → n ≡ n' → r ≡ r' → c ≡ c' → inter_pixel version reference x y (vector n) r c ≡ inter_pixel version reference x' y' (vector n') r' c'
@@ -46,14 +37,7 @@ moved_same version reference x y vectors vector r c are rin cin =
 -- ---- a block that moves as a whole
 
 six_same : (weights : List ℤ) (f g : ℕ → ℕ) → ((k : ℕ) → f k ≡ g k) → filter_six weights f ≡ filter_six weights g
-six_same weights f g same =
-    let a : f 0 ≡ g 0 = same 0 in
-    let b : f 1 ≡ g 1 = same 1 in
-    let c : f 2 ≡ g 2 = same 2 in
-    let d : f 3 ≡ g 3 = same 3 in
-    let e : f 4 ≡ g 4 = same 4 in
-    let h : f 5 ≡ g 5 = same 5 in
-    cc
+six_same weights f g same = cc (same 0, same 1, same 2, same 3, same 4, same 5)
 
 start_on : (x a c j : ℕ) (e : ℤ) → first_tap (x + a) e +ℤ pos (c + j) ≡ first_tap x e +ℤ pos (a + c + j)
 unfolding first_tap
@@ -92,6 +76,12 @@ moved_alike version reference x y n vector r c same =
     ∙ ap (inter_pixel version reference x y (vector 0) (4 * (r / 4) + r % 4)) (let e : c ≡ 4 * (c / 4) + c % 4 = omega arith in e)
     ∙ sym (inter_part version reference x y (4 * (c / 4)) (4 * (r / 4)) (vector 0) (r % 4) (c % 4))
     ∙ ap (λ (w : PlaneVector). inter_pixel version reference (x + 4 * (c / 4)) (y + 4 * (r / 4)) w (r % 4) (c % 4)) (sym same)
+
+pub whole_block : (version : ℕ) (reference p : Raster) (x y across : ℕ) (vector : ℕ → PlaneVector) → ((k : ℕ) → k < across * across → vector k ≡ vector 0)
+    → with_block p x y (4 * across) (4 * across) (inter_pixel version reference x y (vector 0)) ≡ with_block p x y (4 * across) (4 * across) (moved_pixel version reference x y across vector)
+whole_block version reference p x y across vector same =
+    with_block_same p x y (4 * across) (4 * across) (inter_pixel version reference x y (vector 0)) (moved_pixel version reference x y across vector)
+    (λ r c rin cin. moved_alike version reference x y across vector r c (same (sub_at across r c) (sub_below across r c rin cin)))
 
 -- ---- a macroblock that isn't split
 

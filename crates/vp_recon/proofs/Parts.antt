@@ -1,12 +1,6 @@
 -- A block that is made subblock after subblock.
 use Rattle.std.proofs.Common.{◌≡◌, ◌∙◌, ℕ, ◌+◌, ◌-◌, ◌*◌, ◌/◌, ◌%◌, ◌<◌, ◌≤◌, Bool, true, false, cond, nat_lt, refl, sym, ap, subst, arith}
-use Rattle.std.proofs.lemmas.Bool.{lt-ltb, le-ltb}
-use Rattle.std.proofs.lemmas.Bool.Decides.{nat_tests}
-use Rattle.std.proofs.lemmas.Nat.{row_fits}
-use Rattle.std.proofs.Math.Nat.{mul_comm}
-use Rattle.vp_base.specs.Raster.{Raster, pixel}
-use Rattle.vp_base.specs.Block.{is_in_block, with_block, IsWhole}
-use Rattle.vp_base.proofs.BlockLemmas.{pixel-with_block, IsWhole-with_block, same_raster, with_block_same}
+use Rattle.vp_recon.proofs.Words.{Raster, pixel, is_in_block, with_block, IsWhole, pixel-with_block, IsWhole-with_block, same_raster, with_block_same, lt-ltb, le-ltb, nat_tests, row_fits, mul_comm}
 
 -- ---- a pixel of a plane with a block written
 

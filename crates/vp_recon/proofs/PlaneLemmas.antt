@@ -1,21 +1,7 @@
 -- Planes of a picture that are predicted, and then changed by residues.
 use Rattle.std.proofs.Common.{◌≡◌, ◌∙◌, ℕ, ap, ◌+◌, ◌-◌, ◌*◌, ◌<◌, ◌≤◌, ℤ, get_or, refl, sym, subst, arith, List}
-use Rattle.vp_base.specs.Raster.{Raster, pixel}
-use Rattle.vp_base.specs.Image.{Image, plane_of, with_plane}
-use Rattle.vp_base.proofs.ImageLemmas.{plane_of-with_plane, with_plane-with_plane}
-use Rattle.vp_base.specs.Block.{with_block}
-use Rattle.vp_base.proofs.BlockLemmas.{IsWhole-with_block, same_raster, with_block_same}
-use Rattle.vp_recon.specs.Rebuilt.{summed, residue_at, luma_rebuilt, chroma_rebuilt, rebuilt}
-use Rattle.vp_recon.specs.Sums.{AreBlockBytes, block_sum, with_colours}
+use Rattle.vp_recon.proofs.Words.{Raster, pixel, Image, plane_of, with_plane, plane_of-with_plane, with_plane-with_plane, with_block, IsWhole-with_block, same_raster, with_block_same, summed, residue_at, luma_rebuilt, chroma_rebuilt, rebuilt, AreBlockBytes, block_sum, with_chroma, block, read_block, Place, MacroblockPixels, Macroblock, chroma_residue, chroma_prediction, chroma_predicted, IsGiven}
 use Rattle.vp_recon.proofs.Parts.{in_or_out, pixel_inside, pixel_outside, block_pixel}
-use Rattle.vp_intra.specs.Edges.{block}
-use Rattle.vp_intra.proofs.BlockLemmas.{read_block}
-use Rattle.vp_base.specs.declared.place.Place.{Place}
-use Rattle.vp_recon.specs.declared.given.MacroblockPixels.{MacroblockPixels}
-use Rattle.vp_recon.specs.Predictor.{Macroblock}
-use Rattle.vp_recon.specs.Residue.{chroma_residue}
-use Rattle.vp_recon.specs.Prediction.{chroma_prediction, chroma_predicted}
-use Rattle.vp_recon.specs.Given.{IsGiven}
 
 module _ (p now next : Image) (n : ℕ) (step : Raster → Raster) (written : next ≡ with_plane now n (step (plane_of now n))) where
   -- the plane was q, and now is q with a step more
@@ -51,17 +37,17 @@ summed_block p x y n f residue columns rows =
     (λ r c rin cin. ap (λ (v : ℕ). summed v (residue r c)) (block_pixel p x y n n f r c columns rows rin cin))
 
 -- both chroma planes are changed
-pub both_colours : (p first next : Image) (f : ℕ → Raster → Raster) → first ≡ with_plane p 1 (f 1 p.u) → next ≡ with_plane first 2 (f 2 first.v) → next ≡ with_colours p f
-both_colours p first next f is_first is_next = is_next ∙ ap (λ (i : Image). with_plane i 2 (f 2 i.v)) is_first
+pub both_chroma : (p first next : Image) (f : ℕ → Raster → Raster) → first ≡ with_plane p 1 (f 1 p.u) → next ≡ with_plane first 2 (f 2 first.v) → next ≡ with_chroma p f
+both_chroma p first next f is_first is_next = is_next ∙ ap (λ (i : Image). with_plane i 2 (f 2 i.v)) is_first
 
 -- residues are added to chroma that is predicted
-pub colours_summed : (p half next : Image) (x y : ℕ) (u v : ℕ → ℕ → ℕ) (residue : ℕ → ℕ → ℕ → ℤ) → x + 8 ≤ p.u.width → y + 8 ≤ p.u.height → x + 8 ≤ p.v.width → y + 8 ≤ p.v.height
+pub chroma_summed : (p half next : Image) (x y : ℕ) (u v : ℕ → ℕ → ℕ) (residue : ℕ → ℕ → ℕ → ℤ) → x + 8 ≤ p.u.width → y + 8 ≤ p.u.height → x + 8 ≤ p.v.width → y + 8 ≤ p.v.height
     → half ≡ record p { u = with_block p.u x y 8 8 u; v = with_block p.v x y 8 8 v }
-    → next ≡ with_colours half (λ k q. with_block q x y 8 8 (λ r c. summed (pixel q (x + c) (y + r)) (residue k r c)))
+    → next ≡ with_chroma half (λ k q. with_block q x y 8 8 (λ r c. summed (pixel q (x + c) (y + r)) (residue k r c)))
     → next ≡ record p { u = with_block p.u x y 8 8 (λ r c. summed (u r c) (residue 1 r c)); v = with_block p.v x y 8 8 (λ r c. summed (v r c) (residue 2 r c)) }
-colours_summed p half next x y u v residue u_columns u_rows v_columns v_rows predicted is =
+chroma_summed p half next x y u v residue u_columns u_rows v_columns v_rows predicted is =
     let step : ℕ → Raster → Raster = λ k q. with_block q x y 8 8 (λ r c. summed (pixel q (x + c) (y + r)) (residue k r c)) in
-    is ∙ ap (λ (i : Image). with_colours i step) predicted
+    is ∙ ap (λ (i : Image). with_chroma i step) predicted
     ∙ ap (λ (q : Raster). record p { u = q; v = step 2 (with_block p.v x y 8 8 v) }) (summed_block p.u x y 8 u (residue 1) u_columns u_rows)
     ∙ ap (λ (q : Raster). record p { u = with_block p.u x y 8 8 (λ r c. summed (u r c) (residue 1 r c)); v = q }) (summed_block p.v x y 8 v (residue 2) v_columns v_rows)
 
@@ -87,10 +73,10 @@ module _ (p now : Image) (n x y size : ℕ) (f : ℕ → ℕ → ℕ) (columns :
 
 -- chroma is rebuilt, and then luma
 pub chroma_half : (m : Macroblock) (place : Place) (p predicted half : Image) → let x : ℕ = 8 * place.column in let y : ℕ = 8 * place.row in
-    x + 8 ≤ p.u.width → y + 8 ≤ p.u.height → x + 8 ≤ p.v.width → y + 8 ≤ p.v.height → predicted ≡ with_colours p (λ k. chroma_predicted m.source k place)
-    → half ≡ with_colours predicted (λ k q. with_block q x y 8 8 (block_sum 2 q x y (chroma_residue m.tokens m.factors k)))
+    x + 8 ≤ p.u.width → y + 8 ≤ p.u.height → x + 8 ≤ p.v.width → y + 8 ≤ p.v.height → predicted ≡ with_chroma p (λ k. chroma_predicted m.predictor k place)
+    → half ≡ with_chroma predicted (λ k q. with_block q x y 8 8 (block_sum 2 q x y (chroma_residue m.tokens m.factors k)))
     → half ≡ record p { u = chroma_rebuilt m 1 place p.u; v = chroma_rebuilt m 2 place p.v }
-chroma_half m place p predicted half = colours_summed p predicted half (8 * place.column) (8 * place.row) (chroma_prediction m.source 1 place p.u) (chroma_prediction m.source 2 place p.v)
+chroma_half m place p predicted half = chroma_summed p predicted half (8 * place.column) (8 * place.row) (chroma_prediction m.predictor 1 place p.u) (chroma_prediction m.predictor 2 place p.v)
     (λ k. residue_at 2 (chroma_residue m.tokens m.factors k))
 
 pub luma_after_half : (m : Macroblock) (place : Place) (p half next : Image) → half ≡ record p { u = chroma_rebuilt m 1 place p.u; v = chroma_rebuilt m 2 place p.v }
@@ -113,12 +99,12 @@ given_chroma m place k ps q =
 pub given_half : (m : Macroblock) (place : Place) (p one two half : Image) (b : MacroblockPixels) → let x : ℕ = 8 * place.column in let y : ℕ = 8 * place.row in
     x + 8 ≤ p.u.width → y + 8 ≤ p.u.height → x + 8 ≤ p.v.width → y + 8 ≤ p.v.height
     → one ≡ with_plane p 1 (with_block p.u x y 8 8 (λ r c. get_or b.u (r * 8 + c) 0)) → two ≡ with_plane one 2 (with_block one.v x y 8 8 (λ r c. get_or b.v (r * 8 + c) 0))
-    → half ≡ with_colours two (λ k q. with_block q x y 8 8 (block_sum 2 q x y (chroma_residue m.tokens m.factors k)))
+    → half ≡ with_chroma two (λ k q. with_block q x y 8 8 (block_sum 2 q x y (chroma_residue m.tokens m.factors k)))
     → half ≡ record p { u = given_chroma m place 1 b.u p.u; v = given_chroma m place 2 b.v p.v }
 given_half m place p one two half b u_columns u_rows v_columns v_rows is_one is_two is_half =
     let x : ℕ = 8 * place.column in
     let y : ℕ = 8 * place.row in
-    colours_summed p two half x y (λ r c. get_or b.u (r * 8 + c) 0) (λ r c. get_or b.v (r * 8 + c) 0) (λ k. residue_at 2 (chroma_residue m.tokens m.factors k)) u_columns u_rows v_columns v_rows
+    chroma_summed p two half x y (λ r c. get_or b.u (r * 8 + c) 0) (λ r c. get_or b.v (r * 8 + c) 0) (λ k. residue_at 2 (chroma_residue m.tokens m.factors k)) u_columns u_rows v_columns v_rows
     (is_two ∙ ap (λ (i : Image). with_plane i 2 (with_block i.v x y 8 8 (λ r c. get_or b.v (r * 8 + c) 0))) is_one) is_half
 
 -- both chroma planes, and then luma
@@ -127,7 +113,7 @@ pub given_rebuilt : (m : Macroblock) (place : Place) (p half next : Image) (b : 
     → next ≡ with_plane half 0 (luma half.luma) → luma p.luma ≡ luma_rebuilt m place p.luma → next ≡ rebuilt m place p
 given_rebuilt m place p half next b luma given is_half is_next is_luma =
     let listed = λ (k : ℕ) (q : Raster) (ps : List ℕ).
-    sums_listed q (8 * place.column) (8 * place.row) 8 ps (chroma_prediction m.source k place q) (residue_at 2 (chroma_residue m.tokens m.factors k)) in
+    sums_listed q (8 * place.column) (8 * place.row) 8 ps (chroma_prediction m.predictor k place q) (residue_at 2 (chroma_residue m.tokens m.factors k)) in
     is_next
     ∙ ap (λ (i : Image). with_plane i 0 (luma i.luma)) is_half
     ∙ ap (λ (q : Raster). record p { luma = q; u = given_chroma m place 1 b.u p.u; v = given_chroma m place 2 b.v p.v }) is_luma

@@ -1,18 +1,7 @@
 -- What rebuilding a macroblock changes, and what it depends on, by rows of pixels.
 use Rattle.std.proofs.Common.{◌≡◌, ◌∙◌, ℕ, zero, suc, ◌+◌, ◌-◌, ◌*◌, ◌/◌, ◌%◌, ◌<◌, ◌≤◌, refl, sym, ap, arith, inl, inr}
-use Rattle.std.proofs.lemmas.Bool.{cases_Bool}
-use Rattle.vp_base.specs.declared.place.Place.{Place}
-use Rattle.vp_base.specs.Raster.{Raster, pixel}
-use Rattle.vp_base.specs.Block.{with_block}
-use Rattle.vp_base.specs.Image.{Image, IsAligned, macroblocks}
-use Rattle.vp_base.specs.Rows.{IsSameFrom, AreSameAbove, AreSameFrom, AreOneSize}
+use Rattle.vp_recon.proofs.Words.{Place, Raster, pixel, with_block, Image, IsAligned, macroblocks, IsSameFrom, AreSameAbove, AreSameFrom, AreOneSize, over-holds, MacroblockMotion, Tokens, Factors, Macroblock, Inter, predicts_by_subblocks, macroblock_of, luma_made, chroma_made, sub_step, luma_rebuilt, chroma_rebuilt, rebuilt, cases_Bool}
 use Rattle.vp_base.specs.Over.{over}
-use Rattle.vp_base.proofs.OverLemmas.{over-holds}
-use Rattle.vp_motion.specs.Vector.{MacroblockMotion}
-use Rattle.vp_tokens.specs.declared.contexts.Tokens.{Tokens}
-use Rattle.vp_quant.specs.declared.factors.Factors.{Factors}
-use Rattle.vp_recon.specs.Predictor.{Macroblock, Inter, has_sub_modes, macroblock_of}
-use Rattle.vp_recon.specs.Rebuilt.{luma_made, chroma_made, sub_step, luma_rebuilt, chroma_rebuilt, rebuilt}
 use Rattle.vp_recon.proofs.Parts.{in_or_out, pixel_inside, pixel_outside}
 use Rattle.vp_recon.proofs.LumaLemmas.{luma_at_once, luma_by_subs, wide_subs, high_subs}
 use Rattle.vp_recon.proofs.Alike.{luma_made_alike, chroma_made_alike}
@@ -20,7 +9,7 @@ use Rattle.vp_recon.proofs.Alike.{luma_made_alike, chroma_made_alike}
 -- ---- rows above
 
 luma_above : (m : Macroblock) (place : Place) (p : Raster) (u v : ℕ) → u < p.width → v < p.height → v < 16 * place.row → pixel (luma_rebuilt m place p) u v ≡ pixel p u v
-luma_above m place p u v uin vin above = elim (cases_Bool (has_sub_modes m.source)) [
+luma_above m place p u v uin vin above = elim (cases_Bool (predicts_by_subblocks m.predictor)) [
   | inl subs ↦
       ap (λ (s : Raster). pixel s u v) (sym (luma_by_subs m place p subs))
       ∙ (over-holds (λ q. (p.width ≡ q.width) × (p.height ≡ q.height) × (pixel q u v ≡ pixel p u v)) 16 (sub_step m place) p
@@ -77,7 +66,7 @@ module _ (m : Macroblock) (place : Place) (p q : Raster) (a : ℕ) (w : p.width 
         (λ r j rin jin. alike b c bw bh cw so_far (4 * (n / 4) + r) (4 * (n % 4) + j) (omega arith) (omega arith))
 
     luma_reads : IsSameFrom a (luma_rebuilt m place p) (luma_rebuilt m place q)
-    luma_reads u v uin vin low = elim (cases_Bool (has_sub_modes m.source)) [
+    luma_reads u v uin vin low = elim (cases_Bool (predicts_by_subblocks m.predictor)) [
       | inl subs ↦
           let sw = wide_subs m place p 16 in
           let sh = high_subs m place p 16 in
@@ -109,18 +98,13 @@ module _ (m : Macroblock) (place : Place) (p q : Image) (a b : ℕ) (pa : IsAlig
   }
 
   -- the last row above the macroblock is one of them
-  any_read : place.column < macroblocks p.width → place.row < macroblocks p.height → a ≤ 16 * place.row - 1 → b ≤ 8 * place.row - 1
+  pub any_read : place.column < macroblocks p.width → place.row < macroblocks p.height → a ≤ 16 * place.row - 1 → b ≤ 8 * place.row - 1
       → AreSameFrom a b (rebuilt m place p) (rebuilt m place q)
   any_read xin yin anear bnear = both_read
       (λ c d wide high over from r j. luma_made_alike place c d m r j (omega (arith, pa)) (omega (arith, pa)) (wide ∙ sym over)
       (λ u v uin vin ready. from u v uin vin (let low = ready.from in omega arith)))
       (λ k c d wide high from r j. chroma_made_alike place c d m k r j (omega (arith, pa)) (omega (arith, pa))
       (λ u v uin vin low below right left. from u v uin vin (omega arith)))
-
-pub any_reads : (m : Macroblock) (place : Place) (p q : Image) (a b : ℕ) → IsAligned p → IsAligned q → AreOneSize p q
-    → place.column < macroblocks p.width → place.row < macroblocks p.height → a ≤ 16 * place.row - 1 → b ≤ 8 * place.row - 1
-    → AreSameFrom a b p q → AreSameFrom a b (rebuilt m place p) (rebuilt m place q)
-any_reads m place p q a b pa qa size xin yin anear bnear same = any_read m place p q a b pa qa size same xin yin anear bnear
 
 -- a moved macroblock depends on nothing of the picture that it is written to
 pub inter_reads : (motion : MacroblockMotion) (reference : Image) (version : ℕ) (t : Tokens) (f : Factors) (place : Place) (p q : Image) (a b : ℕ) → IsAligned p → IsAligned q → AreOneSize p q

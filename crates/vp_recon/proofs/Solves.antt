@@ -1,19 +1,6 @@
 -- The equation of the unfiltered picture: what is rebuilt solves it, and nothing else does.
 use Rattle.std.proofs.Common.{◌≡◌, ◌∙◌, ℕ, suc, Bool, true, false, cond, ◌+◌, ◌-◌, ◌*◌, ◌/◌, ◌%◌, ◌<◌, ◌≤◌, sym, refl, ap, subst, arith, inl, inr}
-use Rattle.std.proofs.lemmas.Bool.{cases_Bool, cases_lt}
-use Rattle.std.proofs.lemmas.Nat.{row_fits, same_from_place, div-add-mod', div_below, mod_below}
-use Rattle.std.proofs.Math.Nat.{mul_comm}
-use Rattle.vp_base.specs.declared.place.Place.{Place}
-use Rattle.vp_base.specs.Raster.{Raster, pixel}
-use Rattle.vp_base.specs.Block.{IsWhole}
-use Rattle.vp_base.specs.Image.{Image, IsAligned, IsCovering, AreWhole, macroblocks}
-use Rattle.vp_base.specs.Rows.{AreOneSize}
-use Rattle.vp_base.specs.Over.{over}
-use Rattle.vp_base.proofs.BlockLemmas.{IsWhole-with_block}
-use Rattle.vp_base.proofs.OverLemmas.{over-holds}
-use Rattle.vp_recon.specs.Predictor.{Macroblock, has_sub_modes}
-use Rattle.vp_recon.specs.Rebuilt.{luma_made, chroma_made, sub_step, luma_rebuilt, chroma_rebuilt, rebuilt, row_rebuilt, all_rebuilt}
-use Rattle.vp_recon.specs.Equation.{IsUnfiltered}
+use Rattle.vp_recon.proofs.Words.{Place, Raster, pixel, IsWhole, Image, IsAligned, IsCovering, AreWhole, macroblocks, AreOneSize, over, IsWhole-with_block, over-holds, Macroblock, predicts_by_subblocks, luma_made, chroma_made, sub_step, luma_rebuilt, chroma_rebuilt, rebuilt, row_rebuilt, all_rebuilt, IsUnfiltered, cases_Bool, cases_lt, row_fits, same_from_place, div-add-mod', div_below, mod_below, mul_comm}
 use Rattle.vp_recon.proofs.LumaLemmas.{luma_at_once, luma_by_subs}
 use Rattle.vp_recon.proofs.Alike.{stage, luma_made_alike, chroma_made_alike}
 use Rattle.vp_recon.proofs.Turns.{over-grows, grid-grows, MadeTo, ByTurns, block_made, one_plane}
@@ -26,7 +13,7 @@ abbrev luma_at : (Place → Macroblock) → Raster → ℕ → ℕ → ℕ
 luma_at f p u v = luma_made (f (at (u / 16) (v / 16))) (at (u / 16) (v / 16)) p (v % 16) (u % 16)
 
 abbrev luma_turn : (Place → Macroblock) → ℕ → ℕ → ℕ → ℕ
-luma_turn f cols u v = 16 * (v / 16 * cols + u / 16) + stage (f (at (u / 16) (v / 16))).source (v % 16) (u % 16)
+luma_turn f cols u v = 16 * (v / 16 * cols + u / 16) + stage (f (at (u / 16) (v / 16))).predictor (v % 16) (u % 16)
 
 abbrev chroma_at : (Place → Macroblock) → ℕ → Raster → ℕ → ℕ → ℕ
 chroma_at f k p u v = chroma_made (f (at (u / 8) (v / 8))) k (at (u / 8) (v / 8)) p (v % 8) (u % 8)
@@ -39,7 +26,7 @@ stage_low true n = omega arith
 stage_low false n = omega arith
 
 module _ (f : Place → Macroblock) (cols rows : ℕ) where
-  -- ---- colour
+  -- ---- chroma
 
   chroma_by_turns : (k : ℕ) → ByTurns (8 * cols) (8 * rows) (chroma_turn cols) (chroma_at f k)
   chroma_by_turns k p q u v pw ph qw uin vin same =
@@ -78,7 +65,7 @@ module _ (f : Place → Macroblock) (cols rows : ℕ) where
       luma_made_alike (at (u / 16) (v / 16)) p q (f (at (u / 16) (v / 16))) (v % 16) (u % 16) (omega arith) (omega arith) (pw ∙ sym qw)
       (λ i j iin jin ready.
       let low : luma_turn f cols i j ≤ 16 * (j / 16 * cols + i / 16) + (4 * (j % 16 / 4) + i % 16 / 4) =
-      let s = stage_low (has_sub_modes (f (at (i / 16) (j / 16))).source) (4 * (j % 16 / 4) + i % 16 / 4) in omega arith in
+      let s = stage_low (predicts_by_subblocks (f (at (i / 16) (j / 16))).predictor) (4 * (j % 16 / 4) + i % 16 / 4) in omega arith in
       same i j (omega arith) (omega arith) (elim (cases_lt j (16 * (v / 16))) [
         | inl above ↦ let room : j / 16 * cols + cols ≤ v / 16 * cols = row_fits (j / 16) cols (v / 16) cols (omega arith) (omega arith) in omega arith
         | inr level ↦
@@ -89,7 +76,7 @@ module _ (f : Place → Macroblock) (cols rows : ℕ) where
 
   module _ (x y : ℕ) (xin : x < cols) where
     -- a place of this macroblock
-    turn_in : (u v : ℕ) → u / 16 ≡ x → v / 16 ≡ y → luma_turn f cols u v ≡ 16 * (y * cols + x) + stage (f (at x y)).source (v % 16) (u % 16)
+    turn_in : (u v : ℕ) → u / 16 ≡ x → v / 16 ≡ y → luma_turn f cols u v ≡ 16 * (y * cols + x) + stage (f (at x y)).predictor (v % 16) (u % 16)
     turn_in u v column row = cc
 
     value_in : (p : Raster) (u v r c : ℕ) → u / 16 ≡ x → v / 16 ≡ y → v % 16 ≡ r → u % 16 ≡ c → luma_made (f (at x y)) (at x y) p r c ≡ luma_at f p u v
@@ -98,16 +85,16 @@ module _ (f : Place → Macroblock) (cols rows : ℕ) where
     -- only its places have its turns
     place_of : (u v n : ℕ) → u < 16 * cols → n < 16 → luma_turn f cols u v ≡ 16 * (y * cols + x) + n → (v / 16 ≡ y) × (u / 16 ≡ x)
     place_of u v n uin few turn =
-        let s = stage_low (has_sub_modes (f (at (u / 16) (v / 16))).source) (4 * (v % 16 / 4) + u % 16 / 4) in
+        let s = stage_low (predicts_by_subblocks (f (at (u / 16) (v / 16))).predictor) (4 * (v % 16 / 4) + u % 16 / 4) in
         same_from_place (v / 16) (u / 16) y x cols (omega arith) xin (omega arith)
 
     abbrev Made : ℕ → Raster → Type 0
     Made = MadeTo (16 * cols) (16 * rows) (luma_turn f cols) (luma_at f)
 
-    luma_sub : has_sub_modes (f (at x y)).source ≡ true → (k : ℕ) → k < 16 → (p : Raster) → Made (16 * (y * cols + x) + k) p
+    luma_sub : predicts_by_subblocks (f (at x y)).predictor ≡ true → (k : ℕ) → k < 16 → (p : Raster) → Made (16 * (y * cols + x) + k) p
         → Made (16 * (y * cols + x) + suc k) (sub_step (f (at x y)) (at x y) k p)
     luma_sub subs k few p so_far =
-        let own : (r c : ℕ) → stage (f (at x y)).source r c ≡ 4 * (r / 4) + c / 4 = λ r c. ap (λ (b : Bool). cond b (4 * (r / 4) + c / 4) 0) subs in
+        let own : (r c : ℕ) → stage (f (at x y)).predictor r c ≡ 4 * (r / 4) + c / 4 = λ r c. ap (λ (b : Bool). cond b (4 * (r / 4) + c / 4) 0) subs in
         block_made (16 * cols) (16 * rows) (luma_turn f cols) (luma_at f) luma_by_turns (16 * (y * cols + x) + k) (16 * (y * cols + x) + suc k)
         (16 * x + 4 * (k % 4)) (16 * y + 4 * (k / 4)) 4 (λ r c. luma_made (f (at x y)) (at x y) p (4 * (k / 4) + r) (4 * (k % 4) + c)) p so_far
         (λ u v l. turn_in u v (omega arith) (omega arith) ∙ (let s = own (v % 16) (u % 16) in omega arith))
@@ -120,14 +107,14 @@ module _ (f : Place → Macroblock) (cols rows : ℕ) where
         (λ u v l. value_in p u v (4 * (k / 4) + (v - (16 * y + 4 * (k / 4)))) (4 * (k % 4) + (u - (16 * x + 4 * (k % 4)))) (omega arith) (omega arith) (omega arith) (omega arith))
 
     luma_step : (p : Raster) → Made (16 * (y * cols + x)) p → Made (16 * (y * cols + x + 1)) (luma_rebuilt (f (at x y)) (at x y) p)
-    luma_step p so_far = elim (cases_Bool (has_sub_modes (f (at x y)).source)) [
+    luma_step p so_far = elim (cases_Bool (predicts_by_subblocks (f (at x y)).predictor)) [
       | inl subs ↦
           subst (λ (q : Raster). Made (16 * (y * cols + x + 1)) q) (luma_by_subs (f (at x y)) (at x y) p subs)
           (subst (λ (n : ℕ). Made n (over 16 (sub_step (f (at x y)) (at x y)) p)) (let e : 16 * (y * cols + x) + 16 ≡ 16 * (y * cols + x + 1) = omega arith in e)
           (over-grows (λ k. Made (16 * (y * cols + x) + k)) 16 (sub_step (f (at x y)) (at x y)) p (luma_sub subs)
           (subst (λ (n : ℕ). Made n p) (let e : 16 * (y * cols + x) ≡ 16 * (y * cols + x) + 0 = omega arith in e) so_far)))
       | inr whole ↦
-          let none : (r c : ℕ) → stage (f (at x y)).source r c ≡ 0 = λ r c. ap (λ (b : Bool). cond b (4 * (r / 4) + c / 4) 0) whole in
+          let none : (r c : ℕ) → stage (f (at x y)).predictor r c ≡ 0 = λ r c. ap (λ (b : Bool). cond b (4 * (r / 4) + c / 4) 0) whole in
           subst (λ (q : Raster). Made (16 * (y * cols + x + 1)) q) (luma_at_once (f (at x y)) (at x y) p whole)
           (block_made (16 * cols) (16 * rows) (luma_turn f cols) (luma_at f) luma_by_turns (16 * (y * cols + x)) (16 * (y * cols + x + 1))
           (16 * x) (16 * y) 16 (luma_made (f (at x y)) (at x y) p) p so_far
@@ -164,7 +151,7 @@ module _ (f : Place → Macroblock) (cols rows : ℕ) where
       let room : y * cols + cols ≤ rows * cols = row_fits y cols rows cols yin (omega arith) in
       let column : (16 * x + c) / 16 ≡ x = omega arith in
       let row : (16 * y + r) / 16 ≡ y = omega arith in
-      let low = stage_low (has_sub_modes (f (at x y)).source) (4 * ((16 * y + r) % 16 / 4) + (16 * x + c) % 16 / 4) in
+      let low = stage_low (predicts_by_subblocks (f (at x y)).predictor) (4 * ((16 * y + r) % 16 / 4) + (16 * x + c) % 16 / 4) in
       made.value (16 * x + c) (16 * y + r) (omega arith) (omega arith) (let e = turn_in x y xin (16 * x + c) (16 * y + r) column row in omega arith)
       ∙ sym (value_in x y xin p (16 * x + c) (16 * y + r) r c column row (omega arith) (omega arith))
 
@@ -188,7 +175,7 @@ all_keep P f p keeps =
     (λ column cin. keeps (f (at column row)) (at column row)))
 
 luma_is_whole : (m : Macroblock) (place : Place) (p : Raster) → IsWhole p → IsWhole (luma_rebuilt m place p)
-luma_is_whole m place p whole = elim (cases_Bool (has_sub_modes m.source)) [
+luma_is_whole m place p whole = elim (cases_Bool (predicts_by_subblocks m.predictor)) [
   | inl subs ↦
       subst IsWhole (luma_by_subs m place p subs) (over-holds IsWhole 16 (sub_step m place) p
       (λ k below q h. IsWhole-with_block q (16 * place.column + 4 * (k % 4)) (16 * place.row + 4 * (k / 4)) 4 4 (λ r c. luma_made m place q (4 * (k / 4) + r) (4 * (k % 4) + c))) whole)
@@ -261,8 +248,5 @@ one f p q pa qa size pw qw pe qe =
     (by_pixels 8 cols rows b (λ x y r c. chroma_made (f (at x y)) k (at x y) b r c) (omega arith) be) in
     let u : p.u ≡ q.u = chroma 1 p.u q.u pa.1 (omega (arith, qa), omega (arith, qa)) (λ x y r c xin yin. (pe (at x y) xin yin).u r c) (λ x y r c xin yin. (qe (at x y) (omega arith) (omega arith)).u r c) pw.1 qw.1 in
     let v : p.v ≡ q.v = chroma 2 p.v q.v pa.2 (omega (arith, qa), omega (arith, qa)) (λ x y r c xin yin. (pe (at x y) xin yin).v r c) (λ x y r c xin yin. (qe (at x y) (omega arith) (omega arith)).v r c) pw.2 qw.2 in
-    ap (λ (n : ℕ). image n p.height p.luma p.u p.v) size.width
-    ∙ ap (λ (n : ℕ). image q.width n p.luma p.u p.v) size.height
-    ∙ ap (λ (r : Raster). image q.width q.height r p.u p.v) luma
-    ∙ ap (λ (r : Raster). image q.width q.height q.luma r p.v) u
-    ∙ ap (λ (r : Raster). image q.width q.height q.luma q.u r) v
+    let e : image p.width p.height p.luma p.u p.v ≡ image q.width q.height q.luma q.u q.v = cc in
+    e

@@ -1,23 +1,9 @@
--- Residues as rows of numbers that the code keeps in 16 bits, and their sums with pixels.
+-- SmallInputs as rows of numbers that the code keeps in 16 bits, and their sums with pixels.
 use Rattle.std.proofs.Common.{◌≡◌, ◌∙◌, ℕ, ◌+◌, ◌*◌, ◌<◌, ◌≤◌, ℤ, pos, negsuc, ◌+ℤ◌, ◌≤ℤ◌, min, List, [], ◌∷◌, map, length, zero, suc, unsigned_abs, get_or, to_z, of_z, w16, replicate, refl, sym, ap, arith, inl, inr, ◌-◌, ◌/◌, ◌%◌, subst}
-use Rattle.std.proofs.lemmas.Bool.{cases_lt}
-use Rattle.std.proofs.lemmas.Int.{ints, clamps, to_z-of_z}
-use Rattle.std.proofs.lemmas.List.{get_or-replicate, get_or_past}
-use Rattle.std.specs.Int.{int_min, int_max}
+use Rattle.vp_recon.proofs.Words.{rounded-at_most, rounded, HasBlock, lanes_of, clamp_to_pixel, HasEqualSums, IsNothing, row_lane, AreRows, AreLow, Four, lane, EachWithin, row_in, even_block, odd_block, coded16, handed16, passed16, short16_fits, below_four, sixteen, cases_lt, ints, clamps, to_z-of_z, get_or-replicate, get_or_past, int_min, int_max}
 use mir.Val.{SFits}
-use Rattle.vp_transform.proofs.Sizes.{rounded-at_most}
-use Rattle.vp_transform.specs.Transform.{idct, rounded}
-use Rattle.vp_quant.specs.Short.{HasBlock}
-use Rattle.vp_lanes.proofs.Shape.{lanes_of}
 use Rattle.vp_transform.specs.Short.{cut}
-use Rattle.vp_recon.specs.Rebuilt.{summed, clamp_to_pixel}
-use Rattle.vp_recon.specs.Sums.{HasEqualSums, IsNothing, row_lane, AreRows, AreLow, Four}
-use Rattle.vp_lanes.specs.Lane.{lane}
-use Rattle.vp_transform.specs.Fits.{EachWithin}
-use Rattle.vp_transform.specs.Pair.{row_in, even_block, odd_block}
-use Rattle.vp_transform.proofs.Bounds.{idct-within}
-use Rattle.vp_transform.proofs.Eights.{coded16, handed16, passed16}
-use Rattle.vp_transform.proofs.Vectors.{short16_fits, below_four, sixteen}
+use Rattle.vp_recon.specs.Rebuilt.{summed}
 
 pub summed-zero : (p : ℕ) → p ≤ 255 → summed p (pos 0) ≡ p
 unfolding summed
@@ -66,12 +52,11 @@ pub cut_kept : (kept residue : List ℤ) → ((i : ℕ) → i < 16 → get_or ke
 cut_kept kept residue e i below pixel byte = ap (summed pixel) (e i below) ∙ summed-cut pixel (get_or residue i (pos 0)) byte
 
 -- the sums of a subblock without residue
-pub nothing_added : (prediction residue : List ℕ) (zs : List ℤ) → IsNothing zs → prediction ≡ residue → ((i : ℕ) → i < 16 → get_or prediction i 0 ≤ 255)
-    → (r c : ℕ) → r < 4 → c < 4 → get_or residue (r * 4 + c) 0 ≡ summed (get_or prediction (r * 4 + c) 0) (get_or zs (4 * r + c) (pos 0))
-nothing_added prediction same zs nothing e byte r c rin cin =
+pub nothing_added : (prediction : List ℕ) (zs : List ℤ) → IsNothing zs → ((i : ℕ) → i < 16 → get_or prediction i 0 ≤ 255)
+    → (r c : ℕ) → r < 4 → c < 4 → get_or prediction (r * 4 + c) 0 ≡ summed (get_or prediction (r * 4 + c) 0) (get_or zs (4 * r + c) (pos 0))
+nothing_added prediction zs nothing byte r c rin cin =
     let p : ℕ = get_or prediction (r * 4 + c) 0 in
-    ap (λ (ps : List ℕ). get_or ps (r * 4 + c) 0) (sym e)
-    ∙ sym (summed-zero p (byte (r * 4 + c) (omega arith))) ∙ ap (summed p) (sym (nothing (4 * r + c) (omega arith)))
+    sym (summed-zero p (byte (r * 4 + c) (omega arith))) ∙ ap (summed p) (sym (nothing (4 * r + c) (omega arith)))
 
 pub low_handed : (n : ℕ) (xs : List ℤ) → AreLow n xs → AreLow n (handed16 xs)
 low_handed n xs low j h = subst (λ z. unsigned_abs z ≤ 8800) (sym (passed16 xs j 8800 (omega arith) (low j h))) (low j h)
@@ -111,6 +96,11 @@ flat_rows n row first own lanes small are =
           ∙ ap (λ (zs : List ℤ). get_or zs (4 * r + j % 4) (pos 0)) (sym (are (j / 4) (omega arith))));
     }
 
+pub below_two : (P : ℕ → Type 0) → P 0 → P 1 → (i : ℕ) → i < 2 → P i
+below_two P first second zero below = first
+below_two P first second (suc zero) below = second
+below_two P first second (suc (suc i)) below = absurd (omega arith)
+
 pub by_halves : (P : ℕ → Type 0) → ((j : ℕ) → j < 8 → P j) → ((j : ℕ) → j < 8 → P (8 + j)) → (k : ℕ) → k < 16 → P k
 by_halves P first second k below = elim (cases_lt k 8) [
   | inl low ↦ first k low
@@ -137,28 +127,19 @@ module _ (v : Four) (small : (r j : ℕ) → r < 4 → j < 8 → unsigned_abs (r
   ]
 
 module _ (v : Four) (block : List ℤ) (long : length block ≡ 16) where
-  a : 0 < 4
-  a = omega arith
-
-  b : 1 < 4
-  b = omega arith
-
-  c : 2 < 4
-  c = omega arith
-
-  d : 3 < 4
-  d = omega arith
+  i : (0 < 4) × (1 < 4) × (2 < 4) × (3 < 4)
+  i = (omega arith, omega arith, omega arith, omega arith)
 
   pub even_is : HasBlock v 0 block → even_block v.0 v.1 v.2 v.3 ≡ block
   even_is has =
-      sixteen (has 0 0 a a) (has 0 1 a b) (has 0 2 a c) (has 0 3 a d) (has 1 0 b a) (has 1 1 b b) (has 1 2 b c) (has 1 3 b d)
-      (has 2 0 c a) (has 2 1 c b) (has 2 2 c c) (has 2 3 c d) (has 3 0 d a) (has 3 1 d b) (has 3 2 d c) (has 3 3 d d)
+      sixteen (has 0 0 i.0 i.0) (has 0 1 i.0 i.1) (has 0 2 i.0 i.2) (has 0 3 i.0 i.3) (has 1 0 i.1 i.0) (has 1 1 i.1 i.1) (has 1 2 i.1 i.2) (has 1 3 i.1 i.3)
+      (has 2 0 i.2 i.0) (has 2 1 i.2 i.1) (has 2 2 i.2 i.2) (has 2 3 i.2 i.3) (has 3 0 i.3 i.0) (has 3 1 i.3 i.1) (has 3 2 i.3 i.2) (has 3 3 i.3 i.3)
       ∙ sym (lanes_of (pos 0) 16 block long).is
 
   pub odd_is : HasBlock v 1 block → odd_block v.0 v.1 v.2 v.3 ≡ block
   odd_is has =
-      sixteen (has 0 0 a a) (has 0 1 a b) (has 0 2 a c) (has 0 3 a d) (has 1 0 b a) (has 1 1 b b) (has 1 2 b c) (has 1 3 b d)
-      (has 2 0 c a) (has 2 1 c b) (has 2 2 c c) (has 2 3 c d) (has 3 0 d a) (has 3 1 d b) (has 3 2 d c) (has 3 3 d d)
+      sixteen (has 0 0 i.0 i.0) (has 0 1 i.0 i.1) (has 0 2 i.0 i.2) (has 0 3 i.0 i.3) (has 1 0 i.1 i.0) (has 1 1 i.1 i.1) (has 1 2 i.1 i.2) (has 1 3 i.1 i.3)
+      (has 2 0 i.2 i.0) (has 2 1 i.2 i.1) (has 2 2 i.2 i.2) (has 2 3 i.2 i.3) (has 3 0 i.3 i.0) (has 3 1 i.3 i.1) (has 3 2 i.3 i.2) (has 3 3 i.3 i.3)
       ∙ sym (lanes_of (pos 0) 16 block long).is
 
 row_first : (x y : List ℤ) (r j : ℕ) → j < 4 → lane (row_in x y r) j ≡ get_or x (4 * r + j) (pos 0)
@@ -166,9 +147,6 @@ row_first x y r = below_four (λ j. lane (row_in x y r) j ≡ get_or x (4 * r + 
 
 row_second : (x y : List ℤ) (r j : ℕ) → j < 4 → lane (row_in x y r) (4 + j) ≡ get_or y (4 * r + j) (pos 0)
 row_second x y r = below_four (λ j. lane (row_in x y r) (4 + j) ≡ get_or y (4 * r + j) (pos 0)) refl refl refl refl
-
-pub idct_low : (a : List ℤ) → EachWithin 2200 a → AreLow 16 (idct a)
-idct_low a small j h = idct-within 2200 a small j
 
 pub rows_beside : (own : ℕ → List ℤ) (x y v0 v1 v2 v3 : List ℤ) → AreLow 16 x → AreLow 16 y → HasEqualSums x (own 0) → HasEqualSums y (own 1)
     → v0 ≡ row_in x y 0 → v1 ≡ row_in x y 1 → v2 ≡ row_in x y 2 → v3 ≡ row_in x y 3 → AreRows 8 v0 v1 v2 v3 own
@@ -200,22 +178,19 @@ rows_beside own x y v0 v1 v2 v3 low_x low_y is_x is_y e0 e1 e2 e3 =
 pub short_coded : (z : ℤ) → unsigned_abs z ≤ 8800 → coded16 z ≡ z
 short_coded z l = to_z-of_z w16 z (short16_fits z (omega arith))
 
-pub held_sum : (p : ℕ) (y z : ℤ) → p ≤ 255 → y ≡ int_max (negsuc 254) (int_min z (pos 255)) → summed p y ≡ summed p z
+-- clamped to -255..255
+pub clamped_sum : (p : ℕ) (y z : ℤ) → p ≤ 255 → y ≡ int_min (pos 255) (int_max (negsuc 254) z) → summed p y ≡ summed p z
 unfolding summed
-held_sum p y (pos n) byte e =
-    let f : y ≡ pos (min n 255) = e ∙ (let g : int_max (negsuc 254) (int_min (pos n) (pos 255)) ≡ pos (min n 255) = omega (arith, ints, clamps) in g) in
+clamped_sum p y (pos n) byte e =
+    let f : y ≡ pos (min n 255) = e ∙ (let g : int_min (pos 255) (int_max (negsuc 254) (pos n)) ≡ pos (min n 255) = omega (arith, ints, clamps) in g) in
     ap (λ (v : ℤ). summed p v) f ∙ (let g : min (p + min n 255) 255 ≡ min (p + n) 255 = omega arith in g)
-held_sum p y (negsuc n) byte e = elim (cases_lt n 255) [
+clamped_sum p y (negsuc n) byte e = elim (cases_lt n 255) [
   | inl near ↦
-      ap (λ (v : ℤ). summed p v) (e ∙ (let g : int_max (negsuc 254) (int_min (negsuc n) (pos 255)) ≡ negsuc n = omega (arith, ints, clamps) in g))
+      ap (λ (v : ℤ). summed p v) (e ∙ (let g : int_min (pos 255) (int_max (negsuc 254) (negsuc n)) ≡ negsuc n = omega (arith, ints, clamps) in g))
   | inr far ↦
-      ap (λ (v : ℤ). summed p v) (e ∙ (let g : int_max (negsuc 254) (int_min (negsuc n) (pos 255)) ≡ negsuc 254 = omega (arith, ints, clamps) in g))
+      ap (λ (v : ℤ). summed p v) (e ∙ (let g : int_min (pos 255) (int_max (negsuc 254) (negsuc n)) ≡ negsuc 254 = omega (arith, ints, clamps) in g))
       ∙ clamp_to_pixel-low (pos p +ℤ negsuc 254) (omega (arith, ints)) ∙ sym (clamp_to_pixel-low (pos p +ℤ negsuc n) (omega (arith, ints)))
 ]
-
--- a number clamped to -255..255
-pub clamped_sum : (p : ℕ) (y z : ℤ) → p ≤ 255 → y ≡ int_min (pos 255) (int_max (negsuc 254) z) → summed p y ≡ summed p z
-clamped_sum p y z byte e = held_sum p y z byte (omega (arith, ints, clamps))
 
 pub clamped_low : (y z : ℤ) → y ≡ int_min (pos 255) (int_max (negsuc 254) z) → unsigned_abs y ≤ 8800
 clamped_low y z e = omega (arith, ints, clamps)

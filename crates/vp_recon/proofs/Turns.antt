@@ -1,10 +1,7 @@
 -- Planes whose pixels are made in turns, each from those of earlier turns.
 use Rattle.std.proofs.Common.{◌≡◌, ◌∙◌, ℕ, zero, suc, ◌+◌, ◌-◌, ◌*◌, ◌<◌, ◌≤◌, sym, subst, arith, inl, inr}
-use Rattle.std.proofs.lemmas.Bool.{cases_lt}
-use Rattle.vp_base.specs.Raster.{Raster, pixel}
-use Rattle.vp_base.specs.Block.{with_block, IsWhole}
+use Rattle.vp_recon.proofs.Words.{Raster, pixel, with_block, IsWhole, same_raster, cases_lt}
 use Rattle.vp_base.specs.Over.{over}
-use Rattle.vp_base.proofs.BlockLemmas.{same_raster}
 use Rattle.vp_recon.proofs.Parts.{Lies, pixel_inside, pixel_outside}
 
 -- what each step takes one further

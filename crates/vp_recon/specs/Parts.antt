@@ -8,8 +8,8 @@ use Rattle.vp_quant.specs.declared.factors.Factors.{Factors}
 use Rattle.vp_quant.specs.Short.{coefficients_after}
 use Rattle.vp_transform.specs.Transform.{idct}
 use Rattle.vp_recon.specs.Residue.{luma_dcs}
-use Rattle.vp_recon.specs.declared.residue_inputs.Residues.{Residues}
-use Rattle.vp_recon.specs.declared.residue_inputs.LargeResidues.{LargeResidues}
+use Rattle.vp_recon.specs.declared.residue_inputs.SmallInputs.{SmallInputs}
+use Rattle.vp_recon.specs.declared.residue_inputs.LargeInputs.{LargeInputs}
 
 -- a block with at most n tokens
 abbrev pub HasUpTo : ℕ → Block → Type 0
@@ -17,9 +17,9 @@ HasUpTo n b = IsBlock b × (b.end ≤ n)
 
 -- ---- DC coefficients
 
--- that of subblock k, from its own level; block `start` is that of the first subblock
+-- that of subblock k, from its own level; block `first` is that of the first subblock
 abbrev pub own_dc : Tokens → ℕ → ℕ → ℕ → ℤ
-own_dc t start dc k = slice_index_or (block_of t (start + k)).levels 0 (pos 0) *ℤ pos dc
+own_dc t first dc k = slice_index_or (block_of t (first + k)).levels 0 (pos 0) *ℤ pos dc
 
 -- that of luma subblock k, with a Y2 block or without
 abbrev pub luma_dc : Bool → Tokens → Factors → ℕ → ℤ
@@ -27,7 +27,7 @@ luma_dc y2 t f k = if y2 then slice_index_or (luma_dcs t f) k (pos 0) else own_d
 
 -- those of n subblocks
 abbrev pub AreDcs : ℕ → List ℤ → (ℕ → ℤ) → Type 0
-AreDcs n dcs first = (k : ℕ) → k < n → slice_index_or dcs k (pos 0) ≡ first k
+AreDcs n dcs dc = (k : ℕ) → k < n → slice_index_or dcs k (pos 0) ≡ dc k
 
 -- those of n subblocks are from -2200 to 2200
 abbrev pub AreSmall : ℕ → List ℤ → Type 0
@@ -37,29 +37,29 @@ AreSmall n dcs = (k : ℕ) → k < n → unsigned_abs (slice_index_or dcs k (pos
 
 -- the coefficients of subblock k, with these DC coefficients
 abbrev pub coefficients_by : Tokens → ℕ → List ℤ → ℕ → ℕ → List ℤ
-coefficients_by t start dcs ac k =
-    coefficients_after (slice_index_or dcs k (pos 0)) (block_of t (start + k)).levels ac
+coefficients_by t first dcs ac k =
+    coefficients_after (slice_index_or dcs k (pos 0)) (block_of t (first + k)).levels ac
 
 -- its residue
 abbrev pub residue_by : Tokens → ℕ → List ℤ → ℕ → ℕ → List ℤ
-residue_by t start dcs ac k = idct (coefficients_by t start dcs ac k)
+residue_by t first dcs ac k = idct (coefficients_by t first dcs ac k)
 
-abbrev pub coefficients_in : Residues → ℕ → List ℤ
-coefficients_in r = coefficients_by r.tokens.now r.start r.dcs.now r.ac
+abbrev pub coefficients_in : SmallInputs → ℕ → List ℤ
+coefficients_in r = coefficients_by r.tokens.now r.first r.dcs.now r.ac
 
-abbrev pub residue_in : Residues → ℕ → List ℤ
-residue_in r = residue_by r.tokens.now r.start r.dcs.now r.ac
+abbrev pub residue_in : SmallInputs → ℕ → List ℤ
+residue_in r = residue_by r.tokens.now r.first r.dcs.now r.ac
 
-abbrev pub large_residue_in : LargeResidues → ℕ → List ℤ
-large_residue_in r = residue_by r.tokens.now r.start r.dcs r.ac
+abbrev pub large_residue_in : LargeInputs → ℕ → List ℤ
+large_residue_in r = residue_by r.tokens.now r.first r.dcs r.ac
 
 -- there are n subblocks
-abbrev pub HasBlocks : Residues → ℕ → Type 0
-HasBlocks r n = (n ≤ length r.dcs.now) × (r.start + n ≤ 25)
+abbrev pub HasBlocks : SmallInputs → ℕ → Type 0
+HasBlocks r n = (n ≤ length r.dcs.now) × (r.first + n ≤ 25)
 
 -- subblock k has at most n tokens
-abbrev pub HasTokens : ℕ → Residues → ℕ → Type 0
-HasTokens n r k = HasUpTo n (block_of r.tokens.now (r.start + k))
+abbrev pub HasTokens : ℕ → SmallInputs → ℕ → Type 0
+HasTokens n r k = HasUpTo n (block_of r.tokens.now (r.first + k))
 
 -- the residues of n subblocks
 abbrev pub HasResidues : ℕ → (ℕ → List ℤ) → (ℕ → List ℤ) → Type 0

@@ -55,10 +55,10 @@ chroma_prediction (Inter motion reference version) k place p r c =
 
 -- p with a macroblock's luma predicted
 abbrev pub luma_predicted : Predictor → Place → Raster → Raster
-luma_predicted source place p =
-    with_block p (16 * place.column) (16 * place.row) 16 16 (luma_prediction source place p)
+luma_predicted predictor place p =
+    with_block p (16 * place.column) (16 * place.row) 16 16 (luma_prediction predictor place p)
 
 -- p with a macroblock's chroma plane k predicted
 abbrev pub chroma_predicted : Predictor → ℕ → Place → Raster → Raster
-chroma_predicted source k place p =
-    with_block p (8 * place.column) (8 * place.row) 8 8 (chroma_prediction source k place p)
+chroma_predicted predictor k place p =
+    with_block p (8 * place.column) (8 * place.row) 8 8 (chroma_prediction predictor k place p)

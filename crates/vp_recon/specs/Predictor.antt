@@ -18,13 +18,13 @@ pub data Predictor : Type 0 where
 
 -- a macroblock: its predictor, its tokens, and its dequantisation factors
 pub record Macroblock : Type 0 where
-  pub source : Predictor
+  pub predictor : Predictor
   pub tokens : Tokens
   pub factors : Factors
 
 -- the macroblock with these parts
 abbrev pub macroblock_of : Predictor → Tokens → Factors → Macroblock
-macroblock_of source tokens factors = record { source = source; tokens = tokens; factors = factors }
+macroblock_of predictor tokens factors = record { predictor = predictor; tokens = tokens; factors = factors }
 
 -- the value of a borrowed predictor in the code
 abbrev pub predictor_of : Lent → Predictor
@@ -32,9 +32,9 @@ predictor_of (lent.Intra modes) = Intra modes.now
 predictor_of (lent.Inter motion reference version) = Inter motion.now reference.now version
 
 -- whether the luma subblocks have intra modes of their own (B_PRED)
-abbrev pub has_sub_modes : Predictor → Bool
-has_sub_modes (Intra modes) = is_by_subblocks modes.luma
-has_sub_modes (Inter motion reference version) = false
+abbrev pub predicts_by_subblocks : Predictor → Bool
+predicts_by_subblocks (Intra modes) = is_by_subblocks modes.luma
+predicts_by_subblocks (Inter motion reference version) = false
 
 -- whether there is a Y2 block: not with B_PRED or split vectors (chapter 13)
 abbrev pub has_y2 : Predictor → Bool

@@ -8,7 +8,7 @@ use Rattle.vp_base.specs.Image.{Image, macroblocks}
 use Rattle.vp_base.specs.Over.{over}
 use Rattle.vp_tables.specs.declared.modes.SubMode.{SubMode}
 use Rattle.vp_intra.specs.Sub.{sub_pixel}
-use Rattle.vp_recon.specs.Predictor.{Macroblock, has_sub_modes, has_y2}
+use Rattle.vp_recon.specs.Predictor.{Macroblock, predicts_by_subblocks, has_y2}
 use Rattle.vp_recon.specs.Residue.{luma_residue, chroma_residue}
 use Rattle.vp_recon.specs.Prediction.{luma_prediction, chroma_prediction}
 
@@ -31,12 +31,13 @@ residue_at across residue r c = slice_index_or (residue (across * (r / 4) + c / 
 -- the pixel at row r and column c of a macroblock's luma in plane p
 abbrev pub luma_made : Macroblock → Place → Raster → ℕ → ℕ → ℕ
 luma_made m place p r c =
-    summed (luma_prediction m.source place p r c) (residue_at 4 (luma_residue (has_y2 m.source) m.tokens m.factors) r c)
+    summed (luma_prediction m.predictor place p r c)
+    (residue_at 4 (luma_residue (has_y2 m.predictor) m.tokens m.factors) r c)
 
 -- the pixel at row r and column c of a macroblock's chroma plane k in plane p
 abbrev pub chroma_made : Macroblock → ℕ → Place → Raster → ℕ → ℕ → ℕ
 chroma_made m k place p r c =
-    summed (chroma_prediction m.source k place p r c) (residue_at 2 (chroma_residue m.tokens m.factors k) r c)
+    summed (chroma_prediction m.predictor k place p r c) (residue_at 2 (chroma_residue m.tokens m.factors k) r c)
 
 -- ---- a macroblock
 
@@ -50,7 +51,7 @@ sub_step m place k p =
 -- once
 unfoldable pub luma_numbers : Macroblock → Place → Raster → List ℕ
 luma_numbers m place p =
-    (if has_sub_modes m.source then over 16 (sub_step m place) p
+    (if predicts_by_subblocks m.predictor then over 16 (sub_step m place) p
     else with_block p (16 * place.column) (16 * place.row) 16 16 (luma_made m place p)).pixels
 
 -- p with a macroblock's luma rebuilt

@@ -6,7 +6,7 @@ use Rattle.vp_base.specs.Raster.{Raster, pixel, pixel_index}
 use Rattle.vp_base.specs.Image.{Image}
 use Rattle.vp_inter.specs.declared.vector.PlaneVector.{PlaneVector}
 use Rattle.vp_recon.specs.Rebuilt.{summed, residue_at}
-use Rattle.vp_base.specs.Block.{IsWhole, written}
+use Rattle.vp_base.specs.Block.{IsWhole, with_block, written}
 use Rattle.vp_lanes.specs.Lane.{lane}
 
 -- sixteen numbers that give the same sums as a residue when added to any byte and clamped
@@ -24,14 +24,14 @@ abbrev pub AreBlockBytes : ℕ → (ℕ → ℕ → ℕ) → Type 0
 AreBlockBytes n block = (r c : ℕ) → r < n → c < n → block r c ≤ 255
 
 -- p with both chroma planes changed
-abbrev pub with_colours : Image → (ℕ → Raster → Raster) → Image
-with_colours p f = record p { u = f 1 p.u; v = f 2 p.v }
+abbrev pub with_chroma : Image → (ℕ → Raster → Raster) → Image
+with_chroma p f = record p { u = f 1 p.u; v = f 2 p.v }
 
 -- ---- rows
 
 -- the block of n columns and h rows at column x of row y of p has its first pixel at index `at` of these bytes, whose
 -- rows are `stride` apart
-pub record LiesAt (p : Raster) (x y n h : ℕ) (bytes : List ℕ) (at stride : ℕ) : Type 0 where
+pub record BlockLiesAt (p : Raster) (x y n h : ℕ) (bytes : List ℕ) (at stride : ℕ) : Type 0 where
   pub whole : IsWhole p
   pub same : p.pixels ≡ bytes
   pub wide : p.width ≡ stride
@@ -71,19 +71,28 @@ abbrev pub strip_sum : Raster → ℕ → ℕ → (ℕ → List ℤ) → ℕ →
 strip_sum p x y own r c =
     summed (pixel p (x + c) (y + r)) (slice_index_or (own (c / 4)) (4 * r + c % 4) (pos 0))
 
--- bytes of which four rows of n, from index `at` on and `stride` apart, are replaced: in a plane by f's pixels
-pub record IsWritten (n : ℕ) (old new : List ℕ) (at stride : ℕ) (f : Raster → ℕ → ℕ → ℕ → ℕ → ℕ) : Type 0 where
-  pub value : (p : Raster) (x y : ℕ) → LiesAt p x y n 4 old at stride → new ≡ written p x y n 4 (f p x y)
+-- bytes of which h rows of n, from index `at` on and `stride` apart, are replaced, and no others: those of a block at
+-- column x of row y of p by the pixels f p x y
+pub record IsBlockWritten (n h : ℕ) (old new : List ℕ) (at stride : ℕ) (f : Raster → ℕ → ℕ → ℕ → ℕ → ℕ) : Type 0 where
+  pub value : (p : Raster) (x y : ℕ) → BlockLiesAt p x y n h old at stride → new ≡ written p x y n h (f p x y)
   pub len : length new ≡ length old
 
 -- the residues of adjacent subblocks are added to them
 abbrev pub IsAdded : ℕ → List ℕ → List ℕ → ℕ → ℕ → (ℕ → List ℤ) → Type 0
-IsAdded n old new at stride own = IsWritten n old new at stride (λ p x y. strip_sum p x y own)
+IsAdded n old new at stride own = IsBlockWritten n 4 old new at stride (λ p x y. strip_sum p x y own)
 
 -- the pixel at row r and column c of the block at column x of row y of p, which is `across` subblocks wide and high,
 -- with its residue added
 abbrev pub block_sum : ℕ → Raster → ℕ → ℕ → (ℕ → List ℤ) → ℕ → ℕ → ℕ
 block_sum across p x y residue r c = summed (pixel p (x + c) (y + r)) (residue_at across residue r c)
+
+-- the residues of a block that is `across` subblocks wide and high are added to it: in bytes, and in a plane
+abbrev pub IsAddedToBlock : ℕ → List ℕ → List ℕ → ℕ → ℕ → (ℕ → List ℤ) → Type 0
+IsAddedToBlock across old new at stride residue =
+    IsBlockWritten (4 * across) (4 * across) old new at stride (λ p x y. block_sum across p x y residue)
+
+abbrev pub with_sums : ℕ → Raster → ℕ → ℕ → (ℕ → List ℤ) → Raster
+with_sums across p x y residue = with_block p x y (4 * across) (4 * across) (block_sum across p x y residue)
 
 -- a block is two or four subblocks wide
 abbrev pub IsAcross : ℕ → Type 0

@@ -1,23 +1,21 @@
 //! Adds residues to the prediction that a picture already holds (RFC 6386, chapter 14.5).
 
-ghost use Rattle.std.specs.Prelude.{◌≡◌, ℕ, ◌+◌, ◌-◌, ◌*◌, ◌<◌, ◌≤◌, true, List, ℤ, length, []};
-ghost use Rattle.std.specs.Prelude.{slice_index, slice_index_or};
-ghost use Rattle.vp_base.specs.Raster.{Raster};
-ghost use Rattle.vp_base.specs.Block.{IsWhole, with_block, written};
+ghost use Rattle.std.specs.Prelude.{◌≡◌, ℕ, ◌+◌, ◌-◌, ◌*◌, ◌<◌, ◌≤◌, true, List, ℤ, length, slice_index};
+ghost use Rattle.vp_base.specs.Block.{IsWhole};
 ghost use Rattle.vp_base.specs.Image.{macroblocks, plane_of, with_plane};
 ghost use Rattle.vp_quant.specs.Short.{IsShortFactor};
 ghost use Rattle.vp_recon.specs.Residue.{luma_residue, chroma_residue};
 ghost use Rattle.vp_recon.specs.Rebuilt.{summed};
-ghost use Rattle.vp_recon.specs.Sums.{IsAcross, LiesAt, IsWritten, IsAdded, block_sum, row_pixel, with_colours};
-ghost use Rattle.vp_recon.specs.Sums.{AreLow, AreLowRows, AreRows, HasEqualSums, IsNothing};
-ghost use Rattle.vp_recon.specs.Parts.{HasBlocks, HasResidues, HasTokens, residue_in, large_residue_in};
+ghost use Rattle.vp_recon.specs.Sums.{IsAcross, IsBlockWritten, IsAdded, IsAddedToBlock, row_pixel, with_chroma};
+ghost use Rattle.vp_recon.specs.Sums.{AreLow, AreLowRows, AreRows, HasEqualSums, IsNothing, with_sums};
+ghost use Rattle.vp_recon.specs.Parts.{HasBlocks, HasTokens, residue_in, large_residue_in};
 ghost use Rattle.std.specs.Simd.Lanes.{put_chunk};
 ghost use Rattle.vp_lanes.specs.Lane.{lane};
 
-use crate::dc_coefficients::{large_luma_dcs, own_dcs, small_chroma_dcs, small_luma_dcs};
+use crate::dc_coefficients::{eight_dcs, large_luma_dcs, own_dcs, small_luma_dcs};
 use crate::residue::{ends_in, side_by_side, y2_end};
-use crate::residue_inputs::{LargeResidues, Residues};
-use crate::segment_factors::SegmentFactors;
+use crate::residue_inputs::{LargeInputs, SmallInputs};
+use crate::segment_factors::{IDCT_MOST, SegmentFactors};
 use std::simd::prelude::*;
 use vp_base::{Picture, Place};
 use vp_quant::ShortFactor;
@@ -35,8 +33,8 @@ pub(crate) fn add_luma(
 )
     requires columns { x + 16 ≤ picture.old.luma.width }
     requires rows { y + 16 ≤ picture.old.luma.height }
-    ensures { picture.new ≡ with_plane picture.old 0 (with_block picture.old.luma x y 16 16
-        (block_sum 4 picture.old.luma x y (luma_residue y2 tokens.now factors.now))) }
+    ensures { picture.new ≡ with_plane picture.old 0
+        (with_sums 4 picture.old.luma x y (luma_residue y2 tokens.now factors.now)) }
 {
     know_plane(picture, 0);
     let ends = ends_in(tokens, 1, 16);
@@ -46,14 +44,14 @@ pub(crate) fn add_luma(
     let Some(dcs) = small_luma_dcs(y2, tokens, factors) else {
         return add_large_luma(picture, x, y, y2, tokens, factors);
     };
-    let residues = Residues {
+    let inputs = SmallInputs {
         tokens,
-        start: 1,
+        first: 1,
         dcs: &dcs,
         ac: factors.raw.y_ac,
         factor: factors.y_ac,
     };
-    add_residues::<4>(picture, 0, x, y, ends, &residues);
+    add_to_block::<4>(picture, 0, x, y, ends, &inputs);
 }
 
 /// Adds the luma residues of a macroblock as `add_luma` does, for DC coefficients of any size.
@@ -69,17 +67,17 @@ fn add_large_luma(
 )
     requires columns { x + 16 ≤ picture.old.luma.width }
     requires rows { y + 16 ≤ picture.old.luma.height }
-    ensures { picture.new ≡ with_plane picture.old 0 (with_block picture.old.luma x y 16 16
-        (block_sum 4 picture.old.luma x y (luma_residue y2 tokens.now factors.now))) }
+    ensures { picture.new ≡ with_plane picture.old 0
+        (with_sums 4 picture.old.luma x y (luma_residue y2 tokens.now factors.now)) }
 {
-    let residues = LargeResidues {
+    let inputs = LargeInputs {
         tokens,
-        start: 1,
+        first: 1,
         dcs: large_luma_dcs(y2, tokens, &factors.raw),
         ac: factors.raw.y_ac,
         factor: factors.y_ac,
     };
-    add_large::<4>(picture, 0, x, y, &residues);
+    add_large_to_block::<4>(picture, 0, x, y, &inputs);
 }
 
 /// Adds the chroma residues of the macroblock at `place` to its prediction.
@@ -91,8 +89,8 @@ pub(crate) fn add_chroma(
 )
     requires column { place.column < macroblocks picture.old.width }
     requires row { place.row < macroblocks picture.old.height }
-    ensures { picture.new ≡ with_colours picture.old (λ k p. with_block p (8 * place.column) (8 * place.row) 8 8
-        (block_sum 2 p (8 * place.column) (8 * place.row) (chroma_residue tokens.now factors.now k))) }
+    ensures { picture.new ≡ with_chroma picture.old
+        (λ k p. with_sums 2 p (8 * place.column) (8 * place.row) (chroma_residue tokens.now factors.now k)) }
 {
     let _known = picture.dim();
     know_plane(picture, 1);
@@ -101,21 +99,21 @@ pub(crate) fn add_chroma(
     if u | v == 0 {
         return;
     }
-    let Some(dcs) = small_chroma_dcs(tokens, factors) else {
+    let Some(dcs) = eight_dcs(tokens, 17, &factors.uv_dc) else {
         return add_large_chroma(picture, place, tokens, factors);
     };
-    let of_u = Residues {
+    let of_u = SmallInputs {
         tokens,
-        start: 17,
+        first: 17,
         dcs: &dcs[..4],
         ac: factors.raw.uv_ac,
         factor: factors.uv_ac,
     };
     let [x, y] = [8 * place.column, 8 * place.row];
     add_chroma_plane(picture, 1, x, y, u, &of_u);
-    let of_v = Residues {
+    let of_v = SmallInputs {
         tokens,
-        start: 21,
+        first: 21,
         dcs: &dcs[4..],
         ac: factors.raw.uv_ac,
         factor: factors.uv_ac,
@@ -124,7 +122,7 @@ pub(crate) fn add_chroma(
 }
 
 /// Adds the residues of a macroblock's chroma plane to its prediction: 1 is U, 2 is V. The block begins at column `x`
-/// of row `y`. No subblock has more than `ends` tokens.
+/// of row `y`. `ends` is the ORed ends of its blocks.
 #[inline(always)]
 fn add_chroma_plane(
     picture: &mut Picture,
@@ -132,23 +130,22 @@ fn add_chroma_plane(
     x: usize,
     y: usize,
     ends: u8,
-    residues: &Residues,
+    inputs: &SmallInputs,
 )
     requires plane { plane < 3 }
-    requires blocks { HasBlocks residues.now 4 }
-    requires few { (i : ℕ) → i < 4 → HasTokens ends residues.now i }
-    requires none { ends ≡ 0 → (i : ℕ) → i < 4 → IsNothing (residue_in residues.now i) }
+    requires blocks { HasBlocks inputs.now 4 }
+    requires few { (i : ℕ) → i < 4 → HasTokens ends inputs.now i }
+    requires none { ends ≡ 0 → (i : ℕ) → i < 4 → IsNothing (residue_in inputs.now i) }
     requires columns { x + 8 ≤ (plane_of picture.old plane).width }
     requires rows { y + 8 ≤ (plane_of picture.old plane).height }
-    ensures { (residue : ℕ → List ℤ) → HasResidues 4 (residue_in residues.now) residue
-        → picture.new ≡ with_plane picture.old plane (with_block (plane_of picture.old plane) x y 8 8
-        (block_sum 2 (plane_of picture.old plane) x y residue)) }
+    ensures { picture.new ≡ with_plane picture.old plane
+        (with_sums 2 (plane_of picture.old plane) x y (residue_in inputs.now)) }
 {
     know_plane(picture, plane);
     if ends == 0 {
         return;
     }
-    add_residues::<2>(picture, plane, x, y, ends, residues);
+    add_to_block::<2>(picture, plane, x, y, ends, inputs);
 }
 
 /// Adds the chroma residues of a macroblock as `add_chroma` does, for DC coefficients of any size.
@@ -157,267 +154,282 @@ fn add_chroma_plane(
 fn add_large_chroma(picture: &mut Picture, place: Place, tokens: &Tokens, factors: &SegmentFactors)
     requires column { place.column < macroblocks picture.old.width }
     requires row { place.row < macroblocks picture.old.height }
-    ensures { picture.new ≡ with_colours picture.old (λ k p. with_block p (8 * place.column) (8 * place.row) 8 8
-        (block_sum 2 p (8 * place.column) (8 * place.row) (chroma_residue tokens.now factors.now k))) }
+    ensures { picture.new ≡ with_chroma picture.old
+        (λ k p. with_sums 2 p (8 * place.column) (8 * place.row) (chroma_residue tokens.now factors.now k)) }
 {
     let _known = picture.dim();
     let [x, y] = [8 * place.column, 8 * place.row];
-    let ac = factors.raw.uv_ac;
-    let of_u = LargeResidues {
+    let of_u = LargeInputs {
         tokens,
-        start: 17,
+        first: 17,
         dcs: own_dcs(tokens, 17, 4, factors.raw.uv_dc),
-        ac,
+        ac: factors.raw.uv_ac,
         factor: factors.uv_ac,
     };
-    add_large::<2>(picture, 1, x, y, &of_u);
-    let of_v = LargeResidues {
+    add_large_to_block::<2>(picture, 1, x, y, &of_u);
+    let of_v = LargeInputs {
         tokens,
-        start: 21,
+        first: 21,
         dcs: own_dcs(tokens, 21, 4, factors.raw.uv_dc),
-        ac,
+        ac: factors.raw.uv_ac,
         factor: factors.uv_ac,
     };
-    add_large::<2>(picture, 2, x, y, &of_v);
+    add_large_to_block::<2>(picture, 2, x, y, &of_v);
 }
 
 /// Adds the residues of a block's subblocks, with DC coefficients of any size, to its prediction. The block begins at
 /// column `x` of row `y`, and is `ACROSS` subblocks (2 or 4) wide and high.
-fn add_large<const ACROSS: usize>(
+fn add_large_to_block<const ACROSS: usize>(
     picture: &mut Picture,
     plane: usize,
     x: usize,
     y: usize,
-    residues: &LargeResidues,
+    inputs: &LargeInputs,
 )
     requires plane { plane < 3 }
     requires across { IsAcross ACROSS }
-    requires blocks { residues.now.start + ACROSS * ACROSS ≤ 25 }
+    requires blocks { inputs.now.first + ACROSS * ACROSS ≤ 25 }
     requires columns { x + 4 * ACROSS ≤ (plane_of picture.old plane).width }
     requires rows { y + 4 * ACROSS ≤ (plane_of picture.old plane).height }
-    ensures { (residue : ℕ → List ℤ) → HasResidues (ACROSS * ACROSS) (large_residue_in residues.now) residue
-        → picture.new ≡ with_plane picture.old plane (with_block (plane_of picture.old plane) x y (4 * ACROSS)
-        (4 * ACROSS) (block_sum ACROSS (plane_of picture.old plane) x y residue)) }
+    ensures { picture.new ≡ with_plane picture.old plane
+        (with_sums ACROSS (plane_of picture.old plane) x y (large_residue_in inputs.now)) }
 {
     know_plane(picture, plane);
     let stride = picture.plane(plane).width();
     let pixels = picture.pixels_mut(plane);
-    add_large_pairs::<ACROSS>(pixels, y * stride + x, stride, residues);
+    add_large_to_strips::<ACROSS>(pixels, y * stride + x, stride, inputs);
 }
 
-/// Adds the residues of a block's subblocks, two at a time, to its pixels. The first pixel is at index `at`; rows are
-/// `stride` apart.
-fn add_large_pairs<const ACROSS: usize>(
+/// Adds the residues of a block's subblocks, with DC coefficients of any size, to its pixels. The first pixel is at
+/// index `at`; rows are `stride` apart.
+fn add_large_to_strips<const ACROSS: usize>(
     pixels: &mut [u8],
     at: usize,
     stride: usize,
-    residues: &LargeResidues,
+    inputs: &LargeInputs,
 )
     requires across { IsAcross ACROSS }
-    requires blocks { residues.now.start + ACROSS * ACROSS ≤ 25 }
+    requires blocks { inputs.now.first + ACROSS * ACROSS ≤ 25 }
     requires room { at + (4 * ACROSS - 1) * stride + 4 * ACROSS ≤ length pixels.old }
-    ensures value { (p : Raster) (x y : ℕ) (residue : ℕ → List ℤ)
-        → HasResidues (ACROSS * ACROSS) (large_residue_in residues.now) residue
-        → LiesAt p x y (4 * ACROSS) (4 * ACROSS) pixels.old at stride
-        → pixels.new ≡ written p x y (4 * ACROSS) (4 * ACROSS) (block_sum ACROSS p x y residue) }
-    ensures len { length pixels.new ≡ length pixels.old }
+    ensures { IsAddedToBlock ACROSS pixels.old pixels.new at stride (large_residue_in inputs.now) }
 {
-    for i in 0..ACROSS * ACROSS / 2 {
-        let start = at + i / (ACROSS / 2) * (4 * stride) + i % (ACROSS / 2) * 8;
-        add_any_two(pixels, start, stride, residues, 2 * i);
+    let mut strip = at;
+    for i in 0..ACROSS {
+        add_large_to_strip::<ACROSS>(pixels, strip, stride, inputs, ACROSS * i);
+        strip += 4 * stride;
+    }
+}
+
+/// Adds the residues of subblocks `k` to `k + ACROSS - 1`, with DC coefficients of any size, as `add_to_strip` does.
+fn add_large_to_strip<const ACROSS: usize>(
+    pixels: &mut [u8],
+    at: usize,
+    stride: usize,
+    inputs: &LargeInputs,
+    k: usize,
+)
+    requires across { IsAcross ACROSS }
+    requires subblocks { k + ACROSS ≤ 16 }
+    requires blocks { inputs.now.first + (k + ACROSS) ≤ 25 }
+    requires room { at + 3 * stride + 4 * ACROSS ≤ length pixels.old }
+    ensures { IsAdded (4 * ACROSS) pixels.old pixels.new at stride (λ i. large_residue_in inputs.now (k + i)) }
+{
+    for i in 0..ACROSS / 2 {
+        add_large_to_pair(pixels, at + 8 * i, stride, inputs, k + 2 * i);
     }
 }
 
 /// Adds the residues of subblocks `k` and `k + 1`, which are side by side, with DC coefficients of any size: in 16 bits
 /// if both are small. Their first pixel is at index `at`.
 #[inline(never)]
-fn add_any_two(pixels: &mut [u8], at: usize, stride: usize, residues: &LargeResidues, k: usize)
+fn add_large_to_pair(pixels: &mut [u8], at: usize, stride: usize, inputs: &LargeInputs, k: usize)
     requires subblocks { k + 2 ≤ 16 }
-    requires blocks { residues.now.start + (k + 2) ≤ 25 }
+    requires blocks { inputs.now.first + (k + 2) ≤ 25 }
     requires room { at + 3 * stride + 8 ≤ length pixels.old }
-    ensures { IsAdded 8 pixels.old pixels.new at stride (λ i. large_residue_in residues.now (k + i)) }
+    ensures { IsAdded 8 pixels.old pixels.new at stride (λ i. large_residue_in inputs.now (k + i)) }
 {
-    let left = residues.dcs[k];
-    let right = residues.dcs[k + 1];
-    if left.unsigned_abs() > 2200 || right.unsigned_abs() > 2200 {
-        return add_beside(
+    let left = inputs.dcs[k];
+    let right = inputs.dcs[k + 1];
+    if left.unsigned_abs() > IDCT_MOST || right.unsigned_abs() > IDCT_MOST {
+        return add_numbers_to_pair(
             pixels,
             at,
             stride,
-            residues.clamped_residue(k),
-            residues.clamped_residue(k + 1),
+            inputs.clamped_residue(k),
+            inputs.clamped_residue(k + 1),
         );
     }
-    let two = Residues {
-        tokens: residues.tokens,
-        start: residues.start + k,
+    let two = SmallInputs {
+        tokens: inputs.tokens,
+        first: inputs.first + k,
         dcs: &[left as i16, right as i16],
-        ac: residues.ac,
-        factor: residues.factor,
+        ac: inputs.ac,
+        factor: inputs.factor,
     };
-    add_two(pixels, at, stride, &two, 0, &residues.factor);
+    add_to_pair(pixels, at, stride, &two, 0, &inputs.factor);
 }
 
 /// Adds the residues of a block's subblocks to its prediction. The block begins at column `x` of row `y`, and is
-/// `ACROSS` subblocks (2 or 4) wide and high. No block has more than `ends` tokens.
+/// `ACROSS` subblocks (2 or 4) wide and high. `ends` is the ORed ends of its blocks.
 #[inline(always)]
-fn add_residues<const ACROSS: usize>(
+fn add_to_block<const ACROSS: usize>(
     picture: &mut Picture,
     plane: usize,
     x: usize,
     y: usize,
     ends: u8,
-    residues: &Residues,
+    inputs: &SmallInputs,
 )
     requires plane { plane < 3 }
     requires across { IsAcross ACROSS }
-    requires blocks { HasBlocks residues.now (ACROSS * ACROSS) }
-    requires few { (i : ℕ) → i < ACROSS * ACROSS → HasTokens ends residues.now i }
+    requires blocks { HasBlocks inputs.now (ACROSS * ACROSS) }
+    requires few { (i : ℕ) → i < ACROSS * ACROSS → HasTokens ends inputs.now i }
     requires columns { x + 4 * ACROSS ≤ (plane_of picture.old plane).width }
     requires rows { y + 4 * ACROSS ≤ (plane_of picture.old plane).height }
-    ensures { (residue : ℕ → List ℤ) → HasResidues (ACROSS * ACROSS) (residue_in residues.now) residue
-        → picture.new ≡ with_plane picture.old plane (with_block (plane_of picture.old plane) x y (4 * ACROSS)
-        (4 * ACROSS) (block_sum ACROSS (plane_of picture.old plane) x y residue)) }
+    ensures { picture.new ≡ with_plane picture.old plane
+        (with_sums ACROSS (plane_of picture.old plane) x y (residue_in inputs.now)) }
 {
     know_plane(picture, plane);
     let stride = picture.plane(plane).width();
     let at = y * stride + x;
     let pixels = picture.pixels_mut(plane);
     if ends <= 1 {
-        add_strips::<ACROSS, true>(pixels, at, stride, residues);
+        add_to_strips::<ACROSS, true>(pixels, at, stride, inputs);
     } else {
-        add_strips::<ACROSS, false>(pixels, at, stride, residues);
+        add_to_strips::<ACROSS, false>(pixels, at, stride, inputs);
     }
 }
 
 /// Adds the residues of a block's subblocks to its pixels. The first pixel is at index `at`; rows are `stride` apart.
 /// `DC_ONLY` says that all subblocks have DC coefficients only.
 #[inline(never)]
-fn add_strips<const ACROSS: usize, const DC_ONLY: bool>(
+fn add_to_strips<const ACROSS: usize, const DC_ONLY: bool>(
     pixels: &mut [u8],
     at: usize,
     stride: usize,
-    residues: &Residues,
+    inputs: &SmallInputs,
 )
     requires across { IsAcross ACROSS }
-    requires blocks { HasBlocks residues.now (ACROSS * ACROSS) }
-    requires dc_only { DC_ONLY ≡ true → (i : ℕ) → i < ACROSS * ACROSS → HasTokens 1 residues.now i }
+    requires blocks { HasBlocks inputs.now (ACROSS * ACROSS) }
+    requires dc_only { DC_ONLY ≡ true → (i : ℕ) → i < ACROSS * ACROSS → HasTokens 1 inputs.now i }
     requires room { at + (4 * ACROSS - 1) * stride + 4 * ACROSS ≤ length pixels.old }
-    ensures value { (p : Raster) (x y : ℕ) (residue : ℕ → List ℤ)
-        → HasResidues (ACROSS * ACROSS) (residue_in residues.now) residue
-        → LiesAt p x y (4 * ACROSS) (4 * ACROSS) pixels.old at stride
-        → pixels.new ≡ written p x y (4 * ACROSS) (4 * ACROSS) (block_sum ACROSS p x y residue) }
-    ensures len { length pixels.new ≡ length pixels.old }
+    ensures { IsAddedToBlock ACROSS pixels.old pixels.new at stride (residue_in inputs.now) }
 {
-    let mut start = at;
+    let mut strip = at;
     // A copy, which stays in a register.
-    let factor = residues.factor;
+    let factor = inputs.factor;
     for i in 0..ACROSS {
         if DC_ONLY {
-            add_dc_only::<ACROSS>(pixels, start, stride, residues, ACROSS * i);
+            add_dcs_to_strip::<ACROSS>(pixels, strip, stride, inputs, ACROSS * i);
         } else {
-            add_strip::<ACROSS>(pixels, start, stride, residues, ACROSS * i, &factor);
+            add_to_strip::<ACROSS>(pixels, strip, stride, inputs, ACROSS * i, &factor);
         }
-        start += 4 * stride;
+        strip += 4 * stride;
     }
 }
 
 /// Adds the residues of subblocks `k` to `k + ACROSS - 1`, which are side by side and have DC coefficients only. Their
 /// first pixel is at index `at`.
 #[inline(always)]
-fn add_dc_only<const ACROSS: usize>(
+fn add_dcs_to_strip<const ACROSS: usize>(
     pixels: &mut [u8],
     at: usize,
     stride: usize,
-    residues: &Residues,
+    inputs: &SmallInputs,
     k: usize,
 )
     requires across { IsAcross ACROSS }
-    requires subblocks { HasBlocks residues.now (k + ACROSS) }
-    requires dc_only { (i : ℕ) → i < ACROSS → HasTokens 1 residues.now (k + i) }
+    requires subblocks { HasBlocks inputs.now (k + ACROSS) }
+    requires dc_only { (i : ℕ) → i < ACROSS → HasTokens 1 inputs.now (k + i) }
     requires room { at + 3 * stride + 4 * ACROSS ≤ length pixels.old }
-    ensures { IsAdded (4 * ACROSS) pixels.old pixels.new at stride (λ i. residue_in residues.now (k + i)) }
+    ensures { IsAdded (4 * ACROSS) pixels.old pixels.new at stride (λ i. residue_in inputs.now (k + i)) }
 {
     if ACROSS == 4 {
-        let row = residues.dc_row_of_four(k);
-        add_rows::<16>(pixels, at, stride, row, row, row, row);
+        let row = inputs.dc_row_of_four(k);
+        add_numbers_to_rows::<16>(pixels, at, stride, row, row, row, row);
     } else {
-        let row = residues.dc_row_of_two(k);
-        add_rows::<8>(pixels, at, stride, row, row, row, row);
+        let row = inputs.dc_row_of_two(k);
+        add_numbers_to_rows::<8>(pixels, at, stride, row, row, row, row);
     }
 }
 
 /// Adds the residues of subblocks `k` to `k + ACROSS - 1`, which are side by side. Their first pixel is at index `at`.
 /// `factor` is the AC factor, made ready.
 #[inline(always)]
-fn add_strip<const ACROSS: usize>(
+fn add_to_strip<const ACROSS: usize>(
     pixels: &mut [u8],
     at: usize,
     stride: usize,
-    residues: &Residues,
+    inputs: &SmallInputs,
     k: usize,
     factor: &ShortFactor,
 )
     requires across { IsAcross ACROSS }
-    requires subblocks { HasBlocks residues.now (k + ACROSS) }
-    requires factor { IsShortFactor factor.now residues.now.ac 2200 }
+    requires subblocks { HasBlocks inputs.now (k + ACROSS) }
+    requires factor { IsShortFactor factor.now inputs.now.ac 2200 }
     requires room { at + 3 * stride + 4 * ACROSS ≤ length pixels.old }
-    ensures { IsAdded (4 * ACROSS) pixels.old pixels.new at stride (λ i. residue_in residues.now (k + i)) }
+    ensures { IsAdded (4 * ACROSS) pixels.old pixels.new at stride (λ i. residue_in inputs.now (k + i)) }
 {
     for i in 0..ACROSS / 2 {
-        add_two(pixels, at + 8 * i, stride, residues, k + 2 * i, factor);
+        add_to_pair(pixels, at + 8 * i, stride, inputs, k + 2 * i, factor);
     }
 }
 
 /// Adds the residues of subblocks `k` and `k + 1`, which are side by side. Their first pixel is at index `at`. `factor`
 /// is the AC factor, made ready.
 #[inline(always)]
-fn add_two(
+fn add_to_pair(
     pixels: &mut [u8],
     at: usize,
     stride: usize,
-    residues: &Residues,
+    inputs: &SmallInputs,
     k: usize,
     factor: &ShortFactor,
 )
-    requires subblocks { HasBlocks residues.now (k + 2) }
-    requires factor { IsShortFactor factor.now residues.now.ac 2200 }
+    requires subblocks { HasBlocks inputs.now (k + 2) }
+    requires factor { IsShortFactor factor.now inputs.now.ac 2200 }
     requires room { at + 3 * stride + 8 ≤ length pixels.old }
-    ensures { IsAdded 8 pixels.old pixels.new at stride (λ i. residue_in residues.now (k + i)) }
+    ensures { IsAdded 8 pixels.old pixels.new at stride (λ i. residue_in inputs.now (k + i)) }
 {
-    if ends_in(residues.tokens, residues.start + k, 2) <= 1 {
-        if residues.dcs[k] == 0 && residues.dcs[k + 1] == 0 {
+    if ends_in(inputs.tokens, inputs.first + k, 2) <= 1 {
+        if inputs.dcs[k] == 0 && inputs.dcs[k + 1] == 0 {
             return;
         }
-        return add_dc_only::<2>(pixels, at, stride, residues, k);
+        return add_dcs_to_strip::<2>(pixels, at, stride, inputs, k);
     }
-    let Some(rows) = residues.idct_of_two(k, factor) else {
-        return add_large_two(pixels, at, stride, residues, k);
+    let Some(rows) = inputs.idct_of_two(k, factor) else {
+        return add_clamped_to_pair(pixels, at, stride, inputs, k);
     };
     let (a, b, c, d) = rows;
-    add_rows::<8>(pixels, at, stride, a, b, c, d);
+    add_numbers_to_rows::<8>(pixels, at, stride, a, b, c, d);
 }
 
 /// Adds the residues of subblocks `k` and `k + 1`, which are side by side, with AC coefficients of any size. Their
 /// first pixel is at index `at`.
 #[cold]
 #[inline(never)]
-fn add_large_two(pixels: &mut [u8], at: usize, stride: usize, residues: &Residues, k: usize)
-    requires subblocks { HasBlocks residues.now (k + 2) }
+fn add_clamped_to_pair(pixels: &mut [u8], at: usize, stride: usize, inputs: &SmallInputs, k: usize)
+    requires subblocks { HasBlocks inputs.now (k + 2) }
     requires room { at + 3 * stride + 8 ≤ length pixels.old }
-    ensures { IsAdded 8 pixels.old pixels.new at stride (λ i. residue_in residues.now (k + i)) }
+    ensures { IsAdded 8 pixels.old pixels.new at stride (λ i. residue_in inputs.now (k + i)) }
 {
-    add_beside(
+    add_numbers_to_pair(
         pixels,
         at,
         stride,
-        residues.clamped_residue(k),
-        residues.clamped_residue(k + 1),
+        inputs.clamped_residue(k),
+        inputs.clamped_residue(k + 1),
     );
 }
 
 /// Adds the numbers of two subblocks, which are side by side, to their pixels. The first pixel is at index `at`.
-fn add_beside(pixels: &mut [u8], at: usize, stride: usize, left: [i16; 16], right: [i16; 16])
+fn add_numbers_to_pair(
+    pixels: &mut [u8],
+    at: usize,
+    stride: usize,
+    left: [i16; 16],
+    right: [i16; 16],
+)
     requires room { at + 3 * stride + 8 ≤ length pixels.old }
     requires left { AreLow 16 left }
     requires right { AreLow 16 right }
@@ -425,13 +437,13 @@ fn add_beside(pixels: &mut [u8], at: usize, stride: usize, left: [i16; 16], righ
         → IsAdded 8 pixels.old pixels.new at stride own }
 {
     let (a, b, c, d) = side_by_side(left, right);
-    add_rows::<8>(pixels, at, stride, a, b, c, d);
+    add_numbers_to_rows::<8>(pixels, at, stride, a, b, c, d);
 }
 
 /// Adds the numbers of `a`, `b`, `c` and `d` to four rows of `N` pixels, the first from index `at` on; rows are
 /// `stride` apart.
 #[inline(always)]
-fn add_rows<const N: usize>(
+fn add_numbers_to_rows<const N: usize>(
     pixels: &mut [u8],
     at: usize,
     stride: usize,
@@ -449,16 +461,16 @@ fn add_rows<const N: usize>(
     let second = at + stride;
     let third = second + stride;
     let fourth = third + stride;
-    let a = added_row::<N>(pixels, at, a);
-    let b = added_row::<N>(pixels, second, b);
-    let c = added_row::<N>(pixels, third, c);
-    let d = added_row::<N>(pixels, fourth, d);
+    let a = summed_row::<N>(pixels, at, a);
+    let b = summed_row::<N>(pixels, second, b);
+    let c = summed_row::<N>(pixels, third, c);
+    let d = summed_row::<N>(pixels, fourth, d);
     put_rows::<N>(pixels, at, stride, a, b, c, d);
 }
 
 /// Returns the `N` pixels from index `at` on, with numbers added, clamped to a byte.
 #[inline(always)]
-fn added_row<const N: usize>(pixels: &[u8], at: usize, numbers: Simd<i16, N>) -> Simd<u8, N>
+fn summed_row<const N: usize>(pixels: &[u8], at: usize, numbers: Simd<i16, N>) -> Simd<u8, N>
     requires few { N ≤ 16 }
     requires room { at + N ≤ length pixels.now }
     requires low { AreLow N numbers }
@@ -466,7 +478,7 @@ fn added_row<const N: usize>(pixels: &[u8], at: usize, numbers: Simd<i16, N>) ->
         ≡ summed (slice_index pixels.now (at + j)) (lane numbers.entry j) }
     ensures bytes { (j : ℕ) → j < N → slice_index pixels.now (at + j) ≤ 255 }
 {
-    added::<N>(load::<N>(pixels, at), numbers)
+    summed::<N>(load::<N>(pixels, at), numbers)
 }
 
 /// Loads `N` pixels from index `at` on.
@@ -479,7 +491,7 @@ fn load<const N: usize>(pixels: &[u8], at: usize) -> Simd<u8, N>
 }
 
 /// Adds numbers to `N` pixels, and clamps the sums to a byte.
-pub(crate) fn added<const N: usize>(pixels: Simd<u8, N>, numbers: Simd<i16, N>) -> Simd<u8, N>
+pub(crate) fn summed<const N: usize>(pixels: Simd<u8, N>, numbers: Simd<i16, N>) -> Simd<u8, N>
     requires few { N ≤ 16 }
     requires low { AreLow N numbers }
     ensures { (j : ℕ) → j < N → slice_index result j ≡ summed (slice_index pixels.entry j) (lane numbers.entry j) }
@@ -502,7 +514,7 @@ fn put_rows<const N: usize>(
 )
     requires few { N ≤ 16 }
     requires room { at + 3 * stride + N ≤ length pixels.old }
-    ensures { IsWritten N pixels.old pixels.new at stride (λ _ _ _. row_pixel a.entry b.entry c.entry d.entry) }
+    ensures { IsBlockWritten N 4 pixels.old pixels.new at stride (λ _ _ _. row_pixel a.entry b.entry c.entry d.entry) }
 {
     let second = at + stride;
     let third = second + stride;
@@ -521,33 +533,6 @@ fn put<const N: usize>(pixels: &mut [u8], at: usize, row: Simd<u8, N>)
     ensures long { length row.entry ≡ N }
 {
     row.copy_to_slice(&mut pixels[at..]);
-}
-
-/// Stores the luma subblock that begins at column `x` of row `y`; `pixels` are in raster order.
-pub(crate) fn store_subblock(picture: &mut Picture, x: usize, y: usize, pixels: u8x16)
-    requires columns { x + 4 ≤ picture.old.luma.width }
-    requires rows { y + 4 ≤ picture.old.luma.height }
-    ensures { (f : ℕ → ℕ → ℕ) → ((r c : ℕ) → r < 4 → c < 4 → slice_index pixels (r * 4 + c) ≡ f r c)
-        → picture.new ≡ with_plane picture.old 0 (with_block picture.old.luma x y 4 4 f) }
-{
-    let _known = picture.plane(0).height();
-    let stride = picture.plane(0).width();
-    let at = y * stride + x;
-    let [a, b, c, d] = rows_of(pixels);
-    put_rows::<4>(picture.pixels_mut(0), at, stride, a, b, c, d);
-}
-
-/// Splits a subblock, in raster order, into its four rows.
-fn rows_of(pixels: u8x16) -> [u8x4; 4]
-    ensures { (i : ℕ) → i < 4 → (j : ℕ) → j < 4 → slice_index (slice_index_or result i []) j
-        ≡ slice_index pixels (i * 4 + j) }
-{
-    [
-        pixels.extract::<0, 4>(),
-        pixels.extract::<4, 4>(),
-        pixels.extract::<8, 4>(),
-        pixels.extract::<12, 4>(),
-    ]
 }
 
 /// States that pixels are bytes, for proofs: it does nothing.

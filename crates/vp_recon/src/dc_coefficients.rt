@@ -1,6 +1,7 @@
 //! The DC coefficients of a plane's subblocks (RFC 6386, chapters 14.1 and 14.3).
 
-ghost use Rattle.std.specs.Prelude.{replicate, ◌≡◌, ℕ, ◌+◌, ◌<◌, ◌≤◌, ◌^◌, ℤ, pos, List, Some, true, unsigned_abs, slice_index_or};
+ghost use Rattle.std.specs.Prelude.{◌≡◌, ℕ, ◌+◌, ◌<◌, ◌≤◌, ◌^◌, ℤ, pos, unsigned_abs};
+ghost use Rattle.std.specs.Prelude.{Some, true, List, replicate, slice_index_or};
 ghost use Rattle.vp_lanes.specs.Lane.{lane};
 ghost use Rattle.vp_tokens.specs.Blocks.{block_of};
 ghost use Rattle.vp_transform.specs.Fits.{EachWithin};
@@ -9,7 +10,7 @@ ghost use Rattle.vp_quant.specs.Short.{IsShortFactor};
 ghost use Rattle.vp_recon.specs.Parts.{AreDcs, AreSmall, luma_dc, own_dc};
 
 use crate::residue::{block_of, scaled_dc};
-use crate::segment_factors::SegmentFactors;
+use crate::segment_factors::{IDCT_MOST, IWHT_MOST, SegmentFactors};
 use std::simd::prelude::*;
 use vp_quant::{Factors, ShortFactor, dequant};
 use vp_tokens::Tokens;
@@ -46,14 +47,14 @@ fn dcs_from_y2(tokens: &Tokens, factors: &SegmentFactors) -> Option<[i16; 16]>
     if block.end <= 1 {
         return sixteen_times(iwht_of_dc(dc));
     }
-    if dc.unsigned_abs() > 8191 {
+    if dc.unsigned_abs() > IWHT_MOST {
         return None;
     }
     let Some(coefficients) = factors.y2_ac.coefficients(block.levels, dc as i16) else {
         return None;
     };
     let dcs = iwht_short(&coefficients);
-    if greatest(&dcs) <= 2200 {
+    if u64::from(greatest(&dcs)) <= IDCT_MOST {
         Some(dcs)
     } else {
         None
@@ -66,7 +67,7 @@ fn sixteen_times(dc: i64) -> Option<[i16; 16]>
     ensures value { (dcs : List ℤ) → result ≡ Some dcs → dcs ≡ replicate 16 dc }
     ensures small { (dcs : List ℤ) → result ≡ Some dcs → AreSmall 16 dcs }
 {
-    if dc.unsigned_abs() <= 2200 {
+    if dc.unsigned_abs() <= IDCT_MOST {
         Some([dc as i16; 16])
     } else {
         None
@@ -114,51 +115,41 @@ fn joined(upper: i16x8, lower: i16x8) -> [i16; 16]
         .to_array()
 }
 
-/// Returns the DC coefficients of U, then those of V, if they are small.
+/// Returns the DC coefficients of eight blocks, from block `first` on, from their own levels, if they are small.
 #[inline(always)]
-pub(crate) fn small_chroma_dcs(tokens: &Tokens, factors: &SegmentFactors) -> Option<[i16; 8]>
-    ensures value { (dcs : List ℤ) → result ≡ Some dcs
-        → AreDcs 8 dcs (own_dc tokens.now 17 factors.now.uv_dc) }
-    ensures small { (dcs : List ℤ) → result ≡ Some dcs → AreSmall 8 dcs }
-{
-    eight_dcs(tokens, 17, &factors.uv_dc)
-}
-
-/// Returns the DC coefficients of eight blocks, from block `start` on, from their own levels, if they are small.
-#[inline(always)]
-fn eight_dcs(tokens: &Tokens, start: usize, factor: &ShortFactor) -> Option<[i16; 8]>
-    requires { start + 8 ≤ 25 }
+pub(crate) fn eight_dcs(tokens: &Tokens, first: usize, factor: &ShortFactor) -> Option<[i16; 8]>
+    requires { first + 8 ≤ 25 }
     ensures value { (dcs : List ℤ) (dc : ℕ) → result ≡ Some dcs → IsShortFactor factor.now dc 2200
-        → AreDcs 8 dcs (own_dc tokens.now start dc) }
+        → AreDcs 8 dcs (own_dc tokens.now first dc) }
     ensures small { (dcs : List ℤ) (dc : ℕ) → result ≡ Some dcs → IsShortFactor factor.now dc 2200
         → AreSmall 8 dcs }
 {
-    factor.products(first_levels(tokens, start))
+    factor.products(dc_levels(tokens, first))
 }
 
-/// Returns the first levels of eight blocks, from block `start` on.
+/// Returns the DC levels of eight blocks, from block `first` on.
 #[inline(always)]
-fn first_levels(tokens: &Tokens, start: usize) -> i16x8
-    requires { start + 8 ≤ 25 }
+fn dc_levels(tokens: &Tokens, first: usize) -> i16x8
+    requires { first + 8 ≤ 25 }
     ensures value { (k : ℕ) → k < 8 → lane result k
-        ≡ slice_index_or (block_of tokens.now (start + k)).levels 0 (pos 0) }
+        ≡ slice_index_or (block_of tokens.now (first + k)).levels 0 (pos 0) }
     ensures small { (k : ℕ) → k < 8 → unsigned_abs (lane result k) ≤ 2114 }
 {
     i16x8::from_array([
-        first_level(tokens, start),
-        first_level(tokens, start + 1),
-        first_level(tokens, start + 2),
-        first_level(tokens, start + 3),
-        first_level(tokens, start + 4),
-        first_level(tokens, start + 5),
-        first_level(tokens, start + 6),
-        first_level(tokens, start + 7),
+        dc_level(tokens, first),
+        dc_level(tokens, first + 1),
+        dc_level(tokens, first + 2),
+        dc_level(tokens, first + 3),
+        dc_level(tokens, first + 4),
+        dc_level(tokens, first + 5),
+        dc_level(tokens, first + 6),
+        dc_level(tokens, first + 7),
     ])
 }
 
-/// Returns the first level of block `n`.
+/// Returns the DC level of block `n`.
 #[inline(always)]
-fn first_level(tokens: &Tokens, n: usize) -> i16
+fn dc_level(tokens: &Tokens, n: usize) -> i16
     requires { n < 25 }
     ensures value { result ≡ slice_index_or (block_of tokens.now n).levels 0 (pos 0) }
     ensures small { unsigned_abs result ≤ 2114 }
@@ -187,16 +178,16 @@ fn luma_dcs(tokens: &Tokens, factors: &Factors) -> [i64; 16]
     iwht(&dequant(levels, factors.y2_dc, factors.y2_ac))
 }
 
-/// Returns the DC coefficients, of any size, of the `count` blocks from block `start` on, from their own levels.
-pub(crate) fn own_dcs(tokens: &Tokens, start: usize, count: usize, dc: u16) -> [i64; 16]
-    requires blocks { start + count ≤ 25 }
+/// Returns the DC coefficients, of any size, of the `count` blocks from block `first` on, from their own levels.
+pub(crate) fn own_dcs(tokens: &Tokens, first: usize, count: usize, dc: u16) -> [i64; 16]
+    requires blocks { first + count ≤ 25 }
     requires few { count ≤ 16 }
-    ensures value { AreDcs count result (own_dc tokens.now start dc) }
+    ensures value { AreDcs count result (own_dc tokens.now first dc) }
     ensures within { EachWithin (2 ^ 40) result }
 {
     let mut dcs = [0; 16];
     for k in 0..count {
-        dcs[k] = scaled_dc(&block_of(tokens, start + k).levels, dc);
+        dcs[k] = scaled_dc(&block_of(tokens, first + k).levels, dc);
     }
     dcs
 }

@@ -4,12 +4,12 @@
 ghost use Rattle.std.specs.Prelude.{◌≡◌, ◌+◌, ◌*◌, ◌<◌, ◌≤◌, pos, not, slice_index, slice_index_or};
 ghost use Rattle.vp_base.specs.Block.{with_block};
 ghost use Rattle.vp_base.specs.Image.{macroblocks, plane_of, with_plane};
-ghost use Rattle.vp_recon.specs.Predictor.{Predictor, macroblock_of, has_sub_modes, has_y2};
+ghost use Rattle.vp_recon.specs.Predictor.{Predictor, macroblock_of, predicts_by_subblocks, has_y2};
 ghost use Rattle.vp_recon.specs.Rebuilt.{rebuilt, summed, residue_at};
 ghost use Rattle.vp_recon.specs.Residue.{residue, chroma_residue};
 ghost use Rattle.vp_recon.specs.Given.{IsGiven};
 
-use crate::add::{add_chroma, add_luma, store_subblock};
+use crate::add::{add_chroma, add_luma};
 use crate::residue::with_residue;
 use crate::segment_factors::SegmentFactors;
 use std::simd::prelude::*;
@@ -40,9 +40,9 @@ pub fn rebuild_from(
 )
     requires column { place.column < macroblocks picture.old.width }
     requires row { place.row < macroblocks picture.old.height }
-    ensures { (source : Predictor) → has_sub_modes source ≡ by_subblocks → has_y2 source ≡ not by_subblocks
-        → IsGiven (macroblock_of source tokens.now factors.now) place picture.old prediction.now
-        → picture.new ≡ rebuilt (macroblock_of source tokens.now factors.now) place picture.old }
+    ensures { (predictor : Predictor) → predicts_by_subblocks predictor ≡ by_subblocks → has_y2 predictor ≡ not by_subblocks
+        → IsGiven (macroblock_of predictor tokens.now factors.now) place picture.old prediction.now
+        → picture.new ≡ rebuilt (macroblock_of predictor tokens.now factors.now) place picture.old }
 {
     let _known = picture.dim();
     let [x, y] = [8 * place.column, 8 * place.row];
@@ -74,5 +74,5 @@ pub fn rebuild_subblock_from(
     let _known = [picture.plane(0).width(), picture.plane(0).height()];
     let prediction = u8x16::from_array(*prediction);
     let pixels = with_residue(prediction, levels, factors);
-    store_subblock(picture, 4 * block.column, 4 * block.row, pixels);
+    picture.write_block::<4>(0, 4 * block.column, 4 * block.row, &pixels.to_array());
 }

@@ -16,6 +16,7 @@ ghost use Rattle.vp_recon.specs.Laws.{HasOneSolution, ReadsOneRowAbove, ReadsNoR
 
 /// Each pixel of a rebuilt picture is the sum of its residue and its prediction, from that picture or a reference frame
 /// (RFC 6386, chapters 5, 12, 14.5 and 18). Rebuilding keeps the picture's size.
+#[tactic(auto, using(crate::proofs::Solves::solves, crate::proofs::Solves::still_aligned))]
 pub fn unfiltered_picture_solves_its_equation()
     ensures solves { (f : Place → Macroblock) (p : Image) → IsAligned p → IsUnfiltered f (all_rebuilt f p) }
     ensures size { (f : Place → Macroblock) (p : Image) → AreOneSize (all_rebuilt f p) p }

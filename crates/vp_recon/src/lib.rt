@@ -18,8 +18,7 @@ pub use laws::{
     rebuilding_reads_one_row_above, unfiltered_equation_has_one_solution,
     unfiltered_picture_solves_its_equation,
 };
-pub use macroblock::{
-    predict_macroblock, rebuild_macroblock, rebuild_macroblock_by, rebuild_subblock,
-};
+pub use macroblock::{rebuild_macroblock, rebuild_macroblock_by, rebuild_subblock};
+pub use predict::predict_macroblock;
 pub use predictor::{Predictor, has_y2};
 pub use segment_factors::SegmentFactors;

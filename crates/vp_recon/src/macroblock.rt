@@ -5,12 +5,12 @@ ghost use Rattle.vp_base.specs.Image.{with_plane, macroblocks};
 ghost use Rattle.vp_tokens.specs.declared.contexts.Tokens.{Tokens};
 ghost use Rattle.vp_tokens.specs.Blocks.{no_blocks};
 ghost use Rattle.vp_quant.specs.declared.factors.Factors.{Factors};
-ghost use Rattle.vp_recon.specs.Predictor.{macroblock_of, predictor_of, has_sub_modes, Intra};
+ghost use Rattle.vp_recon.specs.Predictor.{macroblock_of, predictor_of, predicts_by_subblocks, Intra};
 ghost use Rattle.vp_recon.specs.Rebuilt.{luma_rebuilt, rebuilt, with_sub};
 ghost use Rattle.vp_tables.specs.Modes.{is_by_subblocks};
 ghost use Rattle.vp_recon.specs.Residue.{residue};
 
-use crate::add::{add_chroma, add_luma, know_bytes, store_subblock};
+use crate::add::{add_chroma, add_luma};
 use crate::predict::{predict_chroma, predict_luma};
 use crate::predictor::Predictor;
 use crate::residue::{block_of, with_residue};
@@ -27,15 +27,17 @@ use vp_tokens::{Block, Tokens};
 pub fn rebuild_macroblock(
     picture: &mut Picture,
     place: Place,
-    source: &Predictor,
+    predictor: &Predictor,
     tokens: &Tokens,
     factors: &Factors,
 )
     requires column { place.column < macroblocks picture.old.width }
     requires row { place.row < macroblocks picture.old.height }
-    ensures { picture.new ≡ rebuilt (macroblock_of (predictor_of source.now) tokens.now factors.now) place picture.old }
+    ensures { picture.new
+        ≡ rebuilt (macroblock_of (predictor_of predictor.now) tokens.now factors.now) place picture.old }
 {
-    rebuild_macroblock_by(picture, place, source, tokens, &SegmentFactors::of(factors));
+    let factors = SegmentFactors::of(factors);
+    rebuild_macroblock_by(picture, place, predictor, tokens, &factors);
 }
 
 /// Rebuilds the macroblock at `place` as `rebuild_macroblock` does, by the factors of its segment. Luma is rebuilt
@@ -45,44 +47,28 @@ pub fn rebuild_macroblock(
 pub fn rebuild_macroblock_by(
     picture: &mut Picture,
     place: Place,
-    source: &Predictor,
+    predictor: &Predictor,
     tokens: &Tokens,
     factors: &SegmentFactors,
 )
     requires column { place.column < macroblocks picture.old.width }
     requires row { place.row < macroblocks picture.old.height }
-    ensures { picture.new ≡ rebuilt (macroblock_of (predictor_of source.now) tokens.now factors.now) place picture.old }
+    ensures { picture.new
+        ≡ rebuilt (macroblock_of (predictor_of predictor.now) tokens.now factors.now) place picture.old }
 {
     let _known = picture.dim();
-    predict_chroma(picture, place, source);
+    predict_chroma(picture, place, predictor);
     add_chroma(picture, place, tokens, factors);
-    match source {
+    match predictor {
         Predictor::Intra(modes) if modes.luma.is_by_subblocks() => {
             rebuild_subs(picture, place, modes, tokens, factors);
         }
         _ => {
-            predict_luma(picture, place, source);
+            predict_luma(picture, place, predictor);
             let [x, y] = [16 * place.column, 16 * place.row];
-            add_luma(picture, x, y, source.has_y2(), tokens, factors);
+            add_luma(picture, x, y, predictor.has_y2(), tokens, factors);
         }
     }
-}
-
-/// Rebuilds the macroblock at `place`, which has no tokens and no intra modes of subblocks, so that its pixels are
-/// those of its prediction (RFC 6386, chapters 12 and 18).
-pub fn predict_macroblock(picture: &mut Picture, place: Place, source: &Predictor)
-    requires column { place.column < macroblocks picture.old.width }
-    requires row { place.row < macroblocks picture.old.height }
-    requires whole { has_sub_modes (predictor_of source.now) ≡ false }
-    ensures { (tokens : Tokens) (factors : Factors) → tokens.blocks ≡ no_blocks
-        → picture.new ≡ rebuilt (macroblock_of (predictor_of source.now) tokens factors) place picture.old }
-{
-    let _known = picture.dim();
-    predict_luma(picture, place, source);
-    know_bytes(picture.plane(0).pixels());
-    predict_chroma(picture, place, source);
-    know_bytes(picture.plane(1).pixels());
-    know_bytes(picture.plane(2).pixels());
 }
 
 /// Rebuilds the luma of a B_PRED macroblock: its subblocks have modes of their own.
@@ -148,5 +134,5 @@ fn rebuild_sub(
     let prediction = predict_sub(picture.plane(0), x, y, mode);
     let prediction = u8x16::from_array(prediction);
     let pixels = with_residue(prediction, levels, factors);
-    store_subblock(picture, x, y, pixels);
+    picture.write_block::<4>(0, x, y, &pixels.to_array());
 }

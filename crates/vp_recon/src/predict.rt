@@ -3,52 +3,80 @@
 ghost use Rattle.std.specs.Prelude.{◌≡◌, ◌+◌, ◌*◌, ◌<◌, ◌≤◌, length, false, true};
 ghost use Rattle.vp_base.specs.Block.{with_block};
 ghost use Rattle.vp_base.specs.Image.{macroblocks, plane_of, with_plane};
-ghost use Rattle.vp_tables.specs.Modes.{is_split, is_by_subblocks};
+ghost use Rattle.vp_tables.specs.Modes.{is_split};
 ghost use Rattle.vp_inter.specs.Vectors.{chroma_vector};
-ghost use Rattle.vp_recon.specs.Predictor.{Inter, Intra, predictor_of, has_sub_modes};
-ghost use Rattle.vp_recon.specs.Prediction.{moved_pixel, luma_moved, chroma_moved};
-ghost use Rattle.vp_recon.specs.Prediction.{luma_predicted, chroma_predicted};
-ghost use Rattle.vp_recon.specs.Sums.{AreVectors, vector_at, sub_of_quarter, with_colours};
+ghost use Rattle.vp_tokens.specs.declared.contexts.Tokens.{Tokens};
+ghost use Rattle.vp_tokens.specs.Blocks.{no_blocks};
+ghost use Rattle.vp_quant.specs.declared.factors.Factors.{Factors};
+ghost use Rattle.vp_recon.specs.Predictor.{Inter, macroblock_of, predictor_of, predicts_by_subblocks};
+ghost use Rattle.vp_recon.specs.Rebuilt.{rebuilt};
+ghost use Rattle.vp_recon.specs.Prediction.{moved_pixel, luma_moved, chroma_moved, luma_predicted, chroma_predicted};
+ghost use Rattle.vp_recon.specs.Sums.{AreVectors, vector_at, sub_of_quarter, with_chroma};
 
+use crate::add::know_bytes;
 use crate::predictor::Predictor;
 use vp_base::{Picture, Place, Plane};
-use vp_inter::{
-    PlaneVector, chroma_vector, luma_vector, predict_into_chroma, predict_into4, predict_into8,
-    predict_into16,
-};
+use vp_inter::{PlaneVector, chroma_vector, luma_vector, predict_into, predict_into_chroma};
 use vp_intra::{predict_chroma_into, predict_luma_into};
-use vp_modes::Modes;
 use vp_motion::MacroblockMotion;
+
+/// Rebuilds the macroblock at `place`, which has no tokens and no intra modes of subblocks, so that its pixels are
+/// those of its prediction (RFC 6386, chapters 12 and 18).
+pub fn predict_macroblock(picture: &mut Picture, place: Place, predictor: &Predictor)
+    requires column { place.column < macroblocks picture.old.width }
+    requires row { place.row < macroblocks picture.old.height }
+    requires whole { predicts_by_subblocks (predictor_of predictor.now) ≡ false }
+    ensures { (tokens : Tokens) (factors : Factors) → tokens.blocks ≡ no_blocks
+        → picture.new ≡ rebuilt (macroblock_of (predictor_of predictor.now) tokens factors) place picture.old }
+{
+    let _known = picture.dim();
+    predict_luma(picture, place, predictor);
+    know_bytes(picture.plane(0).pixels());
+    predict_chroma(picture, place, predictor);
+    know_bytes(picture.plane(1).pixels());
+    know_bytes(picture.plane(2).pixels());
+}
 
 /// Predicts the luma of a macroblock whose subblocks have no intra modes of their own. Inlined into both callers, so
 /// that most macroblocks take one call less.
 #[inline(always)]
-pub(crate) fn predict_luma(picture: &mut Picture, place: Place, source: &Predictor)
+pub(crate) fn predict_luma(picture: &mut Picture, place: Place, predictor: &Predictor)
     requires columns { 16 * place.column + 16 ≤ picture.old.luma.width }
     requires rows { 16 * place.row + 16 ≤ picture.old.luma.height }
-    requires whole { has_sub_modes (predictor_of source.now) ≡ false }
+    requires whole { predicts_by_subblocks (predictor_of predictor.now) ≡ false }
     ensures { picture.new ≡ with_plane picture.old 0
-        (luma_predicted (predictor_of source.now) place picture.old.luma) }
+        (luma_predicted (predictor_of predictor.now) place picture.old.luma) }
 {
-    match source {
-        Predictor::Intra(modes) => predict_intra_luma(picture, place, modes),
+    let _known = [picture.plane(0).width(), picture.plane(0).height()];
+    let [x, y] = [16 * place.column, 16 * place.row];
+    match predictor {
+        Predictor::Intra(modes) => predict_luma_into(picture, x, y, modes.luma),
         Predictor::Inter {
             motion,
             reference,
             version,
-        } => predict_inter_luma(picture, place, motion, reference, *version),
+        } => {
+            let _known = reference.dim();
+            let reference = reference.plane(0);
+            if motion.mode.is_split() {
+                predict_quarters(picture, x, y, reference, motion, *version);
+            } else {
+                let vector = luma_vector_of(motion, 0);
+                predict_into::<16>(picture, 0, x, y, reference, vector, *version);
+            }
+        }
     }
 }
 
 /// Predicts both chroma planes of a macroblock.
 #[inline(always)]
-pub(crate) fn predict_chroma(picture: &mut Picture, place: Place, source: &Predictor)
+pub(crate) fn predict_chroma(picture: &mut Picture, place: Place, predictor: &Predictor)
     requires column { place.column < macroblocks picture.old.width }
     requires row { place.row < macroblocks picture.old.height }
-    ensures { picture.new ≡ with_colours picture.old (λ k. chroma_predicted (predictor_of source.now) k place) }
+    ensures { picture.new ≡ with_chroma picture.old (λ k. chroma_predicted (predictor_of predictor.now) k place) }
 {
     let _known = picture.dim();
-    match source {
+    match predictor {
         Predictor::Intra(modes) => {
             let [x, y] = [8 * place.column, 8 * place.row];
             predict_chroma_into(picture, 1, x, y, modes.chroma);
@@ -62,42 +90,6 @@ pub(crate) fn predict_chroma(picture: &mut Picture, place: Place, source: &Predi
     }
 }
 
-/// Predicts the luma of a macroblock that has one luma mode.
-fn predict_intra_luma(picture: &mut Picture, place: Place, modes: &Modes)
-    requires columns { 16 * place.column + 16 ≤ picture.old.luma.width }
-    requires rows { 16 * place.row + 16 ≤ picture.old.luma.height }
-    requires whole { is_by_subblocks modes.now.luma ≡ false }
-    ensures { picture.new ≡ with_plane picture.old 0 (luma_predicted (Intra modes.now) place picture.old.luma) }
-{
-    let _known = [picture.plane(0).width(), picture.plane(0).height()];
-    predict_luma_into(picture, 16 * place.column, 16 * place.row, modes.luma);
-}
-
-/// Predicts the luma of an inter macroblock: as one block, or by quarters for split vectors.
-fn predict_inter_luma(
-    picture: &mut Picture,
-    place: Place,
-    motion: &MacroblockMotion,
-    reference: &Picture,
-    version: u8,
-)
-    requires columns { 16 * place.column + 16 ≤ picture.old.luma.width }
-    requires rows { 16 * place.row + 16 ≤ picture.old.luma.height }
-    ensures { picture.new ≡ with_plane picture.old 0
-        (luma_predicted (Inter motion.now reference.now version) place picture.old.luma) }
-{
-    let _known = [picture.plane(0).width(), picture.plane(0).height()];
-    let _known = reference.dim();
-    let [x, y] = [16 * place.column, 16 * place.row];
-    let from = reference.plane(0);
-    if motion.mode.is_split() {
-        predict_quarters(picture, x, y, from, motion, version);
-    } else {
-        let vector = luma_vector_of(motion, 0);
-        predict_into16(picture, 0, x, y, from, vector, version);
-    }
-}
-
 /// Predicts both chroma planes of an inter macroblock, which have the same vectors.
 fn predict_inter_chroma(
     picture: &mut Picture,
@@ -108,7 +100,7 @@ fn predict_inter_chroma(
 )
     requires column { place.column < macroblocks picture.old.width }
     requires row { place.row < macroblocks picture.old.height }
-    ensures { picture.new ≡ with_colours picture.old
+    ensures { picture.new ≡ with_chroma picture.old
         (λ k. chroma_predicted (Inter motion.now reference.now version) k place) }
 {
     let _known = [picture.dim(), reference.dim()];
@@ -141,10 +133,10 @@ fn chroma_vector_of(version: u8, motion: &MacroblockMotion, k: usize) -> PlaneVe
     requires { k < 4 }
     ensures { result ≡ chroma_moved version motion.now k }
 {
-    let first = 8 * (k / 2) + 2 * (k % 2);
+    let corner = 8 * (k / 2) + 2 * (k % 2);
     let vectors = &motion.vectors;
-    let [a, b] = [vectors[first], vectors[first + 1]];
-    let [c, d] = [vectors[first + 4], vectors[first + 5]];
+    let [a, b] = [vectors[corner], vectors[corner + 1]];
+    let [c, d] = [vectors[corner + 4], vectors[corner + 5]];
     chroma_vector(
         version,
         &[a.row, b.row, c.row, d.row],
@@ -174,12 +166,12 @@ fn quarter_vectors(motion: &MacroblockMotion, quarter: usize) -> [PlaneVector; 4
     ensures len { length result ≡ 4 }
     ensures value { AreVectors 4 result (λ k. luma_moved motion.now (sub_of_quarter quarter k)) }
 {
-    let first = 8 * (quarter / 2) + 2 * (quarter % 2);
+    let corner = 8 * (quarter / 2) + 2 * (quarter % 2);
     [
-        luma_vector_of(motion, first),
-        luma_vector_of(motion, first + 1),
-        luma_vector_of(motion, first + 4),
-        luma_vector_of(motion, first + 5),
+        luma_vector_of(motion, corner),
+        luma_vector_of(motion, corner + 1),
+        luma_vector_of(motion, corner + 4),
+        luma_vector_of(motion, corner + 5),
     ]
 }
 
@@ -201,16 +193,16 @@ fn predict_quarters(
     picture: &mut Picture,
     x: usize,
     y: usize,
-    source: &Plane,
+    reference: &Plane,
     motion: &MacroblockMotion,
     version: u8,
 )
     requires columns { x + 16 ≤ picture.old.luma.width }
     requires rows { y + 16 ≤ picture.old.luma.height }
-    requires wide { 0 < source.now.width }
-    requires high { 0 < source.now.height }
+    requires wide { 0 < reference.now.width }
+    requires high { 0 < reference.now.height }
     ensures { picture.new ≡ with_plane picture.old 0 (with_block picture.old.luma x y 16 16
-        (moved_pixel version source.now x y 4 (luma_moved motion.now))) }
+        (moved_pixel version reference.now x y 4 (luma_moved motion.now))) }
 {
     let _known = picture.plane(0).width();
     let _known = picture.plane(0).height();
@@ -218,7 +210,7 @@ fn predict_quarters(
         let column = x + 8 * (quarter % 2);
         let row = y + 8 * (quarter / 2);
         let vectors = quarter_vectors(motion, quarter);
-        predict_four(picture, 0, column, row, source, &vectors, version);
+        predict_four(picture, 0, column, row, reference, &vectors, version);
     }
 }
 
@@ -228,28 +220,28 @@ fn predict_four(
     plane: usize,
     x: usize,
     y: usize,
-    source: &Plane,
+    reference: &Plane,
     vectors: &[PlaneVector; 4],
     version: u8,
 )
     requires plane { plane < 3 }
     requires columns { x + 8 ≤ (plane_of picture.old plane).width }
     requires rows { y + 8 ≤ (plane_of picture.old plane).height }
-    requires wide { 0 < source.now.width }
-    requires high { 0 < source.now.height }
+    requires wide { 0 < reference.now.width }
+    requires high { 0 < reference.now.height }
     ensures { picture.new ≡ with_plane picture.old plane (with_block (plane_of picture.old plane) x y 8 8
-        (moved_pixel version source.now x y 2 (vector_at vectors.now))) }
+        (moved_pixel version reference.now x y 2 (vector_at vectors.now))) }
 {
     let _known = picture.plane(plane).width();
     let _known = picture.plane(plane).height();
     if are_alike(vectors) {
-        predict_into8(picture, plane, x, y, source, vectors[0], version);
+        predict_into::<8>(picture, plane, x, y, reference, vectors[0], version);
         return;
     }
     for k in 0..4 {
         let column = x + 4 * (k % 2);
         let row = y + 4 * (k / 2);
-        predict_into4(picture, plane, column, row, source, vectors[k], version);
+        predict_into::<4>(picture, plane, column, row, reference, vectors[k], version);
     }
 }
 

@@ -2,7 +2,7 @@
 
 ghost use Rattle.std.specs.Prelude.{◌≡◌, not, ◌||◌};
 ghost use Rattle.vp_tables.specs.Modes.{is_by_subblocks, is_split};
-ghost use Rattle.vp_recon.specs.Predictor.{predictor_of, has_sub_modes, has_y2 as source_has_y2};
+ghost use Rattle.vp_recon.specs.Predictor.{predictor_of, predicts_by_subblocks, has_y2 as predictor_has_y2};
 
 use vp_base::Picture;
 use vp_modes::Modes;
@@ -29,8 +29,8 @@ pub enum Predictor<'a> {
 impl<'a> Predictor<'a> {
     /// Returns whether the luma subblocks have intra modes of their own (B_PRED): each is then predicted from those
     /// before it.
-    pub fn has_sub_modes(&self) -> bool
-        ensures { result ≡ has_sub_modes (predictor_of self.now) }
+    pub fn is_by_subblocks(&self) -> bool
+        ensures { result ≡ predicts_by_subblocks (predictor_of self.now) }
     {
         match self {
             Predictor::Intra(modes) => modes.luma.is_by_subblocks(),
@@ -40,7 +40,7 @@ impl<'a> Predictor<'a> {
 
     /// Returns whether the macroblock has a Y2 block (RFC 6386, chapter 13).
     pub fn has_y2(&self) -> bool
-        ensures { result ≡ source_has_y2 (predictor_of self.now) }
+        ensures { result ≡ predictor_has_y2 (predictor_of self.now) }
     {
         match self {
             Predictor::Intra(modes) => has_y2(modes.luma, VectorMode::Zero),

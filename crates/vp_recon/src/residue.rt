@@ -12,9 +12,9 @@ ghost use Rattle.vp_recon.specs.Residue.{residue};
 ghost use Rattle.vp_recon.specs.Parts.{HasBlocks, HasTokens, HasUpTo, residue_in, large_residue_in};
 ghost use Rattle.vp_recon.specs.Sums.{HasEqualSums, AreLow, AreRows, Four};
 
-use crate::add::added;
-use crate::residue_inputs::{LargeResidues, Residues};
-use crate::segment_factors::SegmentFactors;
+use crate::add::summed;
+use crate::residue_inputs::{LargeInputs, SmallInputs};
+use crate::segment_factors::{IDCT_MOST, SegmentFactors};
 use std::simd::prelude::*;
 use vp_lanes::clamp_i16;
 use vp_quant::{ShortFactor, dequant};
@@ -29,16 +29,16 @@ pub(crate) fn block_of(tokens: &Tokens, n: usize) -> &Block
     &tokens.blocks[n]
 }
 
-/// Returns the bitwise OR of the end positions of the `count` blocks from block `start` on: at least the greatest of
+/// Returns the bitwise OR of the end positions of the `count` blocks from block `first` on: at least the greatest of
 /// them, and 0 or 1 only if that is.
 #[inline(always)]
-pub(crate) fn ends_in(tokens: &Tokens, start: usize, count: usize) -> u8
-    requires { start + count ≤ 25 }
-    ensures { (i : ℕ) → i < count → HasUpTo result (block_of tokens.now (start + i)) }
+pub(crate) fn ends_in(tokens: &Tokens, first: usize, count: usize) -> u8
+    requires { first + count ≤ 25 }
+    ensures { (i : ℕ) → i < count → HasUpTo result (block_of tokens.now (first + i)) }
 {
     let mut ends = 0;
     for i in 0..count {
-        ends |= block_of(tokens, start + i).end;
+        ends |= block_of(tokens, first + i).end;
     }
     ends
 }
@@ -97,7 +97,7 @@ pub(crate) fn with_residue(prediction: u8x16, block: &Block, factors: &SegmentFa
         return prediction;
     }
     let numbers = own_residue(block, factors);
-    added::<16>(prediction, i16x16::from_array(numbers))
+    summed::<16>(prediction, i16x16::from_array(numbers))
 }
 
 /// Returns numbers that add up like the residue of a luma subblock without a Y2 block.
@@ -106,7 +106,7 @@ fn own_residue(block: &Block, factors: &SegmentFactors) -> [i16; 16]
     ensures low { AreLow 16 result }
 {
     let dc = scaled_dc(&block.levels, factors.raw.y_dc);
-    if dc.unsigned_abs() > 2200 {
+    if dc.unsigned_abs() > IDCT_MOST {
         return large_residue(block, dc, factors.raw.y_ac);
     }
     let small = dc as i16;
@@ -119,27 +119,27 @@ fn own_residue(block: &Block, factors: &SegmentFactors) -> [i16; 16]
     }
 }
 
-impl<'a> LargeResidues<'a> {
+impl<'a> LargeInputs<'a> {
     /// Returns numbers that add up like the residue of subblock `k`.
     pub(crate) fn clamped_residue(&self, k: usize) -> [i16; 16]
         requires subblock { k < 16 }
-        requires block { self.now.start + k < 25 }
+        requires block { self.now.first + k < 25 }
         ensures value { HasEqualSums result (large_residue_in self.now k) }
         ensures low { AreLow 16 result }
     {
-        let block = block_of(self.tokens, self.start + k);
+        let block = block_of(self.tokens, self.first + k);
         large_residue(block, self.dcs[k], self.ac)
     }
 }
 
-impl<'a> Residues<'a> {
+impl<'a> SmallInputs<'a> {
     /// Returns numbers that add up like the residue of subblock `k`.
     pub(crate) fn clamped_residue(&self, k: usize) -> [i16; 16]
         requires subblock { HasBlocks self.now (k + 1) }
         ensures value { HasEqualSums result (residue_in self.now k) }
         ensures low { AreLow 16 result }
     {
-        let block = block_of(self.tokens, self.start + k);
+        let block = block_of(self.tokens, self.first + k);
         large_residue(block, i64::from(self.dcs[k]), self.ac)
     }
 
@@ -155,7 +155,7 @@ impl<'a> Residues<'a> {
         requires factor { IsShortFactor factor.now self.now.ac 2200 }
         ensures { (v : Four) → result ≡ Some v → AreRows 8 v.0 v.1 v.2 v.3 (λ i. residue_in self.now (k + i)) }
     {
-        let n = self.start + k;
+        let n = self.first + k;
         let left = block_of(self.tokens, n).levels;
         let right = block_of(self.tokens, n + 1).levels;
         let dcs = [self.dcs[k], self.dcs[k + 1]];

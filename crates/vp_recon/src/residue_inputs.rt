@@ -7,12 +7,12 @@ ghost use Rattle.vp_quant.specs.Short.{IsShortFactor};
 use vp_quant::ShortFactor;
 use vp_tokens::Tokens;
 
-/// The inputs from which the residues of a plane's subblocks are computed.
+/// The inputs of the residues of a plane's subblocks, with small DC coefficients.
 #[derive(Clone, Copy)]
-pub(crate) struct Residues<'a> {
+pub(crate) struct SmallInputs<'a> {
     pub(crate) tokens: &'a Tokens,
     /// The number of the first subblock's block among all 25.
-    pub(crate) start: usize,
+    pub(crate) first: usize,
     /// The DC coefficients, from -2,200 to 2,200.
     pub(crate) dcs: &'a [i16],
     /// The factor of the AC levels.
@@ -23,12 +23,12 @@ pub(crate) struct Residues<'a> {
     ghost ready: { IsShortFactor factor ac 2200 },
 }
 
-/// The inputs of residues with DC coefficients of any size.
+/// The inputs of the residues of a plane's subblocks, with DC coefficients of any size.
 #[derive(Clone, Copy)]
-pub(crate) struct LargeResidues<'a> {
+pub(crate) struct LargeInputs<'a> {
     pub(crate) tokens: &'a Tokens,
     /// The number of the first subblock's block among all 25.
-    pub(crate) start: usize,
+    pub(crate) first: usize,
     /// The DC coefficients.
     pub(crate) dcs: [i64; 16],
     /// The factor of the AC levels.

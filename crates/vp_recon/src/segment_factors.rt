@@ -5,6 +5,12 @@ ghost use Rattle.std.specs.Prelude.{◌≡◌};
 use std::marker::Model;
 use vp_quant::{Factors, ShortFactor};
 
+/// The greatest magnitude of the coefficients that `idct_short` and `idct_interleaved` compute in 16 bits.
+pub(crate) const IDCT_MOST: u64 = 2200;
+
+/// The greatest magnitude of the coefficients that `iwht_short` computes in 16 bits.
+pub(crate) const IWHT_MOST: u64 = 8191;
+
 /// The dequantisation factors of a segment, made ready once for all its macroblocks (RFC 6386, chapter 14.1).
 #[derive(Drop)]
 pub struct SegmentFactors {
@@ -29,18 +35,18 @@ impl Model for SegmentFactors {
 }
 
 impl SegmentFactors {
-    /// Makes factors ready: those of Y2's AC levels for products from -8,191 to 8,191, which `iwht_short` takes, the
-    /// others for -2,200 to 2,200, which `idct_short` takes.
+    /// Makes factors ready: those of Y2's AC levels for the coefficients that `iwht_short` takes, the others for those
+    /// that `idct_interleaved` takes.
     pub fn of(factors: &Factors) -> SegmentFactors
         ensures { result ≡ factors.now }
     {
         SegmentFactors {
             raw: *factors,
-            y2_ac: ShortFactor::of(factors.y2_ac, 8191),
-            y_dc: ShortFactor::of(factors.y_dc, 2200),
-            y_ac: ShortFactor::of(factors.y_ac, 2200),
-            uv_dc: ShortFactor::of(factors.uv_dc, 2200),
-            uv_ac: ShortFactor::of(factors.uv_ac, 2200),
+            y2_ac: ShortFactor::of(factors.y2_ac, IWHT_MOST as u16),
+            y_dc: ShortFactor::of(factors.y_dc, IDCT_MOST as u16),
+            y_ac: ShortFactor::of(factors.y_ac, IDCT_MOST as u16),
+            uv_dc: ShortFactor::of(factors.uv_dc, IDCT_MOST as u16),
+            uv_ac: ShortFactor::of(factors.uv_ac, IDCT_MOST as u16),
         }
     }
 

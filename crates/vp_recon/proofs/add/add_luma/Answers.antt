@@ -1,12 +1,6 @@
-use Rattle.std.proofs.Common.{◌≡◌, ℕ, List, ℤ, sym, ap, subst, arith}
-use Rattle.std.proofs.lemmas.Nat.{le_or_l, le_or_r}
-use Rattle.vp_base.specs.Block.{with_block}
-use Rattle.vp_base.specs.Image.{with_plane}
-use Rattle.vp_quant.specs.declared.factors.Factors.{Factors}
-use Rattle.vp_recon.specs.Residue.{luma_residue}
-use Rattle.vp_recon.specs.Parts.{AreDcs, luma_dc}
-use Rattle.vp_recon.specs.Sums.{block_sum}
-use Rattle.vp_recon.proofs.ResidueLemmas.{luma_values, luma_nothing, block_alone}
+use Rattle.std.proofs.Common.{◌∙◌, List, ℤ, sym, ap, subst, arith}
+use Rattle.vp_recon.proofs.Words.{with_plane, Factors, luma_residue, AreDcs, luma_dc, le_or_l, le_or_r}
+use Rattle.vp_recon.proofs.ResidueLemmas.{luma_sums, luma_nothing, block_alone}
 use Rattle.vp_recon.proofs.add.add_luma.Goals as goal
 
 pub returns-then-ends-y2_end-eq0 : goal.returns-then-ends-y2_end-eq0
@@ -24,9 +18,7 @@ pub returns : goal.returns
 returns c =
     let p = c.args.picture.now in
     let t = c.args.tokens.now in
-    let own : Factors → ℕ → List ℤ = λ f. luma_residue c.args.y2 t f in
     let dcs : List ℤ = c.in-Some.dcs in
-    subst (λ (f : Factors). c.add_residues.new.picture ≡ with_plane p 0 (with_block p.luma c.args.x c.args.y 16 16 (block_sum 4 p.luma c.args.x c.args.y (own f)))) c.factors.view_is
-    (c.add_residues.ensures (own c.factors.inside.raw)
-    (luma_values t c.factors.inside.raw c.args.y2 dcs
-    (subst (λ (f : Factors). AreDcs 16 dcs (luma_dc c.args.y2 t f)) (sym c.factors.view_is) (c.small_luma_dcs.ensures.value dcs c.in-Some.is))))
+    c.add_to_block.ensures
+    ∙ ap (with_plane p 0) (luma_sums t c.args.factors.now c.factors.inside.raw c.factors.view_is p.luma c.args.x c.args.y c.args.y2 dcs
+    (subst (λ (f : Factors). AreDcs 16 dcs (luma_dc c.args.y2 t f)) (sym c.factors.view_is) (c.small_luma_dcs.ensures.value dcs c.in-Some.is)))

@@ -1,6 +1,5 @@
 use Rattle.std.proofs.Common.{◌≡◌, ◌∙◌, ◌+◌, ℕ, List, [], ◌∷◌, length, get_or, refl, ap, arith}
-use Rattle.std.proofs.lemmas.Simd.{length-put_chunk}
-use Rattle.vp_recon.specs.Sums.{row_pixel}
+use Rattle.vp_recon.proofs.Words.{length-put_chunk, row_pixel}
 use Rattle.vp_recon.proofs.StripLemmas.{none_yet, one_more}
 use Rattle.vp_recon.proofs.add.put_rows.Goals as goal
 

@@ -1,9 +1,5 @@
-use Rattle.std.proofs.Common.{◌≡◌, ◌∙◌, ◌≤◌, ℤ, pos, List, ◌∷◌, replicate, get_or, unsigned_abs, sym, ap, subst, arith}
-use Rattle.vp_tokens.specs.Block.{Block}
-use Rattle.vp_transform.proofs.Words.{coded}
-use Rattle.vp_transform.proofs.Eights.{coded16}
-use Rattle.vp_transform.specs.Transform.{iwht}
-use Rattle.vp_quant.specs.Short.{coefficients_after}
+use Rattle.std.proofs.Common.{◌≡◌, ◌∙◌, ℤ, pos, List, ◌∷◌, replicate, get_or, unsigned_abs, sym, ap, arith}
+use Rattle.vp_recon.proofs.Words.{Block, coded, coded16, iwht, coefficients_after}
 use Rattle.vp_recon.proofs.ResidueLemmas.{exact, y2_even, y2_values}
 use Rattle.vp_recon.proofs.SumLemmas.{short_coded}
 use Rattle.vp_recon.proofs.dc_coefficients.dcs_from_y2.Goals as goal
@@ -23,22 +19,14 @@ returns-then-block-le1-clause-value c dcs is k below =
     c.factors.view_is (c.block.view_is ∙ c.block_of-block.ensures) c.block.invariant c.scaled_dc-dc.ensures.value z few all))
 
 -- the Y2 block's DC coefficient, as it is passed
-short : (c : goal.Then-greatest-le2200) → coded16 (coded c.scaled_dc-dc.result) ≡ c.scaled_dc-dc.result
+short : (c : goal.Then-from-le-IDCT_MOST) → coded16 (coded c.scaled_dc-dc.result) ≡ c.scaled_dc-dc.result
 short c =
     let same = exact c.scaled_dc-dc.result (omega (arith, c.scaled_dc-dc.ensures.within)) in
     let size = c.unsigned_abs.ensures.value in
-    ap (λ (y : ℤ). coded16 y) same ∙ short_coded c.scaled_dc-dc.result (omega (arith, c.if-unsigned_abs-gt8191.false, size, ap unsigned_abs same))
+    ap (λ (y : ℤ). coded16 y) same ∙ short_coded c.scaled_dc-dc.result (omega (arith, c.if-unsigned_abs-gt-IWHT_MOST.false, size, ap unsigned_abs same))
 
-pub iwht_short-dcs-requires : goal.iwht_short-dcs-requires
-iwht_short-dcs-requires c =
-    let same = exact c.scaled_dc-dc.result (omega (arith, c.scaled_dc-dc.ensures.within)) in
-    let size = c.unsigned_abs.ensures.value in
-    let small : unsigned_abs (coded c.scaled_dc-dc.result) ≤ 8191 = omega (arith, c.if-unsigned_abs-gt8191.false, size) in
-    c.coefficients.ensures.small c.in-Some.coefficients c.factors.inside.raw.y2_ac 8191 c.in-Some.is c.factors.invariant.y2_ac
-    (subst (λ (z : ℤ). unsigned_abs z ≤ 8191) (sym (short_coded (coded c.scaled_dc-dc.result) (omega arith))) small)
-
-pub returns-then-greatest-le2200-clause-value : goal.returns-then-greatest-le2200-clause-value
-returns-then-greatest-le2200-clause-value c dcs is k below =
+pub returns-then-from-le-IDCT_MOST-clause-value : goal.returns-then-from-le-IDCT_MOST-clause-value
+returns-then-from-le-IDCT_MOST-clause-value c dcs is k below =
     let b : Block = record { levels = c.block.inside.levels; end = c.block.inside.end } in
     let dc : ℤ = c.scaled_dc-dc.result in
     let are : c.iwht_short-dcs.result ≡ dcs = cc in

@@ -1,6 +1,5 @@
 use Rattle.std.proofs.Common.{refl, arith}
-use Rattle.vp_lanes.proofs.Signed.{signed_param}
-use Rattle.vp_transform.proofs.Eights.{in_first, in_second, below_eight}
+use Rattle.vp_recon.proofs.Words.{signed_param, in_first, in_second, below_eight}
 use Rattle.vp_recon.proofs.dc_coefficients.joined.Goals as goal
 
 pub returns-clause-upper : goal.returns-clause-upper

@@ -1,8 +1,5 @@
 use Rattle.std.proofs.Common.{◌≡◌, ◌∙◌, ◌≤◌, ◌<◌, ◌+◌, ◌*ℤ◌, ℕ, ℤ, pos, List, get_or, unsigned_abs, ap, subst, sym, arith}
-use Rattle.vp_quant.specs.declared.factors.Factors.{Factors}
-use Rattle.vp_tokens.specs.Blocks.{block_of}
-use Rattle.vp_transform.proofs.Eights.{passed16}
-use Rattle.vp_recon.specs.Parts.{AreDcs, own_dc}
+use Rattle.vp_recon.proofs.Words.{Factors, block_of, passed16, AreDcs, own_dc}
 use Rattle.vp_recon.proofs.SumLemmas.{by_halves}
 use Rattle.vp_recon.proofs.dc_coefficients.own_luma_dcs.Goals as goal
 

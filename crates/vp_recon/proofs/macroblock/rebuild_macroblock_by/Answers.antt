@@ -1,9 +1,6 @@
 use Rattle.std.proofs.Common.{rules, ◌≡◌, ◌∙◌, ◌+◌, ◌*◌, ◌≤◌, false, ap, subst, sym, arith}
-use Rattle.vp_base.specs.Image.{Image, with_plane}
-use Rattle.vp_recon.specs.Predictor.{Predictor, Macroblock, macroblock_of, predictor_of, has_sub_modes, has_y2}
-use Rattle.vp_recon.specs.Residue.{luma_residue}
-use Rattle.vp_recon.specs.Prediction.{luma_prediction}
-use Rattle.vp_recon.specs.Rebuilt.{residue_at}
+use Rattle.vp_recon.proofs.Words.{Image, with_plane, Macroblock, macroblock_of, predictor_of, predicts_by_subblocks, has_y2, luma_residue, luma_prediction, residue_at}
+use Rattle.vp_recon.specs.Predictor.{Predictor}
 use Rattle.vp_recon.proofs.LumaLemmas.{luma_at_once}
 use Rattle.vp_recon.proofs.PlaneLemmas.{summed_onto, chroma_half, luma_after_half}
 use Rattle.vp_recon.proofs.macroblock.rebuild_macroblock_by.Goals as goal
@@ -12,7 +9,7 @@ use Rattle.vp_recon.proofs.macroblock.rebuild_macroblock_by.Goals.{in_default-vi
 pub returns-in-Intra : goal.returns-in-Intra
 returns-in-Intra c =
     let p : Image = c.args.picture.now in
-    let m : Macroblock = macroblock_of (predictor_of c.args.source.now) c.args.tokens.now c.args.factors.now in
+    let m : Macroblock = macroblock_of (predictor_of c.args.predictor.now) c.args.tokens.now c.args.factors.now in
     let whole = c.dim-known.ensures.aligned in
     luma_after_half m c.args.place p c.add_chroma.new.picture c.rebuild_subs.new.picture
     (chroma_half m c.args.place p c.predict_chroma.new.picture c.add_chroma.new.picture (omega (arith, whole)) (omega (arith, whole)) (omega (arith, whole)) (omega (arith, whole)) c.predict_chroma.ensures c.add_chroma.ensures)
@@ -22,10 +19,10 @@ pub returns-in_default : goal.returns-in_default
 returns-in_default c =
     let p : Image = c.args.picture.now in
     let half : Image = c.add_chroma.new.picture in
-    let s : Predictor = predictor_of c.args.source.now in
+    let s : Predictor = predictor_of c.args.predictor.now in
     let m : Macroblock = macroblock_of s c.args.tokens.now c.args.factors.now in
     let aligned = c.dim-known.ensures.aligned in
-    let whole : has_sub_modes s ≡ false = elim c.in_default.branch [
+    let whole : predicts_by_subblocks s ≡ false = elim c.in_default.branch [
       | in_default-via-in-Intra+else-is_by_subblocks w ↦ search rules
       | in_default-via-in_default w ↦ search rules
     ] in

@@ -1,15 +1,6 @@
 use Rattle.std.proofs.Common.{◌≡◌, ◌∙◌, ℕ, ◌+◌, get_or, sym, refl, ap, arith}
-use Rattle.vp_base.specs.declared.place.Place.{Place}
-use Rattle.vp_base.specs.Raster.{Raster}
-use Rattle.vp_base.specs.Image.{Image, with_plane}
-use Rattle.vp_base.specs.Near.{block_place}
-use Rattle.vp_base.proofs.OverLemmas.{over-none, over-next}
+use Rattle.vp_recon.proofs.Words.{Place, Raster, Image, with_plane, block_place, over-none, over-next, Modes, Block, block_of, with_sub, residue}
 use Rattle.vp_tables.specs.declared.modes.SubMode.TheVariants as sub_is
-use Rattle.vp_modes.specs.Entry.{Modes}
-use Rattle.vp_tokens.specs.Block.{Block}
-use Rattle.vp_tokens.specs.Blocks.{block_of}
-use Rattle.vp_recon.specs.Rebuilt.{with_sub}
-use Rattle.vp_recon.specs.Residue.{residue}
 use Rattle.vp_recon.proofs.LumaLemmas.{first_subs, subs_alone}
 use Rattle.vp_recon.proofs.macroblock.rebuild_subs.Goals as goal
 

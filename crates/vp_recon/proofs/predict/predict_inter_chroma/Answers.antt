@@ -1,16 +1,6 @@
 use Rattle.std.proofs.Common.{◌≡◌, ◌∙◌, ◌*◌, ℕ, false, sym, ap, subst}
-use Rattle.vp_base.specs.Raster.{Raster}
-use Rattle.vp_base.specs.Block.{with_block}
-use Rattle.vp_base.specs.Image.{Image, plane_of, with_plane}
-use Rattle.vp_base.proofs.BlockLemmas.{with_block_same}
-use Rattle.vp_tables.specs.Modes.{is_split}
-use Rattle.vp_motion.specs.Vector.{MacroblockMotion, AreOne}
-use Rattle.vp_inter.specs.declared.vector.PlaneVector.{PlaneVector}
-use Rattle.vp_inter.specs.Inter.{inter_pixel}
-use Rattle.vp_recon.specs.Prediction.{chroma_moved, moved_pixel}
-use Rattle.vp_recon.specs.Sums.{vector_at}
-use Rattle.vp_recon.proofs.Parts.{sub_at, sub_below}
-use Rattle.vp_recon.proofs.MovedLemmas.{moved_same, moved_alike, chroma_one}
+use Rattle.vp_recon.proofs.Words.{Raster, with_block, Image, plane_of, with_plane, with_block_same, is_split, MacroblockMotion, AreOne, PlaneVector, inter_pixel, chroma_moved, moved_pixel, vector_at}
+use Rattle.vp_recon.proofs.MovedLemmas.{moved_same, whole_block, chroma_one}
 use Rattle.vp_recon.proofs.predict.predict_inter_chroma.Goals as goal
 
 pub returns-then-is_split : goal.returns-then-is_split
@@ -41,8 +31,6 @@ returns-else-is_split c =
     let whole : is_split c.args.motion.now.mode ≡ false = ap (λ (a : MacroblockMotion). is_split a.mode) (sym c.motion.view_is) ∙ sym c.is_split.ensures ∙ c.if-is_split.false in
     let one : AreOne e.mode e.vectors = subst (λ (a : MacroblockMotion). AreOne a.mode a.vectors) c.motion.view_is c.motion.invariant in
     let each : (from s : Raster) → with_block s x y 8 8 (inter_pixel c.args.version from x y vector) ≡ with_block s x y 8 8 (moved_pixel c.args.version from x y 2 moved) =
-    λ from s. with_block_same s x y 8 8 (inter_pixel c.args.version from x y vector) (moved_pixel c.args.version from x y 2 moved)
-    (λ r j rin jin.
-    ap (λ (v : PlaneVector). inter_pixel c.args.version from x y v r j) c.whole_chroma_vector-vector.ensures
-    ∙ moved_alike c.args.version from x y 2 moved r j (chroma_one e one whole c.args.version (sub_at 2 r j) (sub_below 2 r j rin jin))) in
+    λ from s. ap (λ (v : PlaneVector). with_block s x y 8 8 (inter_pixel c.args.version from x y v)) c.whole_chroma_vector-vector.ensures
+    ∙ whole_block c.args.version from s x y 2 moved (chroma_one e one whole c.args.version) in
     c.predict_into_chroma.ensures ∙ cc (each c.args.reference.now.u p.u, each c.args.reference.now.v p.v)

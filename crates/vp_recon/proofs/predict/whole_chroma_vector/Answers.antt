@@ -1,8 +1,6 @@
 use Rattle.std.proofs.Common.{◌≡◌, ◌∙◌, ℤ, sym, ap, subst, get_or, to_z, of_z, w32, rules}
-use Rattle.std.proofs.lemmas.Int.{to_z-of_z}
+use Rattle.vp_recon.proofs.Words.{Vector, MacroblockMotion, AreOne, PlaneVector, to_z-of_z}
 use mir.Val.{SFits}
-use Rattle.vp_motion.specs.Vector.{Vector, MacroblockMotion, AreOne}
-use Rattle.vp_inter.specs.declared.vector.PlaneVector.{PlaneVector}
 use Rattle.vp_recon.proofs.MovedLemmas.{chroma_whole}
 use Rattle.vp_recon.proofs.predict.whole_chroma_vector.Goals as goal
 

@@ -1,6 +1,5 @@
 use Rattle.std.proofs.Common.{pos, arith}
-use Rattle.std.proofs.lemmas.Int.{ints}
-use Rattle.vp_lanes.proofs.Signed.{signed_param, signed_splat, stands_pos, signed_add, signed_shr, signed_out}
+use Rattle.vp_recon.proofs.Words.{ints, signed_param, signed_splat, stands_pos, signed_add, signed_shr, signed_out}
 use Rattle.vp_recon.proofs.residue.dc_residues.Goals as goal
 
 pub returns : goal.returns

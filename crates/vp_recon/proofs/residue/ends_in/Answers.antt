@@ -1,8 +1,5 @@
 use Rattle.std.proofs.Common.{◌≡◌, ◌∙◌, ◌+◌, ℕ, ap, subst, arith, inl, inr}
-use Rattle.std.proofs.lemmas.Bool.{cases_lt}
-use Rattle.std.proofs.lemmas.Nat.{le_or_l, le_or_r}
-use Rattle.vp_tokens.specs.Block.{Block, IsBlock}
-use Rattle.vp_tokens.specs.Blocks.{block_of}
+use Rattle.vp_recon.proofs.Words.{Block, IsBlock, block_of, cases_lt, le_or_l, le_or_r}
 use Rattle.vp_recon.proofs.residue.ends_in.Goals as goal
 
 pub loop-i-preserved : goal.loop-i-preserved
@@ -14,8 +11,8 @@ loop-i-preserved c j below =
       | inr late ↦
           let last : c.loop-i.i ≡ j = omega arith in
           let is : IsBlock c.block_of.result.now = subst IsBlock c.behind-tokens.view_is c.behind-tokens.invariant in
-          let here : c.block_of.result.now ≡ block_of c.args.tokens.now (c.args.start + j) =
-          c.block_of.ensures ∙ ap (λ (i : ℕ). block_of c.args.tokens.now (c.args.start + i)) last in
-          let count : c.behind-tokens.inside.end ≡ (block_of c.args.tokens.now (c.args.start + j)).end = ap (λ (b : Block). b.end) (c.behind-tokens.view_is ∙ here) in
+          let here : c.block_of.result.now ≡ block_of c.args.tokens.now (c.args.first + j) =
+          c.block_of.ensures ∙ ap (λ (i : ℕ). block_of c.args.tokens.now (c.args.first + i)) last in
+          let count : c.behind-tokens.inside.end ≡ (block_of c.args.tokens.now (c.args.first + j)).end = ap (λ (b : Block). b.end) (c.behind-tokens.view_is ∙ here) in
           (subst IsBlock here is, omega (arith, count, r))
     ]

@@ -1,7 +1,5 @@
 use Rattle.std.proofs.Common.{arith}
-use Rattle.vp_lanes.proofs.Signed.{signed_param}
-use Rattle.vp_transform.proofs.Eights.{in_first}
-use Rattle.vp_transform.proofs.Vectors.{below_four}
+use Rattle.vp_recon.proofs.Words.{signed_param, in_first, below_four}
 use Rattle.vp_recon.proofs.residue.four_times.Goals as goal
 
 pub returns : goal.returns

@@ -1,9 +1,6 @@
 use Rattle.std.proofs.Common.{◌∙◌, ◌≤◌, ℤ, pos, negsuc, get_or, unsigned_abs, w16, sym, ap, subst, arith}
-use Rattle.std.specs.Int.{int_min, int_max}
+use Rattle.vp_recon.proofs.Words.{signed_lanes, lane_fits, handed16, passed16, summed, int_min, int_max}
 use mir.Val.{SFits}
-use Rattle.vp_lanes.proofs.Shape.{signed_lanes, lane_fits}
-use Rattle.vp_transform.proofs.Eights.{handed16, passed16}
-use Rattle.vp_recon.specs.Rebuilt.{summed}
 use Rattle.vp_recon.proofs.SumLemmas.{lane_kept, clamped_sum, clamped_low}
 use Rattle.vp_recon.proofs.residue.held.Goals as goal
 

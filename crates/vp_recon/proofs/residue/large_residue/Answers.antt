@@ -1,10 +1,5 @@
 use Rattle.std.proofs.Common.{◌∙◌, ◌^◌, ◌≤◌, ℤ, pos, List, set, get_or, unsigned_abs, ap, subst, arith}
-use Rattle.vp_transform.proofs.Bounds.{idct_fits}
-use Rattle.vp_transform.proofs.Words.{coded}
-use Rattle.vp_transform.specs.Transform.{idct}
-use Rattle.vp_tokens.specs.Block.{Block}
-use Rattle.vp_quant.specs.Quant.{dequantised}
-use Rattle.vp_recon.specs.Sums.{HasEqualSums}
+use Rattle.vp_recon.proofs.Words.{idct_fits, coded, idct, Block, dequantised, HasEqualSums}
 use Rattle.vp_recon.proofs.SumLemmas.{cut_kept}
 use Rattle.vp_recon.proofs.ResidueLemmas.{exact, within_set}
 use Rattle.vp_recon.proofs.residue.large_residue.Goals as goal

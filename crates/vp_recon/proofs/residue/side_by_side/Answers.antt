@@ -1,6 +1,5 @@
 use Rattle.std.proofs.Common.{refl, arith}
-use Rattle.vp_lanes.proofs.Signed.{signed_param}
-use Rattle.vp_transform.proofs.Eights.{in_first, in_second, eight}
+use Rattle.vp_recon.proofs.Words.{signed_param, in_first, in_second, eight}
 use Rattle.vp_recon.proofs.residue.side_by_side.Goals as goal
 
 pub returns : goal.returns
