@@ -1,6 +1,6 @@
 -- The key frame of a picture.
 use Rattle.std.proofs.Common.{◌≡◌, ◌∙◌, ℕ, ◌+◌, ◌-◌, ◌*◌, ◌/◌, ◌%◌, ◌^◌, ◌≤◌, ◌==◌, ◌&&◌, ◌⊎◌, Bool, true, false, nat_lt, nat_le, List, length, if◌then◌else◌, Some, None, Ok, Err, subst, refl, sym, ap, arith, inl, inr, not}
-use Rattle.std.specs.Prelude.{Result, slice_index}
+use Rattle.std.specs.Prelude.{Result, IfOk, slice_index}
 use Rattle.std.proofs.lemmas.Bool.{ltb-false}
 use Rattle.std.proofs.lemmas.Bool.Decides.{nat_tests}
 use Rattle.vp_base.specs.declared.limits.Dim.{Dim}
@@ -26,8 +26,10 @@ use Rattle.vp_encode.specs.Encoded.{IsEncoded, initial_encoder}
 use Rattle.vp_encode.specs.Choice.{IsChosen, squared_distance}
 use Rattle.vp_encode.specs.PacketContents.{key_tag}
 use Rattle.vp_encode.specs.TooLong.{IsTooLong}
+use Rattle.vp_still.specs.declared.fault.StillFault.{StillFault}
 use Rattle.vp_still.specs.Still.{still_settings, IsKeyFrameFor}
 use Rattle.vp_still.specs.TooLong.{HasLongPart}
+use Rattle.vp_still.specs.Smaller.{IsSmaller}
 
 pub allowed : (qi : ℕ) → qi ≤ 127 → AreAllowed (still_settings qi)
 allowed qi low = record {
@@ -39,24 +41,22 @@ allowed qi low = record {
   partitions = inl refl;
 }
 
-pub key_frame : (scale : Scale) (qi w h : ℕ) (pixels : List ℕ) (source : Image) (dim : Dim) (e next : EncoderState) (r : Encoded)
-    → dim.w ≡ scaled_side (factor_of scale) w → dim.h ≡ scaled_side (factor_of scale) h
-    → source.width ≡ scaled_side (factor_of scale) w → source.height ≡ scaled_side (factor_of scale) h → i420 source ≡ scaled_i420 (factor_of scale) w h pixels
-    → e ≡ initial_encoder dim (still_settings qi)
+pub key_frame : (source : Image) (e next : EncoderState) (r : Encoded) → source.width ≡ e.dim.w → source.height ≡ e.dim.h
     → ((limits : Limits) → e.dim.w * e.dim.h ≤ limits.pixels → step limits e.state r.packet ≡ (next.state, Shown r.recon.value))
     → IsChosen e source r.packet → r.squared_error ≡ squared_distance source r.recon.value → next.dim ≡ e.dim → next.settings ≡ e.settings
     → next.since ≡ (if next_is_key e then 1 else e.since + 1)
+    → (scale : Scale) (qi w h : ℕ) (pixels : List ℕ) → IsSmaller scale qi w h pixels source e
     → IsKeyFrameFor scale qi w h pixels r.packet r.squared_error
-key_frame scale qi w h pixels source dim e next r wide high own_width own_height shown is decoded chosen error same settings since = record {
-  dim = dim;
-  width = wide;
-  height = high;
+key_frame source e next r wide high decoded chosen error same settings since scale qi w h pixels s = record {
+  dim = s.dim;
+  width = s.width;
+  height = s.height;
   frame = record { source = source; packet = r.packet; recon = r.recon.value };
-  source_width = own_width ∙ sym wide;
-  source_height = own_height ∙ sym high;
-  source = shown;
+  source_width = wide ∙ ap (λ (x : EncoderState). x.dim.w) s.first;
+  source_height = high ∙ ap (λ (x : EncoderState). x.dim.h) s.first;
+  source = s.shown;
   next = next;
-  encoded = subst (λ (x : EncoderState). IsEncoded x (record { source = source; packet = r.packet; recon = r.recon.value }) next) is (record {
+  encoded = subst (λ (x : EncoderState). IsEncoded x (record { source = source; packet = r.packet; recon = r.recon.value }) next) s.first (record {
     chosen = chosen;
     decoded = decoded;
     dim = same;
@@ -67,21 +67,30 @@ key_frame scale qi w h pixels source dim e next r wide high own_width own_height
   error_is = error;
 }
 
+-- the first frame of a new encoder, for the picture that is made smaller
+pub coded : (scale : Scale) (qi w h : ℕ) (pixels : List ℕ) (source : Image) (dim : Dim) (e : EncoderState) (r : Result Encoded StillFault)
+    → dim.w ≡ scaled_side (factor_of scale) w → dim.h ≡ scaled_side (factor_of scale) h
+    → i420 source ≡ scaled_i420 (factor_of scale) w h pixels → e ≡ initial_encoder dim (still_settings qi)
+    → IfOk r (λ f. (scale : Scale) (qi w h : ℕ) (pixels : List ℕ) → IsSmaller scale qi w h pixels source e
+        → IsKeyFrameFor scale qi w h pixels f.packet f.squared_error)
+    → IfOk r (λ f. IsKeyFrameFor scale qi w h pixels f.packet f.squared_error)
+coded scale qi w h pixels source dim e (Ok f) wide high shown first for_each =
+    for_each scale qi w h pixels (record { dim = dim; width = wide; height = high; shown = shown; first = first })
+coded scale qi w h pixels source dim e (Err fault) wide high shown first for_each = for_each
+
 -- ---- a frame whose part is too long
 
-pub long_part : (scale : Scale) (qi w h : ℕ) (pixels : List ℕ) (source : Image) (dim : Dim) (e : EncoderState)
-    → dim.w ≡ scaled_side (factor_of scale) w → dim.h ≡ scaled_side (factor_of scale) h
-    → source.width ≡ scaled_side (factor_of scale) w → source.height ≡ scaled_side (factor_of scale) h → i420 source ≡ scaled_i420 (factor_of scale) w h pixels
-    → e ≡ initial_encoder dim (still_settings qi) → IsTooLong e source → HasLongPart scale qi w h pixels
-long_part scale qi w h pixels source dim e wide high own_width own_height shown is long = record {
-  dim = dim;
-  width = wide;
-  height = high;
+pub long_part : (scale : Scale) (qi w h : ℕ) (pixels : List ℕ) (source : Image) (e : EncoderState) → IsSmaller scale qi w h pixels source e
+    → source.width ≡ e.dim.w → source.height ≡ e.dim.h → IsTooLong e source → HasLongPart scale qi w h pixels
+long_part scale qi w h pixels source e s wide high long = record {
+  dim = s.dim;
+  width = s.width;
+  height = s.height;
   source = source;
-  source_width = own_width ∙ sym wide;
-  source_height = own_height ∙ sym high;
-  shown = shown;
-  long = subst (λ (x : EncoderState). IsTooLong x source) is long;
+  source_width = wide ∙ ap (λ (x : EncoderState). x.dim.w) s.first;
+  source_height = high ∙ ap (λ (x : EncoderState). x.dim.h) s.first;
+  shown = s.shown;
+  long = subst (λ (x : EncoderState). IsTooLong x source) s.first long;
 }
 
 -- ---- the packet of a frame is a shown key packet

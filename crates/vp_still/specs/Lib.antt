@@ -1,4 +1,5 @@
 pub mod Still
+pub mod Smaller
 pub mod Found
 pub mod Faults
 pub mod TooLong

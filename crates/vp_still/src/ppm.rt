@@ -54,8 +54,9 @@ fn put_rows(out: &mut Vec<u8>, dim: Dim, pixels: &[u8]) -> Result<(), AllocError
     let u = plane_at(pixels, height * width, rows * columns);
     let v = plane_at(pixels, height * width + rows * columns, rows * columns);
     for y in 0..height {
-        let [u_row, v_row] = [row_at(u, columns, y / 2), row_at(v, columns, y / 2)];
-        put_row(out, row_at(luma, width, y), u_row, v_row)?;
+        let u_row = row_at(u, columns, rows, y / 2);
+        let v_row = row_at(v, columns, rows, y / 2);
+        put_row(out, row_at(luma, width, height, y), u_row, v_row)?;
     }
     Ok(())
 }
@@ -63,15 +64,18 @@ fn put_rows(out: &mut Vec<u8>, dim: Dim, pixels: &[u8]) -> Result<(), AllocError
 // The `size` bytes of a plane that begins at byte `at`.
 fn plane_at(bytes: &[u8], at: usize, size: usize) -> &[u8]
     requires { at + size ≤ length bytes.now }
-    ensures { result.now ≡ take size (drop at bytes.now) }
+    ensures value { result.now ≡ take size (drop at bytes.now) }
+    ensures size { length result.now ≡ size }
 {
     &bytes[at..at + size]
 }
 
-// Row `y` of a plane of this width.
-fn row_at(plane: &[u8], width: usize, y: usize) -> &[u8]
-    requires { y * width + width ≤ length plane.now }
-    ensures { result.now ≡ slice_range plane.now (y * width) (y * width + width) }
+// Row `y` of a plane of this width and height.
+fn row_at(plane: &[u8], width: usize, height: usize, y: usize) -> &[u8]
+    requires size { length plane.now ≡ height * width }
+    requires row { y < height }
+    ensures value { result.now ≡ slice_range plane.now (y * width) (y * width + width) }
+    ensures size { length result.now ≡ width }
 {
     &plane[y * width..y * width + width]
 }

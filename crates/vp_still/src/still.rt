@@ -1,17 +1,20 @@
 //! The WebP file of a picture.
 
-ghost use Rattle.std.specs.Prelude.{◌≡◌, ◌≢◌, ◌⊎◌, ◌≤◌, length, None, Some, Err, IfOk, IfErr};
+ghost use Rattle.std.specs.Prelude.{◌≡◌, ◌≢◌, ◌⊎◌, ◌≤◌, ℕ, List, length, None, Some, Err, IfOk, IfErr};
+ghost use Rattle.vp_scale.specs.declared.scale.Scale.{Scale};
 ghost use Rattle.vp_scale.specs.Planes.{i420_size};
 ghost use Rattle.vp_webp.specs.declared.fault.WebPWriteFault.{WebPWriteFault};
 ghost use Rattle.vp_webp.specs.Text.{webp_text, webp_refusal};
+ghost use Rattle.vp_encode.specs.TooLong.{IsTooLong};
 ghost use Rattle.vp_still.specs.declared.fault.StillFault.{StillFault};
 ghost use Rattle.vp_still.specs.Still.{still_settings, kept_file, IsEncodedStill, IsKeyFrameFor, IsStill};
+ghost use Rattle.vp_still.specs.Smaller.{IsSmaller};
 ghost use Rattle.vp_still.specs.TooLong.{IsTooLongStill, HasLongPart};
 
 use crate::fault::StillFault;
 use crate::found::{Found, ShownPacket};
 use std::alloc::{AllocError, Global};
-use vp_base::{ByteList, Counted, Dim};
+use vp_base::{ByteList, Counted, Dim, Picture};
 use vp_encode::{EncodeFault, Encoded, Encoder, Settings};
 use vp_scale::{Scale, scaled};
 use vp_webp::{WebPWriteFault, write};
@@ -142,7 +145,19 @@ fn encode(
     let Ok(mut encoder) = Encoder::new(alloc, scale.size(dim), settings(qi)) else {
         unreachable!();
     };
-    match encoder.encode(&source) {
+    key_frame(&mut encoder, &source)
+}
+
+// Encodes the first frame of an encoder: a picture of its size.
+fn key_frame(encoder: &mut Encoder, source: &Picture) -> Result<Encoded, StillFault>
+    requires width { source.now.width ≡ encoder.old.dim.w }
+    requires height { source.now.height ≡ encoder.old.dim.h }
+    ensures frame { IfOk result (λ r. (scale : Scale) (qi w h : ℕ) (pixels : List ℕ)
+        → IsSmaller scale qi w h pixels source.now encoder.old
+        → IsKeyFrameFor scale qi w h pixels r.packet r.squared_error) }
+    ensures too_long { result ≡ Err StillFault.TooLong → IsTooLong encoder.old source.now }
+{
+    match encoder.encode(source) {
         Ok(encoded) => Ok(encoded),
         Err(EncodeFault::TooLong) => Err(StillFault::TooLong),
         Err(EncodeFault::Memory) => Err(StillFault::Memory),

@@ -1,11 +1,12 @@
 //! The picture of a WebP file.
 
-ghost use Rattle.std.specs.Prelude.{◌≡◌, ◌⊎◌, IfOk, IfErr};
+ghost use Rattle.std.specs.Prelude.{◌≡◌, ◌⊎◌, ℕ, List, None, Ok, IfOk, IfErr};
 ghost use Rattle.vp_base.specs.Image.{i420};
 ghost use Rattle.vp_webp.specs.WebP.{still_image};
+ghost use Rattle.vp_decode.specs.Step.{step};
 ghost use Rattle.vp_still.specs.declared.fault.FindFault.{FindFault};
 ghost use Rattle.vp_still.specs.Found.{IsFoundInWebP};
-ghost use Rattle.vp_still.specs.Faults.{IsFaultOfWebP};
+ghost use Rattle.vp_still.specs.Faults.{IsFaultOfStep, IsFaultOfWebP};
 
 use crate::fault::FindFault;
 use crate::found::Found;
@@ -35,11 +36,26 @@ pub fn find_in_webp(alloc: Global, file: &[u8], limits: Limits) -> Result<Found,
 {
     let image = read(file)?;
     let mut decoder = Decoder::new(alloc, limits);
+    decoded_picture(alloc, &mut decoder, &image)
+}
+
+// Decodes the packet of a file by a decoder without state. Returns its picture.
+fn decoded_picture(
+    alloc: Global,
+    decoder: &mut Decoder,
+    image: &WebP<'_>,
+) -> Result<Found, FindFault>
+    requires { decoder.old.state ≡ None }
+    ensures found { IfOk result (λ f. (file : List ℕ) → still_image file ≡ Ok image.now
+        → IsFoundInWebP decoder.old.limits file f) }
+    ensures fault { IfErr result (λ e. (e ≡ FindFault.Memory)
+        ⊎ IsFaultOfStep (step decoder.old.limits None image.now.packet).1 e) }
+{
     match decoder.decode(image.packet())? {
         Outcome::Fault(fault) => Err(FindFault::Packet(fault)),
         Outcome::Hidden => Err(FindFault::Hidden),
         Outcome::Shown => match decoder.picture() {
-            Some(picture) => Ok(found_picture(alloc, &image, picture)?),
+            Some(picture) => Ok(found_picture(alloc, image, picture)?),
             None => unreachable!(),
         },
     }
