@@ -5,12 +5,14 @@ use Rattle.std.proofs.lemmas.Nat.{row_fits}
 use Rattle.std.proofs.lemmas.Bool.{cases_lt}
 use Rattle.std.proofs.lemmas.Bool.Decides.{nat_tests}
 use Rattle.vp_base.specs.Raster.{Raster, pixel}
+use Rattle.vp_base.specs.Block.{with_block}
+use Rattle.vp_base.proofs.BlockLemmas.{with_block_same}
 use Rattle.vp_inter.specs.declared.vector.PlaneVector.{PlaneVector}
 use Rattle.vp_inter.specs.Vectors.{fraction, first_tap}
 use Rattle.vp_inter.specs.Filter.{taps, filter_six}
 use Rattle.vp_inter.specs.Inter.{reference_pixel, horizontal_pass, inter_pixel}
 use Rattle.vp_inter.specs.declared.patch.Patch.{Patch}
-use Rattle.vp_inter.specs.Patches.{raster, IsAt, IsFor, first_read, patch_pixel, patch_pass}
+use Rattle.vp_inter.specs.Patches.{raster, IsAt, IsFor, IsForRows, first_read, patch_pixel, patch_pass}
 use Rattle.vp_inter.proofs.FilterLemmas.{filter_six-same, filter_six-whole_pixels, filtered_bound}
 
 -- from column 0 on
@@ -33,29 +35,7 @@ row_more n i old new value done here before k c kin cin =
           ap (λ (j : ℕ). get_or new (j * n + c) 0) e ∙ here c cin ∙ ap (λ (j : ℕ). value j c) (sym e)
     ]
 
--- one row more of a block of rows of n
-pub rows_more : (n i : ℕ) (old new row : List ℕ) (value : ℕ → ℕ → ℕ)
-    → ((k c : ℕ) → k < i → c < n → get_or old (k * n + c) 0 ≡ value k c)
-    → ((c : ℕ) → c < n → get_or new (i * n + c) 0 ≡ get_or row c 0)
-    → ((j : ℕ) → j < i * n → get_or new j 0 ≡ get_or old j 0)
-    → ((c : ℕ) → c < n → get_or row c 0 ≡ value i c)
-    → (k c : ℕ) → k < i + 1 → c < n → get_or new (k * n + c) 0 ≡ value k c
-rows_more n i old new row value done here before last = row_more n i old new value done (λ c cin. here c cin ∙ last c cin) before
-
--- two rows more
-pub rows_two : (n i : ℕ) (old new pair : List ℕ) (value : ℕ → ℕ → ℕ)
-    → ((k c : ℕ) → k < 2 * i → c < n → get_or old (k * n + c) 0 ≡ value k c)
-    → ((c : ℕ) → c < n → get_or new (2 * i * n + c) 0 ≡ get_or pair c 0)
-    → ((c : ℕ) → c < n → get_or new ((2 * i + 1) * n + c) 0 ≡ get_or pair (8 + c) 0)
-    → ((k : ℕ) → k < 2 * i * n → get_or new k 0 ≡ get_or old k 0)
-    → ((c : ℕ) → c < n → get_or pair c 0 ≡ value (2 * i) c)
-    → ((c : ℕ) → c < n → get_or pair (8 + c) 0 ≡ value (2 * i + 1) c)
-    → (k c : ℕ) → k < 2 * (i + 1) → c < n → get_or new (k * n + c) 0 ≡ value k c
-rows_two n i old new pair value done first second before one two k c kin cin =
-    row_more n (2 * i + 1) new new value (row_more n (2 * i) old new value done (λ j jin. first j jin ∙ one j jin) before) (λ j jin. second j jin ∙ two j jin) (λ j jin. refl)
-    k c (omega arith) cin
-
--- both passes, of weights and places that are as they should be
+-- both passes
 pub inter_passes : (version : ℕ) (p : Raster) (x y : ℕ) (v : PlaneVector) (r c : ℕ)
     → filter_six (taps version (fraction v.row)) (λ k. horizontal_pass (taps version (fraction v.column)) p (first_tap x v.column) (first_tap y v.row) (r + k) c) ≡ inter_pixel version p x y v r c
 unfolding inter_pixel
@@ -159,8 +139,11 @@ read_own at h n same none = ap (first_read at) (sym same ∙ none)
 pub read_first : (at h n : ℕ) → h ≡ n → (h ≡ 0 → ⊥) → first_read at n ≡ at
 read_first at h n same some = let none : n ≡ 0 → ⊥ = λ e. some (same ∙ e) in grind (arith, nat_tests)
 
+pub rows_read : (q : Patch) (p : Raster) (x y : ℕ) (v : PlaneVector) (i : ℕ) → IsForRows q p x y v → first_read x (fraction v.column) ≡ i → IsAt q p i y v
+rows_read q p x y v i is left = (is.0.0, is.0.1 ∙ ap (λ (n : ℕ). first_tap n v.column) left, is.0.2)
+
 pub reads : (q : Patch) (p : Raster) (x y : ℕ) (v : PlaneVector) (i j : ℕ) → IsFor q p x y v → first_read x (fraction v.column) ≡ i → first_read y (fraction v.row) ≡ j → IsAt q p i j v
-reads q p x y v i j is left top = (is.0.0, is.0.1 ∙ ap (λ (n : ℕ). first_tap n v.column) left, is.0.2 ∙ ap (λ (n : ℕ). first_tap n v.row) top)
+reads q p x y v i j is left top = subst (λ (n : ℕ). IsAt q p i n v) top (rows_read q p x (first_read y (fraction v.row)) v i is left)
 
 -- the horizontal pass by weights that are known
 pub patch_rows : (p : Raster) (x y : ℕ) (v : PlaneVector) (i c : ℕ) (q : Patch) (weights horizontal : List ℤ) → IsAt q p x y v → weights ≡ horizontal
@@ -186,13 +169,17 @@ patch_vertical version p x y v r c q vertical at none bytes e =
     (λ k kin. patch_horizontal version p x y v (r + k) c q at none bytes)
     ∙ inter_passes version p x y v r c
 
--- a block that lies inside the reference and is moved by whole pixels
-pub inter_copied : (version : ℕ) (p : Raster) (x y : ℕ) (v : PlaneVector) (column row r c : ℕ) → column + c < p.width → row + r < p.height
-    → pos column ≡ first_tap (x + 2) v.column → pos row ≡ first_tap (y + 2) v.row → fraction v.row ≡ 0 → fraction v.column ≡ 0
-    → pixel p (column + c) (row + r) ≤ 255 → pixel p (column + c) (row + r) ≡ inter_pixel version p x y v r c
-inter_copied version p x y v column row r c xin yin left top rows columns byte =
-    let at : pixel p (column + c) (row + r) ≡ reference_pixel p (first_tap x v.column +ℤ pos 2 +ℤ pos c) (first_tap y v.row +ℤ pos 2 +ℤ pos r) =
-    sym (inside_pixel p (column + c) (row + r) xin yin)
-    ∙ ap (λ (z : ℤ). reference_pixel p (z +ℤ pos c) (pos row +ℤ pos r)) (left ∙ further x v.column)
-    ∙ ap (λ (z : ℤ). reference_pixel p (first_tap x v.column +ℤ pos 2 +ℤ pos c) (z +ℤ pos r)) (top ∙ further y v.row) in
-    at ∙ inter_whole version p x y v r c rows columns (subst (λ (n : ℕ). n ≤ 255) at byte)
+-- a block that is inside the reference, copied by a vector of whole pixels
+pub copied : (version n x y column row : ℕ) (v : PlaneVector) (from p q : Raster) → from ≡ p → column + n ≤ p.width → row + n ≤ p.height
+    → pos column ≡ first_tap (x + 2) v.column → pos row ≡ first_tap (y + 2) v.row → fraction v.column ≡ 0 → fraction v.row ≡ 0
+    → ((i j : ℕ) → i < n → j < n → pixel from (column + j) (row + i) ≤ 255)
+    → with_block q x y n n (λ i j. pixel from (column + j) (row + i)) ≡ with_block q x y n n (inter_pixel version p x y v)
+copied version n x y column row v from p q is xin yin left top columns rows bytes =
+    with_block_same q x y n n (λ i j. pixel from (column + j) (row + i)) (inter_pixel version p x y v)
+    (λ i j iin jin.
+    let at : pixel from (column + j) (row + i) ≡ reference_pixel p (first_tap x v.column +ℤ pos 2 +ℤ pos j) (first_tap y v.row +ℤ pos 2 +ℤ pos i) =
+    ap (λ (s : Raster). pixel s (column + j) (row + i)) is
+    ∙ sym (inside_pixel p (column + j) (row + i) (omega arith) (omega arith))
+    ∙ ap (λ (z : ℤ). reference_pixel p (z +ℤ pos j) (pos row +ℤ pos i)) (left ∙ further x v.column)
+    ∙ ap (λ (z : ℤ). reference_pixel p (first_tap x v.column +ℤ pos 2 +ℤ pos j) (z +ℤ pos i)) (top ∙ further y v.row) in
+    at ∙ inter_whole version p x y v i j rows columns (subst (λ (n : ℕ). n ≤ 255) at (bytes i j iin jin)))

@@ -1,28 +1,15 @@
 -- Lemmas on blocks that are written to a picture, and on rows of them.
-use Rattle.std.proofs.Common.{◌≡◌, ◌∙◌, ℕ, ◌+◌, ◌-◌, ◌*◌, ◌<◌, ◌≤◌, Bool, true, cond, List, ◌++◌, length, take, drop, get_or, refl, ap, sym, arith, length-append, length-drop}
+use Rattle.std.proofs.Common.{◌≡◌, ◌∙◌, ℕ, ◌+◌, ◌-◌, ◌*◌, ◌<◌, ◌≤◌, ◌⊎◌, inl, inr, Bool, true, cond, List, ◌++◌, length, take, drop, get_or, refl, ap, sym, arith, length-append, length-drop}
 use Rattle.std.proofs.lemmas.Simd.{put_chunk_is, length-put_chunk}
 use Rattle.std.proofs.lemmas.List.{length-take, take_all, take-append-le}
 use Rattle.std.proofs.lemmas.Nat.{row_fits}
 use Rattle.std.proofs.lemmas.Bool.Decides.{nat_tests}
 use lib.Lanes.{put_chunk}
 use Rattle.vp_base.specs.Raster.{Raster, pixel_index, overlay, with_pixels}
-use Rattle.vp_base.specs.Block.{IsWhole, is_in_block, with_block, written}
-use Rattle.vp_base.specs.Image.{Image, plane_of, with_plane}
+use Rattle.vp_base.specs.Block.{IsWhole, is_in_block, with_block}
 use Rattle.vp_base.proofs.BlockLemmas.{pixel-with_block, with_block_none, with_block_more, with_block_same}
 use Rattle.vp_base.proofs.RasterLemmas.{raster}
-use Rattle.vp_inter.specs.declared.vector.PlaneVector.{PlaneVector}
-use Rattle.vp_inter.specs.Inter.{inter_pixel}
 use Rattle.vp_inter.specs.Written.{IsBlockWritten}
-
--- a block of n by n pixels that was predicted, written to a picture that nothing was copied to
-pub predicted : (version : ℕ) (reference : Raster) (x y : ℕ) (v : PlaneVector) (n k : ℕ) (old now new : Image) (block : List ℕ) → now ≡ old
-    → new ≡ with_plane now k (with_block (plane_of now k) x y n n (λ i j. get_or block (i * n + j) 0))
-    → ((i j : ℕ) → i < n → j < n → get_or block (i * n + j) 0 ≡ inter_pixel version reference x y v i j)
-    → new ≡ with_plane old k (with_block (plane_of old k) x y n n (inter_pixel version reference x y v))
-predicted version reference x y v n k old now new block kept written pixels =
-    written
-    ∙ ap (with_plane now k) (with_block_same (plane_of now k) x y n n (λ i j. get_or block (i * n + j) 0) (inter_pixel version reference x y v) pixels)
-    ∙ ap (λ (p : Image). with_plane p k (with_block (plane_of p k) x y n n (inter_pixel version reference x y v))) kept
 
 -- ---- rows of a block
 
@@ -72,8 +59,9 @@ written_alike n h old new at stride f g done same = record {
 in_whole : (n h x y : ℕ) → x < n → y < h → is_in_block 0 0 n h x y ≡ true
 in_whole n h x y xin yin = grind (arith, nat_tests)
 
-pub array_room : (n h size : ℕ) → size ≡ h * n → (r : ℕ) → r < h → 0 + r * n + n ≤ size
-array_room n h size whole r below = let room : r * n + n ≤ h * n = row_fits r n h n below (omega arith) in omega arith
+-- four or eight columns are among eight
+pub within : (n k : ℕ) → (n ≡ 4) ⊎ (n ≡ 8) → k < n → k < 8
+within n k size h = elim size [ inl four ↦ omega arith | inr eight ↦ omega arith ]
 
 -- all bytes are written
 pub in_array : (n h : ℕ) (old new : List ℕ) (f : ℕ → ℕ → ℕ) → length old ≡ h * n → IsBlockWritten n h old new 0 n f
@@ -99,10 +87,9 @@ plane_room p x y n h stride size wide whole columns rows r below =
     rw wide (omega arith)
 
 -- a block is written in the bytes of a plane, which are lent and put back
-pub block_put : (p : Image) (k x y n h stride : ℕ) (f : ℕ → ℕ → ℕ) (bytes new : List ℕ) → let q : Raster = plane_of p k in IsWhole q → stride ≡ q.width → bytes ≡ q.pixels → x + n ≤ q.width → y + h ≤ q.height
-    → IsBlockWritten n h bytes new (y * stride + x) stride f → with_plane p k (with_pixels q new) ≡ with_plane p k (with_block q x y n h f)
-block_put p k x y n h stride f bytes new whole wide same columns rows done =
-    let q : Raster = plane_of p k in
+pub block_put : (q : Raster) (x y n h stride : ℕ) (f : ℕ → ℕ → ℕ) (bytes new : List ℕ) → IsWhole q → stride ≡ q.width → bytes ≡ q.pixels → x + n ≤ q.width → y + h ≤ q.height
+    → IsBlockWritten n h bytes new (y * stride + x) stride f → with_pixels q new ≡ with_block q x y n h f
+block_put q x y n h stride f bytes new whole wide same columns rows done =
     let start : y * stride + x ≡ y * q.width + x = ap (λ (w : ℕ). y * w + x) wide in
-    ap (λ (ns : List ℕ). with_plane p k (raster q.width q.height ns)) (over_all q.pixels new (done.len ∙ ap length same)
+    ap (raster q.width q.height) (over_all q.pixels new (done.len ∙ ap length same)
     ∙ done.value q x y (record { whole = whole; same = sym same; wide = sym wide; start = start; columns = columns; rows = rows }))

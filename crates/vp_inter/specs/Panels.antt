@@ -2,7 +2,7 @@
 use Rattle.std.specs.Prelude.{◌≡◌, ◌+◌, ◌*◌, ◌<◌, ℕ, ℤ, List, slice_index}
 use Rattle.vp_inter.specs.Filter.{filter_six}
 use Rattle.vp_inter.specs.declared.panel.Panel.{Panel}
-use Rattle.vp_inter.specs.declared.six_tap_2d.Pair.{Pair}
+use Rattle.vp_inter.specs.declared.panel.Pair.{Pair}
 
 -- a chain of rows of eight pixels: every third row from row `from` on
 abbrev pub HoldsRows : List ℕ → (ℕ → ℕ → ℕ) → ℕ → ℕ → Type 0
@@ -27,9 +27,9 @@ IsPanelOf rows panel pixel = (rows ≡ 13 → IsShortPanel panel pixel) × (rows
 abbrev pub IsPaired : List ℕ → (ℕ → ℕ → ℕ) → ℕ → Type 0
 IsPaired pair pixel r = (j t : ℕ) → j < 8 → t < 2 → slice_index pair (2 * j + t) ≡ pixel (r + 3 * t) j
 
--- places that interleave the two halves of a vector
+-- indices that interleave the two halves of a vector
 abbrev pub Interleave : List ℕ → Type 0
-Interleave places = (j t : ℕ) → j < 8 → t < 2 → slice_index places (2 * j + t) ≡ 8 * t + j
+Interleave indices = (j t : ℕ) → j < 8 → t < 2 → slice_index indices (2 * j + t) ≡ 8 * t + j
 
 -- 21 rows of sixteen pixels in two panels
 abbrev pub ArePanels : Panel → Panel → (ℕ → ℕ → ℕ) → Type 0

@@ -23,11 +23,14 @@ IsAt p plane x y v = (raster p ≡ plane) × (p.left ≡ first_tap x v.column) �
 abbrev pub first_read : ℕ → ℕ → ℕ
 first_read at eighths = if eighths == 0 then at + 2 else at
 
--- the place that the block at column x of row y is predicted from, displaced by vector v, in a plane of bytes
+-- the place that rows of the block at column x of row y are predicted from, displaced by vector v, in a plane of bytes
+abbrev pub IsForRows : Patch → Raster → ℕ → ℕ → PlaneVector → Type 0
+IsForRows p plane x y v =
+    IsAt p plane (first_read x (fraction v.column)) y v × ((column row : ℤ) → reference_pixel plane column row ≤ 255)
+
+-- the place that the block is predicted from, in rows and columns
 abbrev pub IsFor : Patch → Raster → ℕ → ℕ → PlaneVector → Type 0
-IsFor p plane x y v =
-    IsAt p plane (first_read x (fraction v.column)) (first_read y (fraction v.row)) v
-    × ((column row : ℤ) → reference_pixel plane column row ≤ 255)
+IsFor p plane x y v = IsForRows p plane x (first_read y (fraction v.row)) v
 
 -- the first n columns are inside the plane
 abbrev pub HasColumns : Patch → ℕ → Type 0
@@ -57,9 +60,3 @@ Selects filter p from =
     → (filter.start + slice_index filter.first i ≡ nearest p.width (p.left +ℤ pos (from + (i / 2 + 3 * (i % 2)))))
     × (filter.start + slice_index filter.second i ≡ nearest p.width (p.left +ℤ pos (from + (i / 2 + 3 * (i % 2) + 1))))
     × (filter.start + slice_index filter.third i ≡ nearest p.width (p.left +ℤ pos (from + (i / 2 + 3 * (i % 2) + 2))))
-
--- the sizes of a prediction of n by n pixels: n + 5 rows of n pixels, and the block
-abbrev pub AreSizes : ℕ → ℕ → ℕ → Type 0
-AreSizes n between square =
-    (0 < n) × (n ≤ 16) × (between ≡ (n + 5) * n) × (between ≤ 336) × (square ≡ n * n) × (square ≤ 256)
-    × (square % 16 ≡ 0)

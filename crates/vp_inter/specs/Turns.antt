@@ -16,7 +16,7 @@ one_of_three a b c zero = a
 one_of_three a b c (suc zero) = b
 one_of_three a b c (suc (suc _)) = c
 
--- three vectors of places are lanes of a vector of sixteen
+-- three vectors of indices are lanes of a vector of sixteen
 abbrev pub AreLanes : List ℕ → List ℕ → List ℕ → Type 0
 AreLanes first second third =
     (k : ℕ) → k < 16 → (slice_index first k < 16) × (slice_index second k < 16) × (slice_index third k < 16)

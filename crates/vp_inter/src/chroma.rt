@@ -7,16 +7,16 @@ ghost use Rattle.vp_inter.specs.Inter.{inter_pixel};
 ghost use Rattle.vp_inter.specs.Chroma.{with_chroma, HasChroma};
 ghost use Rattle.vp_inter.specs.Vectors.{fraction};
 
-use crate::block::{predict_into8, whole_place};
+use crate::block::{predict_into, whole_place};
 use crate::filter::taps;
 use crate::panel::{empty_panel, horizontal_to_panel, panel_filter, vertical_from_panel};
 use crate::patch::Patch;
-use crate::short_rows::rows_by_filter;
-use crate::six_tap_1d::horizontal_filter;
+use crate::rows::short_rows;
+use crate::six_tap::horizontal_filter;
 use crate::vector::PlaneVector;
 use vp_base::Picture;
 
-/// Predicts the 8x8 blocks of both chroma planes at column `x` of row `y`, as `predict_into8` does each.
+/// Predicts the 8x8 blocks of both chroma planes at column `x` of row `y`, as `predict_into` does each.
 pub fn predict_into_chroma(
     picture: &mut Picture,
     x: usize,
@@ -42,8 +42,8 @@ pub fn predict_into_chroma(
     let u = reference.plane(1);
     let v = reference.plane(2);
     if vector.horizontal_fraction() == 0 || u.width() < 16 {
-        predict_into8(picture, 1, x, y, u, vector, version);
-        predict_into8(picture, 2, x, y, v, vector, version);
+        predict_into::<8>(picture, 1, x, y, u, vector, version);
+        predict_into::<8>(picture, 2, x, y, v, vector, version);
     } else if vector.vertical_fraction() == 0 {
         horizontal_into_chroma(picture, x, y, reference, vector, version);
     } else {
@@ -94,17 +94,16 @@ fn horizontal_into_chroma(
     ensures { picture.new ≡ with_chroma picture.old reference.now x y vector version }
 {
     let _known = [picture.plane(1).width(), picture.plane(1).height()];
-    let _known = reference.dim();
+    let _known = [reference.dim(), picture.dim()];
     let u = reference.plane(1);
     let v = reference.plane(2);
     let from_u = Patch::at(u, x, y + 2, vector);
     let from_v = Patch::at(v, x, y + 2, vector);
     let filter = horizontal_filter(&from_u, 0, taps(version, vector.horizontal_fraction()));
-    let mut block = [0; 64];
-    rows_by_filter::<8>(&mut block, &from_u, &filter, 8);
-    picture.write_block::<8>(1, x, y, &block);
-    rows_by_filter::<8>(&mut block, &from_v, &filter, 8);
-    picture.write_block::<8>(2, x, y, &block);
+    let stride = picture.plane(1).width();
+    let at = y * stride + x;
+    short_rows::<8>(picture.pixels_mut(1), at, stride, &from_u, &filter, 8);
+    short_rows::<8>(picture.pixels_mut(2), at, stride, &from_v, &filter, 8);
 }
 
 /// Predicts both chroma blocks by both passes.
@@ -123,7 +122,7 @@ fn filter_into_chroma(
     ensures { picture.new ≡ with_chroma picture.old reference.now x y vector version }
 {
     let _known = [picture.plane(1).width(), picture.plane(1).height()];
-    let _known = reference.dim();
+    let _known = [reference.dim(), picture.dim()];
     let u = reference.plane(1);
     let v = reference.plane(2);
     let from_u = Patch::at(u, x, y, vector);
@@ -131,11 +130,10 @@ fn filter_into_chroma(
     let filter = horizontal_filter(&from_u, 0, taps(version, vector.horizontal_fraction()));
     let vertical = panel_filter(taps(version, vector.vertical_fraction()));
     let mut panel = empty_panel();
-    let mut block = [0; 64];
+    let stride = picture.plane(1).width();
+    let at = y * stride + x;
     horizontal_to_panel::<13>(&mut panel, &from_u, &filter);
-    vertical_from_panel(&mut block, &panel, &vertical);
-    picture.write_block::<8>(1, x, y, &block);
+    vertical_from_panel(picture.pixels_mut(1), at, stride, &panel, &vertical);
     horizontal_to_panel::<13>(&mut panel, &from_v, &filter);
-    vertical_from_panel(&mut block, &panel, &vertical);
-    picture.write_block::<8>(2, x, y, &block);
+    vertical_from_panel(picture.pixels_mut(2), at, stride, &panel, &vertical);
 }

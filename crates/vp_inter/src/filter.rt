@@ -57,7 +57,7 @@ pub(crate) fn load<const N: usize>(s: &[u8], at: usize) -> Simd<u8, N>
     Simd::from_slice(&s[at..])
 }
 
-/// The weighted sum of the two middle pixels, plus 64 for rounding, minus 16384 so that it fits in i16.
+/// The weighted sum of the two middle pixels, and the offset that `rounded_pixels` explains.
 fn middle_pair_sum<const N: usize>(
     a: Simd<u8, N>,
     b: Simd<u8, N>,
@@ -95,7 +95,11 @@ fn more<const N: usize>(
     sum + (a.cast::<i16>() * Simd::splat(weight_a) + b.cast::<i16>() * Simd::splat(weight_b))
 }
 
-/// The filtered pixels: 128ths of the sums, rounded down, with the bias restored, and clamped to 0 to 255.
+/// The filtered pixels: 128ths of the sums, rounded to the nearest, and clamped to 0 to 255.
+///
+/// A weighted sum of six pixels is from -8,160 to 40,800, which i16 doesn't hold. So each sum has an offset of
+/// 64 - 16,384: 64 is for rounding, and without 16,384 the sum is from -24,480 to 24,480. The division by 128 makes 128
+/// of 16,384. This is added back after the clamp, which is therefore to -128 to 127.
 pub(crate) fn rounded_pixels<const N: usize>(sum: Simd<i16, N>) -> Simd<u8, N>
     requires { N ≤ 16 }
     ensures { (j : ℕ) → j < N → slice_index result j ≡ clamp_to_byte (floor_div (lane sum.entry j) 128 +ℤ pos 128) }

@@ -4,10 +4,11 @@ ghost use Rattle.std.specs.Prelude.{◌≡◌, ℕ, ◌+◌, ◌*◌, ◌<◌, �
 ghost use Rattle.vp_inter.specs.Filter.{taps, filter_six};
 ghost use Rattle.vp_inter.specs.Filtered.{AreFiltered};
 
-use crate::block::{copy_rows, other_rows};
+use crate::block::first_of_patch;
 use crate::filter::taps;
 use crate::patch::Patch;
-use crate::six_tap_1d::{pair_rows, paired_weights, vertical_sixteen, vertical_wide_rows};
+use crate::rows::rows_between;
+use crate::six_tap::{pair_rows, paired_weights, vertical_sixteen, vertical_wide_rows};
 use crate::vector::PlaneVector;
 use crate::weights::PairWeights;
 use std::marker::Model;
@@ -83,13 +84,9 @@ impl FilteredRows {
         requires high { 0 < plane.now.height }
         ensures { AreFiltered plane.now x y vector self.new }
     {
-        let horizontal = vector.horizontal_fraction();
-        if horizontal == 0 {
-            copy_rows::<16>(&mut self.rows, &Patch::at(plane, x + 2, y, vector), 22);
-        } else {
-            let patch = Patch::at(plane, x, y, vector);
-            other_rows::<16>(&mut self.rows, &patch, taps(0, horizontal), 22);
-        }
+        let column = first_of_patch(x, vector.horizontal_fraction());
+        let patch = Patch::at(plane, column, y, vector);
+        rows_between::<16>(&mut self.rows, &patch, vector, 0, 22);
         pair_rows::<19>(&mut self.pairs, &self.rows);
     }
 

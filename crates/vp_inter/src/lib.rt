@@ -3,23 +3,18 @@
 #![tactic(auto)]
 
 mod block;
-mod block16;
 mod chroma;
 mod filter;
 mod filtered;
-mod madd;
 mod panel;
 mod patch;
 mod reference;
-mod short_rows;
-mod six_tap_1d;
-mod six_tap_2d;
+mod rows;
+mod six_tap;
 mod vector;
 mod weights;
 
-pub use block::{
-    predict_block4, predict_block8, predict_block16, predict_into4, predict_into8, predict_into16,
-};
+pub use block::{predict_block, predict_into};
 pub use chroma::predict_into_chroma;
 pub use filtered::{FilteredRows, VerticalFilter};
 pub use reference::nearest;

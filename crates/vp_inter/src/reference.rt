@@ -7,9 +7,9 @@ ghost use Rattle.vp_inter.specs.Inter.{nearest, reference_pixel};
 ghost use Rattle.vp_inter.specs.Narrow.{IsNear, IsNearWithin};
 ghost use Rattle.vp_inter.specs.Patches.{raster, patch_pixel, IsAt, HasColumns, HasRows};
 
-use crate::block::put_lanes;
 use crate::filter::load;
 use crate::patch::Patch;
+use crate::rows::put_lanes;
 use crate::vector::{PlaneVector, first_tap};
 use std::simd::prelude::*;
 use vp_base::Plane;
@@ -131,35 +131,35 @@ pub(crate) fn reference_line(patch: &Patch, i: usize) -> [u8; 32]
 
 /// Sixteen consecutive entries select lanes of a vector of sixteen: from entry 16 on all of them in order. Earlier
 /// entries repeat the first lane, later ones the last.
-const PLACES: [u8; 48] = [
+const INDICES: [u8; 48] = [
     0, 0, 0, 0, 0, 0, 0, 0, 0, 0, 0, 0, 0, 0, 0, 0, 0, 1, 2, 3, 4, 5, 6, 7, 8, 9, 10, 11, 12, 13,
     14, 15, 15, 15, 15, 15, 15, 15, 15, 15, 15, 15, 15, 15, 15, 15, 15, 15,
 ];
 
 /// Sixteen entries of that table.
 #[inline(always)]
-fn places(from: usize) -> u8x16
+fn indices(from: usize) -> u8x16
     requires { from ≤ 32 }
     ensures { (c : ℕ) → c < 16 → slice_index result c ≡ min (from + c - 16) 15 }
 {
-    load(&PLACES, from)
+    load(&INDICES, from)
 }
 
 /// Selects the lanes at these indices.
 #[inline(always)]
-pub(crate) fn shuffle(lanes: u8x16, places: u8x16) -> u8x16
-    requires { (c : ℕ) → c < 16 → slice_index places c < 16 }
-    ensures { (c : ℕ) → c < 16 → slice_index result c ≡ slice_index lanes (slice_index places c) }
+pub(crate) fn shuffle(lanes: u8x16, indices: u8x16) -> u8x16
+    requires { (c : ℕ) → c < 16 → slice_index indices c < 16 }
+    ensures { (c : ℕ) → c < 16 → slice_index result c ≡ slice_index lanes (slice_index indices c) }
 {
-    lanes.swizzle_dyn(places)
+    lanes.swizzle_dyn(indices)
 }
 
-/// Where sixteen consecutive pixels of an extended row are in the row itself: each lane of `places` is an index among
-/// the sixteen pixels from `first` on.
+/// Where sixteen consecutive pixels of an extended row are in the row itself: each lane of `indices` is an index among
+/// the sixteen pixels from `start` on.
 #[derive(Clone, Copy)]
 pub(crate) struct Span {
-    pub(crate) first: usize,
-    pub(crate) places: u8x16,
+    pub(crate) start: usize,
+    pub(crate) indices: u8x16,
 }
 
 /// The span of the sixteen pixels from column `at` on, in a row of `size` pixels.
@@ -167,15 +167,15 @@ pub(crate) struct Span {
 pub(crate) fn span_of(size: usize, at: i32) -> Span
     requires some { 16 ≤ size }
     requires near { IsNearWithin 16 at }
-    ensures room { result.first + 16 ≤ size }
-    ensures lanes { (c : ℕ) → c < 16 → slice_index result.places c < 16 }
-    ensures places { (c : ℕ) → c < 16 → result.first + slice_index result.places c ≡ nearest size (at +ℤ pos c) }
+    ensures room { result.start + 16 ≤ size }
+    ensures lanes { (c : ℕ) → c < 16 → slice_index result.indices c < 16 }
+    ensures indices { (c : ℕ) → c < 16 → result.start + slice_index result.indices c ≡ nearest size (at +ℤ pos c) }
 {
-    let first = nearest(at, size - 15);
-    let from = (at - first as i32 + 16).clamp(0, 32);
+    let start = nearest(at, size - 15);
+    let from = (at - start as i32 + 16).clamp(0, 32);
     Span {
-        first,
-        places: places(from as usize),
+        start,
+        indices: indices(from as usize),
     }
 }
 
@@ -187,7 +187,7 @@ fn sixteen(line: &[u8], at: i32) -> u8x16
     ensures { (c : ℕ) → c < 16 → slice_index result c ≡ slice_index line.now (nearest (length line.now) (at +ℤ pos c)) }
 {
     let span = span_of(line.len(), at);
-    shuffle(load(line, span.first), span.places)
+    shuffle(load(line, span.start), span.indices)
 }
 
 /// The 32 pixels of a row from column `left` on, extended by its border pixels, one by one.

@@ -1,4 +1,4 @@
-//! Filter weights and places in vectors, for multiply-add of bytes (RFC 6386, chapter 18.3).
+//! Filter weights and indices in vectors, for multiply-add of bytes (RFC 6386, chapter 18.3).
 
 ghost use Rattle.vp_inter.specs.Narrow.{SumsFitI16};
 ghost use Rattle.vp_inter.specs.Turns.{first_weights, AreByTurns, AreLanes};
@@ -18,7 +18,7 @@ pub(crate) struct PairWeights {
 
 /// How eight pixels of a row are filtered: from sixteen pixels of the plane, which begin at column `start`. Each
 /// vector selects pairs of them, a pixel and the one three to the right: from the first, the second and the third of
-/// the six pixels on. The places come from memory: the compiler would see through constant ones, and then doesn't
+/// the six pixels on. The indices come from memory: the compiler would see through constant ones, and then doesn't
 /// select the multiply-add instruction.
 #[derive(Clone, Copy)]
 pub(crate) struct HorizontalFilter {

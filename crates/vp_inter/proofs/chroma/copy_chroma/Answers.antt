@@ -1,24 +1,11 @@
-use Rattle.std.proofs.Common.{◌≡◌, ◌∙◌, ◌+◌, ◌<◌, ◌≤◌, ℕ, pos, ap, subst, arith}
-use Rattle.vp_base.specs.Raster.{Raster, pixel}
+use Rattle.std.proofs.Common.{◌≡◌, ◌∙◌, ℕ, ap, arith}
+use Rattle.vp_base.specs.Raster.{Raster}
 use Rattle.vp_base.specs.Block.{with_block}
 use Rattle.vp_base.specs.Image.{Image, plane_of, with_plane}
-use Rattle.vp_base.proofs.BlockLemmas.{with_block_same}
 use Rattle.vp_inter.specs.declared.vector.PlaneVector.{PlaneVector}
-use Rattle.vp_inter.specs.Vectors.{fraction, first_tap}
 use Rattle.vp_inter.specs.Inter.{inter_pixel}
-use Rattle.vp_inter.proofs.PassLemmas.{inter_copied}
+use Rattle.vp_inter.proofs.PassLemmas.{copied}
 use Rattle.vp_inter.proofs.chroma.copy_chroma.Goals as goal
-
-copied : (version x y column row : ℕ) (v : PlaneVector) (from ref q : Raster) → from ≡ ref → column + 8 ≤ ref.width → row + 8 ≤ ref.height
-    → pos column ≡ first_tap (x + 2) v.column → pos row ≡ first_tap (y + 2) v.row → fraction v.column ≡ 0 → fraction v.row ≡ 0
-    → ((i j : ℕ) → i < 8 → j < 8 → pixel from (column + j) (row + i) ≤ 255)
-    → with_block q x y 8 8 (λ i j. pixel from (column + j) (row + i)) ≡ with_block q x y 8 8 (inter_pixel version ref x y v)
-copied version x y column row v from ref q is columns rows left top across down bytes =
-    with_block_same q x y 8 8 (λ i j. pixel from (column + j) (row + i)) (inter_pixel version ref x y v)
-    (λ i j iin jin.
-    ap (λ (s : Raster). pixel s (column + j) (row + i)) is
-    ∙ inter_copied version ref x y v column row i j (omega arith) (omega arith) left top down across
-    (subst (λ (s : Raster). pixel s (column + j) (row + i) ≤ 255) is (bytes i j iin jin)))
 
 pub returns-clause-written : goal.returns-clause-written
 returns-clause-written c version done =
@@ -35,9 +22,9 @@ returns-clause-written c version done =
     let place = c.in-Some.ensures.place in
     let whole = c.in-Some.ensures.whole in
     let first = c.copy_block.ensures.value
-    ∙ ap (with_plane p 1) (copied version x y c.in-Some.column c.in-Some.row v c.plane-u.result.now ref.u p.u c.plane-u.ensures (omega (arith, inside, wide)) (omega (arith, inside, high))
+    ∙ ap (with_plane p 1) (copied version 8 x y c.in-Some.column c.in-Some.row v c.plane-u.result.now ref.u p.u c.plane-u.ensures (omega (arith, inside, wide)) (omega (arith, inside, high))
     place.0 place.1 whole.0 whole.1 c.copy_block.ensures.bytes) in
     c.copy_block-2.ensures.value
-    ∙ ap (with_plane now 2) (copied version x y c.in-Some.column c.in-Some.row v c.plane-v.result.now ref.v (plane_of now 2) c.plane-v.ensures (omega (arith, inside, wide, aligned)) (omega (arith, inside, high, aligned))
+    ∙ ap (with_plane now 2) (copied version 8 x y c.in-Some.column c.in-Some.row v c.plane-v.result.now ref.v (plane_of now 2) c.plane-v.ensures (omega (arith, inside, wide, aligned)) (omega (arith, inside, high, aligned))
     place.0 place.1 whole.0 whole.1 c.copy_block-2.ensures.bytes)
     ∙ ap (λ (i : Image). with_plane i 2 (with_block (plane_of i 2) x y 8 8 (inter_pixel version ref.v x y v))) first

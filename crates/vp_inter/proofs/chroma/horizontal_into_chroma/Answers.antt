@@ -1,20 +1,28 @@
-use Rattle.std.proofs.Common.{◌∙◌, ◌+◌, ◌*◌, ℕ, get_or, ap, subst, arith}
-use Rattle.vp_base.specs.Raster.{Raster}
+use Rattle.std.proofs.Common.{◌≡◌, ◌∙◌, ◌+◌, ◌*◌, ℕ, length, ap, sym, subst, arith}
+use Rattle.vp_base.specs.Raster.{Raster, with_pixels}
 use Rattle.vp_base.specs.Block.{with_block}
-use Rattle.vp_base.specs.Image.{Image, plane_of, with_plane}
-use Rattle.vp_base.proofs.BlockLemmas.{with_block_same}
+use Rattle.vp_base.specs.Image.{Image}
 use Rattle.vp_inter.specs.declared.vector.PlaneVector.{PlaneVector}
 use Rattle.vp_inter.specs.Filter.{taps}
 use Rattle.vp_inter.specs.Inter.{inter_pixel}
-use Rattle.vp_inter.specs.Patches.{IsAt}
-use Rattle.vp_inter.proofs.ChromaLemmas.{other_plane}
+use Rattle.vp_inter.specs.Patches.{IsAt, patch_pass, weights_of}
 use Rattle.vp_inter.proofs.PassLemmas.{patch_level}
+use Rattle.vp_inter.proofs.WrittenLemmas.{block_put, plane_room, written_alike}
 use Rattle.vp_inter.proofs.chroma.horizontal_into_chroma.Goals as goal
+
+pub short_rows-requires-clause-room : goal.short_rows-requires-clause-room
+short_rows-requires-clause-room c =
+    let wide : c.width-stride.result ≡ c.args.picture.now.u.width = c.width-stride.ensures.value ∙ ap (λ (s : Raster). s.width) c.plane-3.ensures in
+    plane_room c.args.picture.now.u c.args.x c.args.y 8 8 c.width-stride.result _ wide c.pixels_mut.ensures.len c.requires.room.0 c.requires.room.1
+
+pub short_rows-requires-2-clause-room : goal.short_rows-requires-2-clause-room
+short_rows-requires-2-clause-room c =
+    let wide : c.width-stride.result ≡ c.args.picture.now.u.width = c.width-stride.ensures.value ∙ ap (λ (s : Raster). s.width) c.plane-3.ensures in
+    plane_room c.args.picture.now.v c.args.x c.args.y 8 8 c.width-stride.result _ (omega (arith, wide, c.dim-2.ensures.aligned)) c.pixels_mut-2.ensures.len c.requires.room.2 c.requires.room.3
 
 pub returns : goal.returns
 returns c =
     let p : Image = c.args.picture.now in
-    let now : Image = c.write_block.new.self in
     let ref : Image = c.args.reference.now in
     let version : ℕ = c.args.version in
     let x : ℕ = c.args.x in
@@ -24,14 +32,17 @@ returns c =
     let from_v = c.at-from_v.result in
     let at_u = subst (λ (s : Raster). IsAt from_u s x (y + 2) v) c.plane-u.ensures c.at-from_u.ensures.place in
     let at_v = subst (λ (s : Raster). IsAt from_v s x (y + 2) v) c.plane-v.ensures c.at-from_v.ensures.place in
-    let aligned = c.dim-known.ensures.aligned in
-    let selects = c.horizontal_filter-filter.ensures.places in
-    let also = other_plane c.horizontal_filter-filter.result from_u from_v ref.u ref.v x (y + 2) v at_u at_v (omega (arith, aligned)) selects in
+    let stride : ℕ = c.width-stride.result in
+    let wide_u : stride ≡ p.u.width = c.width-stride.ensures.value ∙ ap (λ (s : Raster). s.width) c.plane-3.ensures in
+    let wide_v : stride ≡ p.v.width = omega (arith, wide_u, c.dim-2.ensures.aligned) in
     let horizontal = c.horizontal_filter-filter.ensures.weights ∙ c.taps.ensures ∙ ap (taps version) c.horizontal_fraction.ensures.value in
-    let first = c.write_block.ensures
-    ∙ ap (with_plane p 1) (with_block_same p.u x y 8 8 (λ i j. get_or c.rows_by_filter.new.pixels (i * 8 + j) 0) (inter_pixel version ref.u x y v)
-    (λ i j iin jin. c.rows_by_filter.ensures selects i j iin jin ∙ patch_level version ref.u x y v i j from_u _ at_u horizontal c.requires.level)) in
-    c.write_block-2.ensures
-    ∙ ap (with_plane now 2) (with_block_same (plane_of now 2) x y 8 8 (λ i j. get_or c.rows_by_filter-2.new.pixels (i * 8 + j) 0) (inter_pixel version ref.v x y v)
-    (λ i j iin jin. c.rows_by_filter-2.ensures also i j iin jin ∙ patch_level version ref.v x y v i j from_v _ at_v horizontal c.requires.level))
-    ∙ ap (λ (i : Image). with_plane i 2 (with_block (plane_of i 2) x y 8 8 (inter_pixel version ref.v x y v))) first
+    let first : with_pixels p.u c.short_rows.new.pixels ≡ with_block p.u x y 8 8 (inter_pixel version ref.u x y v) =
+    block_put p.u x y 8 8 stride (inter_pixel version ref.u x y v) c.pixels_mut.result.now c.short_rows.new.pixels (ap length (sym c.pixels_mut.ensures.value) ∙ c.pixels_mut.ensures.len) wide_u c.pixels_mut.ensures.value c.requires.room.0 c.requires.room.1
+    (written_alike 8 8 c.pixels_mut.result.now c.short_rows.new.pixels (y * stride + x) stride (patch_pass (weights_of c.horizontal_filter-filter.result.weights) from_u) (inter_pixel version ref.u x y v) c.short_rows.ensures
+    (λ i j iin jin. patch_level version ref.u x y v i j from_u _ at_u horizontal c.requires.level)) in
+    let second : with_pixels p.v c.short_rows-2.new.pixels ≡ with_block p.v x y 8 8 (inter_pixel version ref.v x y v) =
+    block_put p.v x y 8 8 stride (inter_pixel version ref.v x y v) c.pixels_mut-2.result.now c.short_rows-2.new.pixels (ap length (sym c.pixels_mut-2.ensures.value) ∙ c.pixels_mut-2.ensures.len) wide_v c.pixels_mut-2.ensures.value c.requires.room.2 c.requires.room.3
+    (written_alike 8 8 c.pixels_mut-2.result.now c.short_rows-2.new.pixels (y * stride + x) stride (patch_pass (weights_of c.horizontal_filter-filter.result.weights) from_v) (inter_pixel version ref.v x y v) c.short_rows-2.ensures
+    (λ i j iin jin. patch_level version ref.v x y v i j from_v _ at_v horizontal c.requires.level)) in
+    ap (λ (q : Raster). record p { u = q; v = with_pixels p.v c.short_rows-2.new.pixels }) first
+    ∙ ap (λ (q : Raster). record p { u = with_block p.u x y 8 8 (inter_pixel version ref.u x y v); v = q }) second

@@ -29,7 +29,7 @@ pub loop-k-preserved : goal.loop-k-preserved
 loop-k-preserved c =
     let p : Image = c.args.picture.now in
     let now : Image = c.loop-k.picture in
-    let next : Image = c.predict_into.new.picture in
+    let next : Image = c.predict_into-in-loop-k.new.picture in
     let n : ℕ = c.args.plane in
     let k : ℕ = c.loop-k.k in
     let x : ℕ = c.args.x in
@@ -39,10 +39,10 @@ loop-k-preserved c =
     let step : Raster → Raster = λ s. with_block s (c.args.x + 4 * (c.loop-k.k % 2)) (c.args.y + 4 * (c.loop-k.k / 2)) 4 4 f in
     let pixel = moved_pixel c.args.version c.args.reference.now x y 2 vector in
     record {
-      pixels = plane_next p now next n step c.predict_into.ensures _ c.loop-k.invariant.pixels
+      pixels = plane_next p now next n step c.predict_into-in-loop-k.ensures _ c.loop-k.invariant.pixels
           ∙ ap (with_plane p n) (sub_written (plane_of p n) x y pixel (was (plane_of p n) x y) k f c.loop-k-test.true (moved_part c.args.version c.args.reference.now x y vector k));
-      wide = plane_kept p now next n step c.predict_into.ensures (λ (s : Raster). s.width) refl ∙ c.loop-k.invariant.wide;
-      high = plane_kept p now next n step c.predict_into.ensures (λ (s : Raster). s.height) refl ∙ c.loop-k.invariant.high;
+      wide = plane_kept p now next n step c.predict_into-in-loop-k.ensures (λ (s : Raster). s.width) refl ∙ c.loop-k.invariant.wide;
+      high = plane_kept p now next n step c.predict_into-in-loop-k.ensures (λ (s : Raster). s.height) refl ∙ c.loop-k.invariant.high;
     }
 
 pub returns : goal.returns

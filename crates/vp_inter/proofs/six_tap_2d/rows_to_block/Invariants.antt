@@ -1,6 +1,0 @@
-use Rattle.vp_inter.specs.Patches.{patch_pass, weights_of}
-use Rattle.vp_inter.specs.Written.{IsBlockWritten}
-use Rattle.vp_inter.proofs.six_tap_2d.rows_to_block.Given as goal
-
-abbrev pub invariant-loop-i : goal.invariant-loop-i
-invariant-loop-i g l = record { done : IsBlockWritten 16 l.i l.initial.pixels l.pixels l.at l.stride (patch_pass (weights_of l.filter.left.weights) l.patch) }
