@@ -1,14 +1,7 @@
 -- A row is filtered once the row below it is rebuilt.
-use Rattle.std.proofs.Common.{◌≡◌, ◌∙◌, ℕ, zero, suc, ◌+◌, ◌-◌, ◌*◌, ◌<◌, refl, sym, ap, arith, inl, inr}
-use Rattle.std.proofs.lemmas.Bool.{cases_lt}
+use Rattle.vp_decode.proofs.Words.{◌≡◌, ◌∙◌, ℕ, zero, suc, ◌+◌, ◌-◌, ◌*◌, ◌<◌, refl, sym, ap, arith, inl, inr, cases_lt, Image, IsSameAbove, IsSameFrom, AreSameAbove, AreSameFrom, over, same_raster, over-holds, IsShaped, IsAbove, IsBelow}
 use Rattle.vp_base.specs.Raster.{Raster}
 use Rattle.vp_base.specs.Block.{IsWhole}
-use Rattle.vp_base.specs.Image.{Image}
-use Rattle.vp_base.specs.Rows.{IsSameAbove, IsSameFrom, AreSameAbove, AreSameFrom}
-use Rattle.vp_base.specs.Over.{over}
-use Rattle.vp_base.proofs.BlockLemmas.{same_raster}
-use Rattle.vp_base.proofs.OverLemmas.{over-holds}
-use Rattle.vp_decode.specs.RowBands.{IsShaped, IsAbove, IsBelow}
 
 -- ---- work above a row and work from it on may change places
 

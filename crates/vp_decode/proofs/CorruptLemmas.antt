@@ -1,11 +1,5 @@
 -- Whether a frame is corrupt, by its facts.
-use Rattle.std.proofs.Common.{◌≡◌, ℕ, List, [], ◌∷◌, refl}
-use Rattle.std.specs.Prelude.{Option, Result, Ok, Err}
-use Rattle.vp_base.specs.declared.limits.Limits.{Limits}
-use Rattle.vp_head.specs.declared.fault.PacketFault.{PacketFault}
-use Rattle.vp_decode.specs.Step.{DecoderState, ParsedPacket, parsed}
-use Rattle.vp_decode.specs.Corrupt.{corrupt, corrupt_in}
-use Rattle.vp_decode.specs.FrameFacts.{is_frame_corrupt, facts_in, frame_facts}
+use Rattle.vp_decode.proofs.Words.{◌≡◌, ℕ, List, [], ◌∷◌, refl, Option, Result, Ok, Err, Limits, PacketFault, DecoderState, ParsedPacket, parsed, corrupt, corrupt_in, is_frame_corrupt, facts_in, frame_facts}
 
 is_frame_corrupt-facts_in : (r : Result ParsedPacket PacketFault) → is_frame_corrupt (facts_in r) ≡ corrupt_in r
 is_frame_corrupt-facts_in (Err f) = refl

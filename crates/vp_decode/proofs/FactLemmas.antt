@@ -1,24 +1,11 @@
 -- The facts of a frame are those of the states before and after it, and of the answer.
-use Rattle.std.proofs.Common.{◌≡◌, ◌∙◌, ℕ, Bool, true, false, List, [], ◌∷◌, Some, None, Ok, Err, inl, inr, refl, sym, ap, subst}
-use Rattle.std.specs.Prelude.{◌⊎◌, Option, Result, IsSomeAnd, is_some, ◌||◌, if◌then◌else◌}
-use Rattle.std.proofs.lemmas.Bool.{or_parts}
-use Rattle.vp_base.specs.Image.{Image}
-use Rattle.vp_base.specs.declared.limits.Limits.{Limits}
-use Rattle.vp_head.specs.declared.fault.PacketFault.{PacketFault}
-use Rattle.vp_head.specs.declared.fields.Header.{Header}
-use Rattle.vp_head.specs.declared.fields.KeyTag.{KeyTag}
+use Rattle.vp_decode.proofs.Words.{◌≡◌, ◌∙◌, ℕ, Bool, true, false, List, [], ◌∷◌, Some, None, Ok, Err, inl, inr, refl, sym, ap, subst, Option, Result, IsSomeAnd, is_some, or_parts, Image, Limits, PacketFault, Header, KeyTag, Last, References, copied_by, reference_picture, picture_of, facts_of, facts_in, frame_facts, shown_before, IsOlder, AreFactsOfStep, DecoderState, FrameContext, ParsedPacket, context_of, parsed, frame_of_packet, references_after, shown_after, state_after, answer, decoded, step, outcome, ◌⊎◌, ◌||◌, FrameFacts}
+use Rattle.std.specs.Prelude.{if◌then◌else◌}
 use Rattle.vp_head.specs.declared.fields.ReferenceUpdates.{ReferenceUpdates}
-use Rattle.vp_head.specs.declared.fields.ReferenceCopy.{ReferenceCopy}
-use Rattle.vp_head.specs.declared.fields.ReferenceCopy.TheVariants.{Nothing, Last, Other, Unused}
 use Rattle.vp_head.specs.declared.fields.Reference.{Reference}
 use Rattle.vp_head.specs.declared.fields.Reference.TheVariants as reference_is
-use Rattle.vp_refs.specs.References.{References, copied_by, reference_picture}
-use Rattle.vp_decode.specs.declared.frame_facts.FrameFacts.{FrameFacts}
 use Rattle.vp_decode.specs.declared.decoder.Outcome.TheVariants as code
-use Rattle.vp_decode.specs.Frame.{picture_of}
-use Rattle.vp_decode.specs.FrameFacts.{facts_of, facts_in, frame_facts, shown_before, IsOlder, AreFactsOfStep}
-use Rattle.vp_decode.specs.Step.{DecoderState, FrameContext, ParsedPacket, key_context, inter_context, context_of, parsed, frame_of_packet, references_after, shown_after, state_after, answer, decoded, step, outcome}
-use Rattle.vp_decode.proofs.CutLemmas.{IsOpened, opened-is}
+use Rattle.vp_decode.proofs.CutLemmas.{IsOpened, opened-is, by_context}
 use Rattle.vp_decode.proofs.SizeLemmas.{KeepsShape, copied_keeps, newest_is, picture_shaped}
 
 -- the references that are refreshed
@@ -54,9 +41,7 @@ are_old before b h p e =
 -- ---- what a frame has of the state before
 
 shown_is : (key : Option KeyTag) (state : Option DecoderState) (context : FrameContext) → context_of key state ≡ Ok context → context.shown ≡ shown_before (is_some key) state
-shown_is (Some key) state context c = let same : key_context key.dim ≡ context = cc in ap (λ (b : FrameContext). b.shown) (sym same)
-shown_is None None context c = absurd cc
-shown_is None (Some k) context c = let same : inter_context k ≡ context = cc in ap (λ (b : FrameContext). b.shown) (sym same)
+shown_is = by_context (λ key state context. context.shown ≡ shown_before (is_some key) state) (λ key state. refl) (λ k. refl)
 
 -- the state before, and its references
 record HasBefore (state : Option DecoderState) (references : Option References) : Type 0 where
@@ -65,9 +50,7 @@ record HasBefore (state : Option DecoderState) (references : Option References) 
   has : references ≡ Some before.references
 
 before_by : (key : Option KeyTag) (state : Option DecoderState) (context : FrameContext) → context_of key state ≡ Ok context → is_some key ≡ false → HasBefore state context.references
-before_by (Some key) state context c off = absurd cc
-before_by None None context c off = absurd cc
-before_by None (Some k) context c off = let same : inter_context k ≡ context = cc in record { before = k; is = refl; has = ap (λ (b : FrameContext). b.references) (sym same) }
+before_by = by_context (λ key state context. is_some key ≡ false → HasBefore state context.references) (λ key state off. absurd cc) (λ k off. record { before = k; is = refl; has = refl })
 
 -- a frame that doesn't refresh a reference is no key frame, and has the references of a state before
 before_is : (limits : Limits) (state : Option DecoderState) (packet : List ℕ) (o : ParsedPacket) (refresh : Bool) → IsOpened limits state packet o → (o.header.key || refresh) ≡ false

@@ -1,31 +1,10 @@
 -- A frame's macroblocks while they are read: the list of those that are read, and the maps that it stands for.
-use Rattle.std.proofs.Common.{◌≡◌, ◌∙◌, ℕ, zero, suc, ◌+◌, ◌*◌, ◌<◌, ◌≤◌, List, [], ◌∷◌, ◌++◌, length, map, drop, replicate, true, Bor, Some, None, refl, ap, sym, arith}
-use Rattle.std.specs.Prelude.{Option, option_map, unwrap_or, slice_get, slice_index_or, slice_set, IfSome}
-use Rattle.std.proofs.lemmas.Option.{slice_get-map, slice_get_within, slice_get-get_or, unwrap_or-slice_get}
-use Rattle.std.proofs.lemmas.List.{map-append, length-map, length-replicate}
-use Rattle.vp_base.specs.declared.place.Place.{Place}
-use Rattle.vp_bool.specs.Bools.{State}
-use Rattle.vp_bool.specs.Reader.{bind}
-use Rattle.vp_base.specs.Grid.{Has, changed, repeated, with_entry}
-use Rattle.vp_base.proofs.GridLemmas.{entry-inside, number_fits}
+use Rattle.vp_decode.proofs.Words.{◌≡◌, ◌∙◌, ℕ, zero, suc, ◌+◌, ◌*◌, ◌<◌, ◌≤◌, List, [], ◌∷◌, ◌++◌, length, map, drop, replicate, true, Bor, Some, None, refl, ap, sym, arith, Option, option_map, unwrap_or, slice_get, slice_index_or, slice_set, IfSome, slice_get-map, slice_get_within, slice_get-get_or, unwrap_or-slice_get, map-append, length-map, length-replicate, Place, State, bind, Has, changed, repeated, with_entry, entry-inside, number_fits, Header, is_intra, Modes, plain, plain_of, sub_of, modes_at, MacroblockMotion, intra, modes_in, motion_in, with_modes, macroblock_read, MacroblockReader, IsAhead, IsNext, begun, kept_modes, maps_of, maps_so_far, modes_before, with_macroblock, maps_before, get_or_from_slice_get, set-get_or}
+use Rattle.std.proofs.Math.Seq.{drop-nil}
 use Rattle.vp_tables.specs.declared.modes.SubMode.TheVariants as sub_is
-use Rattle.vp_head.specs.declared.fields.Header.{Header}
-use Rattle.vp_head.specs.Reference.{is_intra}
-use Rattle.vp_modes.specs.Entry.{Modes, plain, plain_of}
-use Rattle.vp_modes.specs.Map.{sub_of}
-use Rattle.vp_modes.specs.Modes.{modes_at}
-use Rattle.vp_motion.specs.Vector.{MacroblockMotion}
-use Rattle.vp_motion.specs.Map.{intra}
 use Rattle.vp_decode.specs.declared.macroblocks.Macroblock.{Macroblock}
-use Rattle.vp_decode.specs.MacroblockMaps.{modes_in, motion_in, with_modes, macroblock_read}
-use Rattle.vp_decode.specs.MacroblockReader.{MacroblockReader, IsAhead, IsNext, begun, kept_modes, maps_of, maps_so_far, modes_before, with_macroblock}
-use Rattle.vp_decode.specs.Step.{maps_before}
 
 -- ---- lists whose first items are replaced
-
-drop-nil : {A : Type 0} (n : ℕ) → ◌≡◌ {A = List A} (drop n []) []
-drop-nil zero = refl
-drop-nil (suc n) = refl
 
 get-read : {A : Type 0} (read rest : List A) (k : ℕ) → k < length read → slice_get (read ++ rest) k ≡ slice_get read k
 get-read [] rest k h = absurd (omega arith)
@@ -66,9 +45,7 @@ begun-all (b ∷ bs) (x ∷ xs) h =
     ap (λ ys. x ∷ ys) (begun-all bs xs (let m : suc (length xs) ≡ suc (length bs) = h in omega arith))
 
 set-same : {A : Type 0} (xs : List A) (k : ℕ) (a : A) → slice_get xs k ≡ Some a → slice_set xs k a ≡ xs
-set-same [] k a h = refl
-set-same (x ∷ xs) zero a h = ap (λ y. y ∷ xs) (ap (λ o. unwrap_or o a) (sym h))
-set-same (x ∷ xs) (suc k) a h = ap (λ ys. x ∷ ys) (set-same xs k a h)
+set-same xs k a h = ap (λ y. slice_set xs k y) (sym (get_or_from_slice_get xs k a a h)) ∙ set-get_or xs k a
 
 get-past : {A : Type 0} (xs : List A) (k : ℕ) → None ≡ slice_get xs k → length xs ≤ k
 get-past [] k e = omega arith
@@ -132,7 +109,7 @@ motion-read r p a h e =
     ∙ slice_get-map (λ m. m.motion) r.read (p.row * r.columns + p.column) ∙ ap (λ o. option_map (λ m. m.motion) o) (sym e))
 
 modes-unread : (r : MacroblockReader) (p : Place) → Has (modes_before r) p → None ≡ slice_get r.read (p.row * r.columns + p.column)
-    → modes_in (maps_so_far r) p ≡ unwrap_or (slice_get (kept_modes r.columns r.rows r.kept) (p.row * r.columns + p.column)) plain
+    → modes_in (maps_so_far r) p ≡ unwrap_or (slice_get (kept_modes r.columns r.rows r.kept_segments) (p.row * r.columns + p.column)) plain
 modes-unread r p h e =
     let past = get-past r.read (p.row * r.columns + p.column) e in
     ap (λ o. unwrap_or o plain) (entry-inside (maps_so_far r).modes p h.column
@@ -150,19 +127,19 @@ motion-unread r p h e =
 pub sub-unread : (r : MacroblockReader) (p : Place) (k : ℕ) → Has (modes_before r) p → None ≡ slice_get r.read (p.row * r.columns + p.column)
     → sub_is.Dc ≡ sub_of (modes_in (maps_so_far r) p) k
 sub-unread r p k h e =
-    sym (ap (λ m. sub_of m k) (modes-unread r p h e) ∙ kept-sub r.columns r.rows r.kept (p.row * r.columns + p.column) k)
+    sym (ap (λ m. sub_of m k) (modes-unread r p h e) ∙ kept-sub r.columns r.rows r.kept_segments (p.row * r.columns + p.column) k)
 
 pub segment-none : (r : MacroblockReader) (p : Place) → Has (modes_before r) p → None ≡ slice_get r.read (p.row * r.columns + p.column)
-    → r.kept ≡ None → 0 ≡ (modes_in (maps_so_far r) p).segment
+    → r.kept_segments ≡ None → 0 ≡ (modes_in (maps_so_far r) p).segment
 segment-none r p h e none =
-    sym (ap (λ (m : Modes). m.segment) (modes-unread r p h e) ∙ none-segment r.columns r.rows r.kept (p.row * r.columns + p.column) none)
+    sym (ap (λ (m : Modes). m.segment) (modes-unread r p h e) ∙ none-segment r.columns r.rows r.kept_segments (p.row * r.columns + p.column) none)
 
 pub segment-kept : (r : MacroblockReader) (p : Place) (segments : List ℕ) (n d : ℕ) → Has (modes_before r) p → None ≡ slice_get r.read (p.row * r.columns + p.column)
-    → r.kept ≡ Some segments → n ≡ r.columns → length segments ≡ r.rows * r.columns
+    → r.kept_segments ≡ Some segments → n ≡ r.columns → length segments ≡ r.rows * r.columns
     → slice_index_or segments (p.row * n + p.column) d ≡ (modes_in (maps_so_far r) p).segment
 segment-kept r p segments n d h e some wide whole =
     let inside : p.row * r.columns + p.column < length segments = let fits = number_fits r.columns r.rows p h.column h.row in omega (arith, whole, fits) in
-    rw wide (sym (ap (λ (m : Modes). m.segment) (modes-unread r p h e) ∙ some-segment r.columns r.rows r.kept (p.row * r.columns + p.column) d segments some inside))
+    rw wide (sym (ap (λ (m : Modes). m.segment) (modes-unread r p h e) ∙ some-segment r.columns r.rows r.kept_segments (p.row * r.columns + p.column) d segments some inside))
 
 -- ---- one more macroblock
 
@@ -173,13 +150,13 @@ more f before read a n h e =
     ap (λ ys. begun before ys) (map-append f read (a ∷ [])) ∙ begun-more before (map f read) (f a) (omega (arith, size, h))
     ∙ ap (λ k. slice_set (begun before (map f read)) k (f a)) (size ∙ e)
 
-pub pushed : (r : MacroblockReader) (p : Place) (a : Macroblock) → length (kept_modes r.columns r.rows r.kept) ≡ r.rows * r.columns → IsNext r p
+pub pushed : (r : MacroblockReader) (p : Place) (a : Macroblock) → length (kept_modes r.columns r.rows r.kept_segments) ≡ r.rows * r.columns → IsNext r p
     → maps_so_far (record r { read = r.read ++ a ∷ [] }) ≡ with_macroblock (maps_so_far r) p a
 unfolding changed repeated
 pushed r p a whole next =
     let fits = number_fits r.columns r.rows p next.inside.column next.inside.row in
     let number = next.number in
-    let modes = more (λ (m : Macroblock). m.modes) (kept_modes r.columns r.rows r.kept) r.read a (p.row * r.columns + p.column) (omega (arith, whole, fits, number)) number in
+    let modes = more (λ (m : Macroblock). m.modes) (kept_modes r.columns r.rows r.kept_segments) r.read a (p.row * r.columns + p.column) (omega (arith, whole, fits, number)) number in
     let size = length-replicate (r.rows * r.columns) intra in
     let motion = more (λ (m : Macroblock). m.motion) (repeated r.columns r.rows intra) r.read a (p.row * r.columns + p.column) (omega (arith, size, fits, number)) number in
     λ i. record { modes = record { columns = r.columns; rows = r.rows; entries = modes i }; motion = record { columns = r.columns; rows = r.rows; entries = motion i } }
@@ -211,15 +188,15 @@ intra-read h r p s modes motion q next made read own none =
 pub nothing-read : (r : MacroblockReader) → r.read ≡ [] → maps_so_far r ≡ maps_before (modes_before r)
 nothing-read r none =
     rw none (λ i. record {
-      modes = record { columns = r.columns; rows = r.rows; entries = begun-none (kept_modes r.columns r.rows r.kept) i };
+      modes = record { columns = r.columns; rows = r.rows; entries = begun-none (kept_modes r.columns r.rows r.kept_segments) i };
       motion = record { columns = r.columns; rows = r.rows; entries = begun-none (repeated r.columns r.rows intra) i };
     })
 
-pub all-read : (r : MacroblockReader) → length (kept_modes r.columns r.rows r.kept) ≡ r.rows * r.columns → length r.read ≡ r.rows * r.columns
+pub all-read : (r : MacroblockReader) → length (kept_modes r.columns r.rows r.kept_segments) ≡ r.rows * r.columns → length r.read ≡ r.rows * r.columns
     → maps_of r.columns r.rows r.read ≡ maps_so_far r
 unfolding repeated
 all-read r whole all =
-    let modes = begun-all (kept_modes r.columns r.rows r.kept) (map (λ m. m.modes) r.read) (length-map r.read (λ m. m.modes) ∙ all ∙ sym whole) in
+    let modes = begun-all (kept_modes r.columns r.rows r.kept_segments) (map (λ m. m.modes) r.read) (length-map r.read (λ m. m.modes) ∙ all ∙ sym whole) in
     let motion = begun-all (repeated r.columns r.rows intra) (map (λ m. m.motion) r.read) (length-map r.read (λ m. m.motion) ∙ all ∙ sym (length-replicate (r.rows * r.columns) intra)) in
     λ i. record {
       modes = record { columns = r.columns; rows = r.rows; entries = sym modes i };

@@ -1,29 +1,9 @@
 -- The outcome of a packet follows from its tag, and the number of its partitions from the start of its header.
-use Rattle.std.specs.Option.{ok_or}
-use Rattle.std.proofs.Common.{◌≡◌, ℕ, Bool, true, false, cond, List, length, Some, None, Ok, Err, refl, ap}
-use Rattle.std.specs.Prelude.{◌==◌, Option, Result, is_some, ◌||◌}
-use Rattle.vp_base.specs.Image.{Image}
-use Rattle.vp_base.specs.declared.limits.Limits.{Limits}
-use Rattle.vp_bool.specs.Bools.{State}
-use Rattle.vp_bool.specs.Reader.{bind}
-use Rattle.vp_head.specs.declared.fault.PacketFault.{PacketFault}
-use Rattle.vp_head.specs.declared.fault.PacketFault.TheVariants.{NoReference}
-use Rattle.vp_head.specs.declared.fields.KeyTag.{KeyTag}
-use Rattle.vp_head.specs.declared.fields.Saved.{Saved}
-use Rattle.vp_head.specs.declared.fields.Tag.{Tag}
+use Rattle.vp_decode.proofs.Words.{◌≡◌, ℕ, Bool, true, false, cond, List, length, Some, None, Ok, Err, refl, ap, ok_or, Option, Result, is_some, Image, Limits, State, bind, PacketFault, NoReference, KeyTag, Saved, Tag, Header, frame, frame_and_kept, header, picture_of, has_shown, cut_of, parts_of, count_of, DecoderState, FrameContext, key_context, inter_context, context_of, ParsedPacket, parsed_in_context, parsed, frame_of_packet, shown_after, Fault, decoded, shown_again, repeated_frame, step, outcome, ◌==◌, ◌||◌, ◌>>=◌, tag_in, frame_outcome, repeated_outcome, was_shown, is_shown_after, Outcome}
 use Rattle.vp_head.specs.Saved.{defaults}
-use Rattle.vp_head.specs.declared.fields.Header.{Header}
-use Rattle.vp_head.specs.Header.{frame, frame_and_kept, header}
-use Rattle.vp_decode.specs.declared.decoder.Outcome.{Outcome}
 use Rattle.vp_decode.specs.declared.decoder.Outcome.TheVariants as code
-use Rattle.vp_decode.specs.Frame.{picture_of}
-use Rattle.vp_decode.specs.Outcomes.{has_shown}
-use Rattle.vp_tokens.specs.Partitions.{cut_of}
-use Rattle.vp_decode.specs.State.{parts_of}
-use Rattle.vp_decode.specs.Passing.{tag_in, frame_outcome, repeated_outcome, was_shown, is_shown_after}
-use Rattle.vp_decode.specs.Step.{count_of, DecoderState, FrameContext, key_context, inter_context, ◌>>=◌, context_of, ParsedPacket, parsed_in_context, parsed, frame_of_packet, shown_after, Fault, answer, decoded, shown_again, repeated_frame, step, outcome}
-use Rattle.vp_decode.proofs.CutLemmas.{opened_in_parts, opened-is}
-use Rattle.vp_decode.proofs.StateLemmas.{step-empty, step-decoded}
+use Rattle.vp_decode.proofs.CutLemmas.{opened_in_parts, opened-is, by_context}
+use Rattle.vp_decode.proofs.StateLemmas.{step-empty, step-decoded, outcome-answer}
 
 -- ---- the start of the header
 
@@ -83,14 +63,8 @@ repeated-left (Some k) = refl
 pub empty_told : (limits : Limits) (state : Option DecoderState) (packet : List ℕ) → true ≡ (length packet == 0) → IsTold limits state packet (has_shown state) (repeated_outcome (has_shown state))
 empty_told limits state packet none = record { left = rw (step-empty limits state packet none) (repeated-left state); told = rw (step-empty limits state packet none) (repeated-told state) }
 
-frame-told : (show : Bool) (p : Image) → frame_outcome show ≡ outcome (answer show p)
-frame-told true p = refl
-frame-told false p = refl
-
 shown_before : (key : Option KeyTag) (state : Option DecoderState) (b : FrameContext) → context_of key state ≡ Ok b → cond (is_some key) false (was_shown (has_shown state)) ≡ is_some b.shown
-shown_before (Some key) state b e = let same : key_context key.dim ≡ b = cc in ap (λ (z : FrameContext). is_some z.shown) same
-shown_before None None b e = absurd cc
-shown_before None (Some k) b e = let same : inter_context k ≡ b = cc in ap (λ (z : FrameContext). is_some z.shown) same
+shown_before = by_context (λ key state b. cond (is_some key) false (was_shown (has_shown state)) ≡ is_some b.shown) (λ key state. refl) (λ k. refl)
 
 shown_then : (show : Bool) (p : Image) (before : Option Image) (b : Bool) → b ≡ is_some before → cond show true b ≡ is_some (shown_after show p before)
 shown_then true p before b e = refl
@@ -102,7 +76,7 @@ told_by limits state packet (Err f) tag is e = absurd cc
 told_by limits state packet (Ok o) tag is e =
     let same : tag ≡ o.tag = cc in
     let before = shown_before o.tag.key state o.context (opened-is limits state packet o is).context_is in
-    rw same (ap Some (shown_then o.tag.show (picture_of (frame_of_packet o)) o.context.shown _ before), frame-told o.tag.show (picture_of (frame_of_packet o)))
+    rw same (ap Some (shown_then o.tag.show (picture_of (frame_of_packet o)) o.context.shown _ before), outcome-answer o.tag.show (picture_of (frame_of_packet o)))
 
 pub frame_told : (limits : Limits) (state : Option DecoderState) (packet : List ℕ) (tag : Tag) → false ≡ (length packet == 0) → ◌≡◌ {A = Result Tag PacketFault} (Ok tag) (tag_in (parsed limits state packet))
     → IsTold limits state packet (Some (is_shown_after tag (has_shown state))) (frame_outcome tag.show)

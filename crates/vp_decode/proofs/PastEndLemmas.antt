@@ -1,18 +1,8 @@
 -- A frame is corrupt exactly if one of its partitions is read past its end.
-use Rattle.std.proofs.Common.{◌≡◌, ◌∙◌, ℕ, zero, suc, ◌%◌, ◌<◌, ◌≤◌, true, false, List, [], ◌∷◌, length, Ok, inl, inr, sym, ap, subst, arith}
-use Rattle.std.specs.Prelude.{Option, map, slice_index_or, slice_set}
+use Rattle.vp_decode.proofs.Words.{◌≡◌, ◌∙◌, ℕ, zero, suc, ◌%◌, ◌<◌, ◌≤◌, true, false, List, [], ◌∷◌, length, Ok, inl, inr, sym, ap, subst, arith, Option, map, slice_index_or, slice_set, cases_Bool, lt-ltb, ltb-true, ltb-false, or_left, or_right, or_parts, State, initial_state, after_bools, Limits, over-holds, tag_of, FrameInfo, Readings, row_partition, token_row, nothing_read, readings, DecoderState, ParsedPacket, first_part, parsed, maps_before, frame_info_of, first_after, tokens_after, any_past, is_corrupt, corrupt_in, corrupt}
 use Rattle.std.proofs.Math.Dec.{ltb}
-use Rattle.std.proofs.lemmas.Bool.{cases_Bool, lt-ltb, ltb-true, ltb-false, or_left, or_right, or_parts}
-use Rattle.vp_bool.specs.Bools.{State, initial_state, after_bools}
 use Rattle.vp_bool.specs.Laws.{PastIsBits, bits_after_first, bits_shifted}
-use Rattle.vp_base.specs.declared.limits.Limits.{Limits}
-use Rattle.vp_base.proofs.OverLemmas.{over-holds}
-use Rattle.vp_head.specs.Tag.{tag_of}
-use Rattle.vp_decode.specs.Frame.{FrameInfo}
-use Rattle.vp_decode.specs.TokenRows.{Readings, row_partition, token_row, nothing_read, readings}
 use Rattle.vp_decode.proofs.TokenGrid.{rests_in_turn}
-use Rattle.vp_decode.specs.Step.{DecoderState, ParsedPacket, first_part, parsed, maps_before, frame_info_of}
-use Rattle.vp_decode.specs.Corrupt.{first_after, tokens_after, any_past, is_corrupt, corrupt_in, corrupt}
 use Rattle.vp_decode.specs.PastEnd.{IsPastEnd, IsWithin, HasPartPast, AreAllPartsWithin, token_part, token_reader}
 use Rattle.vp_decode.proofs.CutLemmas.{opened-is}
 use Rattle.vp_decode.proofs.RunLemmas.{IsRun, run-none, run-join, by_header, by_maps_read, by_row_seen}

@@ -1,27 +1,47 @@
 -- How the tokens of a frame are read, macroblock after macroblock and row after row.
-use Rattle.std.proofs.Common.{◌≡◌, ◌≢◌, ◌∙◌, ℕ, ◌+◌, ◌%◌, ◌<◌, Bool, List, length, Some, refl, sym, ap, subst, arith, inl, inr, add-one}
-use Rattle.std.specs.Prelude.{slice_set}
-use Rattle.std.proofs.lemmas.Bool.{cases_lt}
-use Rattle.vp_bool.specs.Bools.{State}
-use Rattle.vp_bool.specs.Reader.{bind, rows}
-use Rattle.vp_base.specs.declared.place.Place.{Place}
-use Rattle.vp_base.specs.Grid.{Grid, Has, entry, with_entry}
-use Rattle.vp_base.specs.Over.{over}
-use Rattle.vp_base.proofs.OverLemmas.{over-none, over-more, over-next, over-same, over-holds}
-use Rattle.vp_tokens.specs.declared.contexts.Tokens.{Tokens}
-use Rattle.vp_tokens.specs.Blocks.{Blocks, blocks_of, macroblock}
-use Rattle.vp_tokens.specs.Levels.{Probabilities}
-use Rattle.vp_tokens.specs.Contexts.{AreContextsAt, right}
+use Rattle.vp_decode.proofs.Words.{◌≡◌, ◌≢◌, ◌∙◌, ℕ, ◌+◌, ◌%◌, ◌<◌, Bool, List, length, Some, refl, sym, ap, subst, arith, inl, inr, add-one, slice_set, cases_lt, State, bind, rows, Place, Grid, Has, entry, with_entry, over, over-none, over-more, over-next, over-same, over-holds, Tokens, Blocks, blocks_of, macroblock, Probabilities, AreContextsAt, right, Predictor, macroblock_of, has_y2, rebuilt, modes_in, place, FrameInfo, predictor_at, tokens_of, factors_at, macroblock_at, level_at, tokens_at, seen_read, row_seen, row_tokens, row_partition, token_row, nothing_read, readings, tokens_when_read, FrameDecoder, IsMacroblockStep, IsRow, IsAfterRows, IsSameFrame, IsOneFrame, macroblocks, Level}
 use Rattle.vp_tokens.proofs.Steps.{row_begins}
 use Rattle.vp_quant.specs.declared.factors.Factors.{Factors}
-use Rattle.vp_recon.specs.Predictor.{Predictor, macroblock_of, has_y2}
-use Rattle.vp_recon.specs.Rebuilt.{rebuilt}
-use Rattle.vp_decode.specs.MacroblockMaps.{modes_in, place}
-use Rattle.vp_decode.specs.Frame.{FrameInfo, predictor_at, tokens_of, factors_at, macroblock_at, level_at}
-use Rattle.vp_decode.specs.TokenRows.{tokens_at, seen_read, row_seen, row_tokens, row_partition, token_row, nothing_read, readings, tokens_when_read}
 use Rattle.vp_decode.proofs.MapLemmas.{rows-holds}
 use Rattle.vp_decode.proofs.TokenGrid.{tokens_in_turn}
-use Rattle.vp_decode.specs.FrameDecoder.{FrameDecoder, IsMacroblockStep, IsRow, IsAfterRows}
+
+-- ---- the sizes of a frame that is decoded
+
+pub same_frame : (a : FrameDecoder) → IsSameFrame a a
+same_frame a = record { info = refl; width = refl; height = refl; level_columns = refl; level_rows = refl; contexts = refl }
+
+pub then_same : (a b c : FrameDecoder) → IsSameFrame a b → IsSameFrame b c → IsSameFrame a c
+then_same a b c one two = record {
+  info = two.info ∙ one.info;
+  width = two.width ∙ one.width;
+  height = two.height ∙ one.height;
+  level_columns = two.level_columns ∙ one.level_columns;
+  level_rows = two.level_rows ∙ one.level_rows;
+  contexts = two.contexts ∙ one.contexts;
+}
+
+-- one level that is set changes no size
+pub set_same : (a b : FrameDecoder) (p : Place) (level : Level) (g : Grid Level) → g ≡ with_entry b.levels p level → IsSameFrame a b → IsSameFrame a (record b { levels = g })
+set_same a b p level g e same = record {
+  info = same.info;
+  width = same.width;
+  height = same.height;
+  level_columns = ap (λ (z : Grid Level). z.columns) e ∙ same.level_columns;
+  level_rows = ap (λ (z : Grid Level). z.rows) e ∙ same.level_rows;
+  contexts = same.contexts;
+}
+
+pub one_frame : (a b : FrameDecoder) → IsSameFrame a b → IsOneFrame a → IsOneFrame b
+one_frame a b same one =
+    let width : macroblocks a.picture.width ≡ macroblocks b.picture.width = sym (ap macroblocks same.width) in
+    let height : macroblocks a.picture.height ≡ macroblocks b.picture.height = sym (ap macroblocks same.height) in
+    record {
+      columns = ap (λ (f : FrameInfo). f.maps.modes.columns) same.info ∙ one.columns ∙ width;
+      rows = ap (λ (f : FrameInfo). f.maps.modes.rows) same.info ∙ one.rows ∙ height;
+      level_columns = same.level_columns ∙ one.level_columns ∙ width;
+      level_rows = same.level_rows ∙ one.level_rows ∙ height;
+      contexts = same.contexts ∙ one.contexts ∙ width;
+    }
 
 -- ---- a row
 
@@ -29,9 +49,9 @@ row_seen-more : (f : FrameInfo) (row n : ℕ) (g : Grid Blocks) (s : State) → 
 unfolding row_seen rows bind
 row_seen-more f row n g s = rw add-one refl
 
-record IsSized (columns rows_ : ℕ) (g : Grid Blocks) : Type 0 where
-  columns_are : g.columns ≡ columns
-  rows_are : g.rows ≡ rows_
+pub record IsSized (columns rows_ : ℕ) (g : Grid Blocks) : Type 0 where
+  pub columns_are : g.columns ≡ columns
+  pub rows_are : g.rows ≡ rows_
 
 row_seen-sized : (f : FrameInfo) (row n : ℕ) (g : Grid Blocks) (s : State) → IsSized g.columns g.rows (row_seen f row n g s).0
 unfolding row_seen seen_read bind
@@ -95,18 +115,12 @@ readings-more : (f : FrameInfo) (ps : List State) (row : ℕ) → readings f ps 
 unfolding readings
 readings-more f ps row = over-more row (token_row f) (nothing_read f ps)
 
-readings-sized : (f : FrameInfo) (ps : List State) (row : ℕ) → IsSized f.maps.modes.columns f.maps.modes.rows (readings f ps row).seen
+pub readings-sized : (f : FrameInfo) (ps : List State) (row : ℕ) → IsSized f.maps.modes.columns f.maps.modes.rows (readings f ps row).seen
 unfolding readings
 readings-sized f ps row =
     over-holds (λ r. IsSized f.maps.modes.columns f.maps.modes.rows r.seen) row (token_row f) (nothing_read f ps)
     (λ k below r z. let w = row_seen-sized f k f.maps.modes.columns r.seen (row_partition k r) in record { columns_are = w.columns_are ∙ z.columns_are; rows_are = w.rows_are ∙ z.rows_are })
     (record { columns_are = refl; rows_are = refl })
-
-pub seen_columns : (f : FrameInfo) (ps : List State) (row : ℕ) → (readings f ps row).seen.columns ≡ f.maps.modes.columns
-seen_columns f ps row = (readings-sized f ps row).columns_are
-
-pub seen_rows : (f : FrameInfo) (ps : List State) (row : ℕ) → (readings f ps row).seen.rows ≡ f.maps.modes.rows
-seen_rows f ps row = (readings-sized f ps row).rows_are
 
 pub rows_none : (f : FrameInfo) (ps : List State) (a : FrameDecoder) → AreContextsAt (nothing_read f ps).seen (place 0 0) a.contexts → IsAfterRows f ps 0 ps a
 unfolding readings over
@@ -122,7 +136,7 @@ unfolding tokens_when_read
 rows_next f ps ds row t a b before below made =
     let r = readings f ps row in
     let read : Grid Blocks × State = row_seen f row f.maps.modes.columns r.seen (row_partition row r) in
-    let wide : f.maps.modes.columns ≡ read.0.columns = sym ((row_seen-sized f row f.maps.modes.columns r.seen (row_partition row r)).columns_are ∙ seen_columns f ps row) in
+    let wide : f.maps.modes.columns ≡ read.0.columns = sym ((row_seen-sized f row f.maps.modes.columns r.seen (row_partition row r)).columns_are ∙ (readings-sized f ps row).columns_are) in
     record {
       contexts = rw (readings-more f ps row) (row_begins read.0 row b.contexts (subst (λ (k : ℕ). AreContextsAt read.0 (place row k) b.contexts) wide made.contexts));
       rests = rw (readings-more f ps row) (λ i. slice_set (before.rests i) (row % length (before.rests i)) (made.rest i));

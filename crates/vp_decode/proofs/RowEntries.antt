@@ -1,18 +1,7 @@
 -- A row of a frame's macroblocks is a part of their entries.
-use Rattle.std.proofs.Common.{◌≡◌, ◌∙◌, ℕ, ◌+◌, ◌-◌, ◌*◌, ◌<◌, ◌≤◌, List, length, take, drop, Some, refl, ap, sym, inl, inr, arith, length-drop}
-use Rattle.std.specs.Prelude.{nat_lt, option_map, unwrap_or, slice_get, slice_index_or}
-use Rattle.std.proofs.lemmas.Bool.{cases_Bool}
-use Rattle.std.proofs.lemmas.List.{get_or-take, get_or-drop, length-take-le}
+use Rattle.vp_decode.proofs.Words.{◌≡◌, ◌∙◌, ℕ, ◌+◌, ◌-◌, ◌*◌, ◌<◌, ◌≤◌, List, length, take, drop, Some, refl, ap, sym, inl, inr, arith, length-drop, nat_lt, option_map, unwrap_or, slice_get, slice_index_or, cases_Bool, get_or-take, get_or-drop, length-take-le, slice_get-get_or, slice_get-map, slice_get_read, Place, Grid, Has, entry, mapped, entry-inside, plain, intra, MacroblockMaps, modes_in, motion_in, place, IsMacroblockRow}
 use Rattle.std.proofs.lemmas.Nat.{row_fits}
-use Rattle.std.proofs.lemmas.Option.{slice_get-get_or, slice_get-map, slice_get_read}
-use Rattle.vp_base.specs.declared.place.Place.{Place}
-use Rattle.vp_base.specs.Grid.{Grid, Has, entry, mapped}
-use Rattle.vp_base.proofs.GridLemmas.{entry-inside}
-use Rattle.vp_modes.specs.Entry.{plain}
-use Rattle.vp_motion.specs.Map.{intra}
 use Rattle.vp_decode.specs.declared.macroblocks.Macroblock.{Macroblock}
-use Rattle.vp_decode.specs.MacroblockMaps.{MacroblockMaps, modes_in, motion_in, place}
-use Rattle.vp_decode.specs.FrameDecoder.{IsMacroblockRow}
 
 -- n entries of a list, from a row's first one on
 abbrev pub part : {A : Type 0} → ℕ → ℕ → List A → List A

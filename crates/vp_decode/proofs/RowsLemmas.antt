@@ -1,33 +1,12 @@
 -- The rows of a frame: filtered by the levels of a grid, rebuilt and filtered one behind, or filtered alone where the
 -- picture before the loop filter is given.
-use Rattle.std.proofs.Common.{◌≡◌, ◌∙◌, ℕ, ◌-◌, ◌*◌, ◌<◌, ◌≤◌, List, Some, sym, ap, subst, arith, ◌+◌, get_or, map}
-use Rattle.vp_bool.specs.Bools.{State, initial_state}
-use Rattle.vp_base.specs.declared.place.Place.{Place}
-use Rattle.vp_base.specs.Grid.{Grid, entry, Has}
-use Rattle.vp_base.specs.Image.{Image, IsAligned, AreWhole, macroblocks}
-use Rattle.vp_base.specs.Over.{over}
-use Rattle.vp_base.specs.Rows.{AreOneSize, AreSameAbove, AreSameFrom}
-use Rattle.vp_base.proofs.OverLemmas.{over-holds, over-same, over-next}
-use Rattle.vp_loop.specs.declared.strength.Level.{Level}
-use Rattle.vp_loop.specs.Filtered.{filtered, row_filtered, level_in, macroblock_filtered}
+use Rattle.vp_decode.proofs.Words.{◌≡◌, ◌∙◌, ℕ, ◌-◌, ◌*◌, ◌<◌, ◌≤◌, List, Some, sym, ap, subst, arith, ◌+◌, get_or, map, State, initial_state, Place, Grid, entry, Has, Image, IsAligned, AreWhole, macroblocks, over, AreOneSize, AreSameAbove, AreSameFrom, over-holds, over-same, over-next, Level, filtered, row_filtered, level_in, macroblock_filtered, rebuilt, row_rebuilt, all_rebuilt, place, FrameInfo, Frame, frame_of, level_at, tokens_of, unfiltered, picture_of, IsSolution, IsShaped, IsBelow, IsAbove, get_or_from_slice_get, entry-inside, row_keeps, row_reads, row_size, Tokens, AreSkipsOf, AreRowLevels, level_by, HasConsistentSizes, ParsedPacket, frame_info_of, frame_of_packet, refl, IsSameFrame, Contexts}
 use Rattle.vp_recon.specs.Predictor.{Macroblock}
-use Rattle.vp_recon.specs.Rebuilt.{rebuilt, row_rebuilt, all_rebuilt}
 use Rattle.vp_recon.specs.Equation.{IsUnfiltered}
-use Rattle.vp_decode.specs.MacroblockMaps.{place}
-use Rattle.vp_decode.specs.Frame.{FrameInfo, Frame, frame_of, level_at, tokens_of, unfiltered, picture_of}
-use Rattle.vp_decode.specs.Equation.{IsSolution}
-use Rattle.vp_decode.specs.RowBands.{IsShaped, IsBelow, IsAbove}
 use Rattle.vp_decode.proofs.SizeLemmas.{row_shaped, KeepsShape, unfiltered_shaped, info-mapped}
 use Rattle.vp_decode.proofs.BandLemmas.{below_over}
-use Rattle.std.proofs.lemmas.Option.{get_or_from_slice_get}
-use Rattle.vp_base.proofs.GridLemmas.{entry-inside}
 use Rattle.vp_loop.specs.Levels.{no_level}
-use Rattle.vp_loop.proofs.WindowLemmas.{row_keeps, row_reads, row_size}
-use Rattle.vp_tokens.specs.declared.contexts.Tokens.{Tokens}
 use Rattle.vp_decode.specs.RebuiltFrame.{IsRebuiltFrame}
-use Rattle.vp_decode.specs.SkippedLevels.{AreSkipsOf, AreRowLevels, level_by}
-use Rattle.vp_decode.specs.State.{HasConsistentSizes}
-use Rattle.vp_decode.specs.Step.{ParsedPacket, frame_info_of, frame_of_packet}
 
 -- ---- a row that is filtered
 
@@ -149,6 +128,12 @@ filtered_by_levels f ps width height k g p wide size each =
 pub row_sized : (level : Place → Level) (row : ℕ) (p q : Image) → q ≡ row_filtered level row p → AreOneSize q p
 row_sized level row p q e = record { width = ap (λ (z : Image). z.width) e ∙ (row_size level row p).width; height = ap (λ (z : Image). z.height) e ∙ (row_size level row p).height }
 
+pub filtered_same : (level : Place → Level) (row : ℕ) (p q : Image) (f : FrameInfo) (contexts : Contexts) (levels : Grid Level) → q ≡ row_filtered level row p
+    → IsSameFrame (record { info = f; contexts = contexts; picture = p; levels = levels }) (record { info = f; contexts = contexts; picture = q; levels = levels })
+filtered_same level row p q f contexts levels e =
+    let size = row_sized level row p q e in
+    record { info = refl; width = size.width; height = size.height; level_columns = refl; level_rows = refl; contexts = refl }
+
 -- one more row, filtered by the levels of a grid
 pub row_more : (f : FrameInfo) (tokens : Place → Tokens) (row : ℕ) (g : Grid Level) (levels : List Level) (p q r : Image) → row < f.maps.modes.rows
     → g.columns ≡ f.maps.modes.columns → f.maps.modes.columns ≡ macroblocks q.width → levels ≡ g.entries → AreRowLevels f row f.maps.modes.columns g → AreSkipsOf f tokens
@@ -179,11 +164,15 @@ pub record IsCovered (f : FrameInfo) (p : Image) : Type 0 where
   pub columns : f.maps.modes.columns ≡ macroblocks p.width
   pub rows : f.maps.modes.rows ≡ macroblocks p.height
 
+pub info_covers : (o : ParsedPacket) (f : FrameInfo) (p : Image) → f ≡ frame_info_of o → HasConsistentSizes o.context → p.width ≡ o.context.width → p.height ≡ o.context.height → IsCovered f p
+info_covers o f p same sizes width height =
+    let mapped = info-mapped o in
+    record {
+      columns = ap (λ (z : FrameInfo). z.maps.modes.columns) same ∙ mapped.columns_are ∙ sizes.columns ∙ sym (ap macroblocks width);
+      rows = ap (λ (z : FrameInfo). z.maps.modes.rows) same ∙ mapped.rows_are ∙ sizes.rows ∙ sym (ap macroblocks height);
+    }
+
 pub rebuilt_covered : KeepsShape → (o : ParsedPacket) (f : FrameInfo) (p : Image) → f ≡ frame_info_of o → HasConsistentSizes o.context → IsRebuiltFrame o p → IsCovered f p
 rebuilt_covered law o f p same sizes is =
     let shaped : IsShaped o.context.width o.context.height p = subst (IsShaped o.context.width o.context.height) (sym is.picture) (unfiltered_shaped law (frame_of_packet o)) in
-    let mapped = info-mapped o in
-    record {
-      columns = ap (λ (z : FrameInfo). z.maps.modes.columns) same ∙ mapped.columns_are ∙ sizes.columns ∙ sym (ap macroblocks shaped.width_is);
-      rows = ap (λ (z : FrameInfo). z.maps.modes.rows) same ∙ mapped.rows_are ∙ sizes.rows ∙ sym (ap macroblocks shaped.height_is);
-    }
+    info_covers o f p same sizes shaped.width_is shaped.height_is

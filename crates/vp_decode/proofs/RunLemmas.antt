@@ -1,30 +1,14 @@
 -- Parsers read bools and nothing else: the frame header, the modes, the motion and the tokens.
-use Rattle.std.proofs.Common.{◌≡◌, ◌∙◌, ℕ, zero, suc, Bool, true, false, cond, List, [], ◌∷◌, ◌++◌, Option, Some, None, refl, sym, ap}
-use Rattle.vp_bool.specs.Bools.{State, read, literal, after_bools}
-use Rattle.vp_bool.specs.Reader.{Reader, bind, give, when, rows, each}
+use Rattle.vp_decode.proofs.Words.{◌≡◌, ◌∙◌, ℕ, zero, suc, Bool, true, false, cond, List, [], ◌∷◌, ◌++◌, Option, Some, None, refl, sym, ap, State, read, literal, after_bools, Reader, bind, give, when, rows, each, Place, Grid, Header, Saved, Tag, magnitude, optional_signed, renewed, four_signed, segment_values, tree_probabilities, segmentation, level_deltas, quantiser_indices, copy, refreshes, skip, reference_probabilities, frame, frame_and_kept, header, segment_of, skip_by, inter_reference, reference_of, luma_mode, chroma_mode, sub_row, sub_modes, intra_modes, modes_at, Vector, MacroblockMotion, Candidates, with_bit, long_size, component_magnitude, component, vector, new_vector, part_by, part_vector, part_row, split_vectors, vector_mode, vectors_by, motion_by, motion_at, Probabilities, bits, level_magnitude, signed_level, token, levels, coefficient_block, Blocks, block_at, macroblock, FrameInfo, tokens_at, seen_read, row_seen, MacroblockMaps, motion_read, macroblock_read, row_read, maps_read}
 use Rattle.vp_tree.specs.declared.entry.TreeEntry.{TreeEntry}
 use Rattle.vp_tree.specs.declared.entry.TreeEntry.TheVariants.{Leaf, Pair}
 use Rattle.vp_tree.specs.Tree.{next, walk, walk_from}
-use Rattle.vp_base.specs.declared.place.Place.{Place}
-use Rattle.vp_base.specs.Grid.{Grid}
 use Rattle.vp_tables.specs.declared.modes.PartMode.{PartMode}
 use Rattle.vp_tables.specs.declared.modes.PartMode.TheVariants as part_is
 use Rattle.vp_tables.specs.declared.modes.VectorMode.{VectorMode}
 use Rattle.vp_tables.specs.declared.modes.VectorMode.TheVariants as vector_is
-use Rattle.vp_head.specs.declared.fields.Header.{Header}
-use Rattle.vp_head.specs.declared.fields.Saved.{Saved}
-use Rattle.vp_head.specs.declared.fields.Tag.{Tag}
-use Rattle.vp_head.specs.Rows.{magnitude, optional_signed, renewed, four_signed}
 use Rattle.vp_head.specs.Probabilities.{token_probability_updates, luma_mode_probabilities, chroma, vector_renewed, vectors}
-use Rattle.vp_head.specs.Header.{segment_values, tree_probabilities, segmentation, filter, level_deltas, quantiser_indices, copy, refreshes, skip, reference_probabilities, frame, frame_and_kept, header}
-use Rattle.vp_modes.specs.Modes.{segment_of, skip_by, inter_reference, reference_of, luma_mode, chroma_mode, sub_row, sub_modes, intra_modes, modes_at}
-use Rattle.vp_motion.specs.Vector.{Vector, MacroblockMotion, Candidates}
-use Rattle.vp_motion.specs.Motion.{with_bit, long_size, component_magnitude, component, vector, new_vector, part_by, part_vector, part_row, split_vectors, vector_mode, vectors_by, motion_by, motion_at}
-use Rattle.vp_tokens.specs.Levels.{Probabilities, bits, level_magnitude, signed_level, token, levels, coefficient_block}
-use Rattle.vp_tokens.specs.Blocks.{Blocks, block_at, macroblock}
-use Rattle.vp_decode.specs.Frame.{FrameInfo}
-use Rattle.vp_decode.specs.TokenRows.{tokens_at, seen_read, row_seen}
-use Rattle.vp_decode.specs.MacroblockMaps.{MacroblockMaps, motion_read, macroblock_read, row_read, maps_read}
+use Rattle.vp_head.specs.Header.{filter}
 
 -- t is the state after bools that are read from s on
 pub record IsRun (s t : State) : Type 0 where

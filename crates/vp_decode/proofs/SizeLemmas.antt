@@ -1,32 +1,8 @@
 -- The sizes of a frame's picture and of what stands between packets.
-use Rattle.std.proofs.Common.{◌≡◌, ◌∙◌, ℕ, ◌*◌, Bool, true, false, cond, List, [], ◌∷◌, Some, None, refl, sym, ap, subst}
-use Rattle.std.specs.Prelude.{Option, Result, Ok, Err, IfSome, ◌||◌}
-use Rattle.vp_base.specs.declared.place.Place.{Place}
+use Rattle.vp_decode.proofs.Words.{◌≡◌, ◌∙◌, ℕ, ◌*◌, Bool, true, false, cond, List, [], ◌∷◌, Some, None, refl, sym, ap, Option, Result, Ok, Err, IfSome, Place, Limits, Grid, Image, IsAligned, AreWhole, macroblocks, blank_image, AreOneSize, IsWhole-blank, over-holds, PacketFault, KeyTag, Header, Saved, ReferenceCopy, Nothing, Last, Other, Unused, Level, filtered, row_filtered, row_size, row_aligned, row_whole, References, copied_by, all_rebuilt, Frame, unfiltered, picture_of, IsOneSize, IsShaped, IsSized, AreSized, HasConsistentSizes, DecoderState, FrameContext, key_context, inter_context, context_of, ParsedPacket, parsed, frame_info_of, frame_of_packet, references_after, shown_after, state_after, decoded, step, ◌||◌}
 use Rattle.vp_base.specs.declared.limits.Dim.{Dim}
-use Rattle.vp_base.specs.declared.limits.Limits.{Limits}
-use Rattle.vp_base.specs.Grid.{Grid}
-use Rattle.vp_base.specs.Image.{Image, IsAligned, AreWhole, macroblocks, blank_image}
-use Rattle.vp_base.specs.Rows.{AreOneSize}
-use Rattle.vp_base.proofs.BlockLemmas.{IsWhole-blank}
-use Rattle.vp_base.proofs.OverLemmas.{over-holds}
-use Rattle.vp_head.specs.declared.fault.PacketFault.{PacketFault}
-use Rattle.vp_head.specs.declared.fields.KeyTag.{KeyTag}
-use Rattle.vp_head.specs.declared.fields.Header.{Header}
-use Rattle.vp_head.specs.declared.fields.Saved.{Saved}
-use Rattle.vp_head.specs.declared.fields.ReferenceCopy.{ReferenceCopy}
-use Rattle.vp_head.specs.declared.fields.ReferenceCopy.TheVariants.{Nothing, Last, Other, Unused}
-use Rattle.vp_loop.specs.declared.strength.Level.{Level}
-use Rattle.vp_loop.specs.Filtered.{filtered, row_filtered}
-use Rattle.vp_loop.proofs.WindowLemmas.{row_size, row_aligned, row_whole}
-use Rattle.vp_refs.specs.References.{References, copied_by}
 use Rattle.vp_recon.specs.Predictor.{Macroblock}
-use Rattle.vp_recon.specs.Rebuilt.{all_rebuilt}
-use Rattle.vp_decode.specs.Frame.{Frame, unfiltered, picture_of}
-use Rattle.vp_decode.specs.Equation.{IsOneSize}
-use Rattle.vp_decode.specs.RowBands.{IsShaped}
-use Rattle.vp_decode.specs.State.{IsSized, AreSized, HasConsistentSizes}
-use Rattle.vp_decode.specs.Step.{DecoderState, FrameContext, key_context, inter_context, context_of, ParsedPacket, parsed, frame_info_of, frame_of_packet, references_after, shown_after, state_after, decoded, step}
-use Rattle.vp_decode.proofs.CutLemmas.{opened-is}
+use Rattle.vp_decode.proofs.CutLemmas.{opened-is, by_context}
 use Rattle.vp_decode.proofs.MapLemmas.{IsMapped, maps_read-mapped}
 
 -- ---- the picture of a frame
@@ -174,9 +150,7 @@ inter-whole k one =
     }
 
 context-whole : (key : Option KeyTag) (state : Option DecoderState) (b : FrameContext) → context_of key state ≡ Ok b → IfSome state IsOneSize → HasConsistentSizes b
-context-whole (Some key) state b e one = let same : key_context key.dim ≡ b = cc in subst HasConsistentSizes same (key-whole key.dim)
-context-whole None None b e one = absurd cc
-context-whole None (Some k) b e one = let same : inter_context k ≡ b = cc in subst HasConsistentSizes same (inter-whole k one)
+context-whole = by_context (λ key state b. IfSome state IsOneSize → HasConsistentSizes b) (λ key state one. key-whole key.dim) (λ k one. inter-whole k one)
 
 -- ---- a step
 

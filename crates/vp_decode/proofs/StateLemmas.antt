@@ -1,39 +1,22 @@
 -- What is kept over a state is what is kept over the context of the frame.
-use Rattle.std.proofs.Common.{◌≡◌, ◌∙◌, Bool, true, false, List, [], ◌∷◌, length, ℕ, suc, arith, Some, None, Ok, refl, sym, ap}
-use Rattle.std.specs.Prelude.{◌==◌, Option, Result, option_map, is_some}
+use Rattle.vp_decode.proofs.Words.{◌≡◌, ◌∙◌, Bool, true, false, List, [], ◌∷◌, length, ℕ, suc, arith, Some, None, Ok, refl, sym, ap, Err, subst, Option, Result, option_map, is_some, ok_or, NoReference, facts_in, frame_facts, step_by, Image, Limits, KeyTag, Header, Saved, PacketFault, segments_of, all_of, picture_of, state_from_frame, references_in, shown_of, by_fault, DecoderState, FrameContext, context_of, ParsedPacket, parsed, frame_info_of, frame_of_packet, references_after, shown_after, state_after, answer, decoded, shown_again, repeated_frame, step, Decoder, picture_in, after, outcome, ◌==◌, OnErr, Fault, Answer, IsDecoded, frame_outcome}
 use Rattle.std.proofs.lemmas.Bool.Decides.{nat_tests}
-use Rattle.std.specs.Option.{ok_or}
-use Rattle.vp_head.specs.declared.fault.PacketFault.TheVariants.{NoReference}
+use Rattle.vp_decode.specs.declared.decoder.DecodedPacket.{DecodedPacket}
+use Rattle.vp_decode.specs.declared.decoder.Outcome.TheVariants as code
 use Rattle.vp_decode.specs.declared.decoder.OnFault.{OnFault}
 use Rattle.vp_decode.specs.declared.decoder.OnFault.TheVariants as on_fault
-use Rattle.vp_decode.specs.FrameFacts.{facts_in, frame_facts}
-use Rattle.vp_decode.specs.Corrupt.{step_by}
-use Rattle.vp_base.specs.Image.{Image}
-use Rattle.vp_base.specs.declared.limits.Limits.{Limits}
-use Rattle.vp_head.specs.declared.fields.KeyTag.{KeyTag}
-use Rattle.vp_head.specs.declared.fields.Header.{Header}
-use Rattle.vp_head.specs.declared.fields.Saved.{Saved}
-use Rattle.vp_head.specs.declared.fault.PacketFault.{PacketFault}
-use Rattle.vp_modes.specs.Map.{segments_of}
-use Rattle.vp_refs.specs.References.{all_of}
 use Rattle.vp_decode.specs.declared.decoded_frame.DecodedFrame.{DecodedFrame}
-use Rattle.vp_decode.specs.Frame.{picture_of}
-use Rattle.vp_decode.specs.State.{state_from_frame, references_in, shown_of, by_fault}
-use Rattle.vp_decode.specs.Step.{DecoderState, FrameContext, key_context, inter_context, context_of, ParsedPacket, parsed, frame_info_of, frame_of_packet, references_after, shown_after, state_after, answer, decoded, shown_again, repeated_frame, step, Decoder, picture_in, after}
-use Rattle.vp_decode.proofs.CutLemmas.{opened-is}
+use Rattle.vp_decode.proofs.CutLemmas.{opened-is, by_context}
 
 -- a key frame's picture is all references, whatever they were
-key_references : (state : Option DecoderState) (h : Header) (p : Image) → h.key ≡ true → references_after (references_in state) h p ≡ all_of p
-key_references None h p key = refl
-key_references (Some k) h p key = rw key refl
+key_references : (key : KeyTag) (state : Option DecoderState) (h : Header) (p : Image) → h.key ≡ true → references_after (references_in state) h p ≡ all_of p
+key_references key None h p kind = refl
+key_references key (Some k) h p kind = rw kind refl
 
-references_over : (key : Option KeyTag) (state : Option DecoderState) (b : FrameContext) (h : Header) (p : Image) → context_of key state ≡ Ok b → h.key ≡ is_some key
-    → references_after (references_in state) h p ≡ references_after b.references h p
-references_over (Some key) state b h p e kind =
-    let same : key_context key.dim ≡ b = cc in key_references state h p kind ∙ ap (λ (z : FrameContext). references_after z.references h p) same
-references_over None None b h p e kind = absurd cc
-references_over None (Some k) b h p e kind =
-    let same : inter_context k ≡ b = cc in ap (λ (z : FrameContext). references_after z.references h p) same
+references_over : (key : Option KeyTag) (state : Option DecoderState) (b : FrameContext) → context_of key state ≡ Ok b
+    → (h : Header) (p : Image) → h.key ≡ is_some key → references_after (references_in state) h p ≡ references_after b.references h p
+references_over = by_context (λ key state b. (h : Header) (p : Image) → h.key ≡ is_some key → references_after (references_in state) h p ≡ references_after b.references h p)
+    key_references (λ k h p kind. refl)
 
 -- what is known of a frame that was decoded
 pub record IsLeft (o : ParsedPacket) (f : DecodedFrame) : Type 0 where
@@ -45,7 +28,7 @@ pub kept_left : (limits : Limits) (state : Option DecoderState) (packet : List �
     → ◌≡◌ {A = Result ParsedPacket PacketFault} (Ok o) (parsed limits state packet) → IsLeft o f → state_from_frame (references_in state) h s f ≡ state_after o
 kept_left limits state packet h s o f header saved e is =
     let from = opened-is limits state packet o (sym e) in
-    let over = references_over o.tag.key state o.context o.header (picture_of (frame_of_packet o)) from.context_is from.key_is in
+    let over = references_over o.tag.key state o.context from.context_is o.header (picture_of (frame_of_packet o)) from.key_is in
     rw (← header, ← saved, is.segments, is.picture, is.shown, over) refl
 
 -- ---- the decoder after the step
@@ -58,14 +41,6 @@ kept_answer : (w : OnFault) (b : Bool) (p : Image) (before next : Option Decoder
 kept_answer on_fault.Forget b p before next = refl
 kept_answer on_fault.Keep true p before next = refl
 kept_answer on_fault.Keep false p before next = refl
-
--- the state that is left, and whether the frame is shown
-pub after_left : (w : OnFault) (d : Decoder) (packet : List ℕ) (o : ParsedPacket) (show : Bool) (state : Option DecoderState) → ◌≡◌ {A = Result ParsedPacket PacketFault} (Ok o) (parsed d.limits d.state packet) → show ≡ o.tag.show
-    → state ≡ Some (state_after o) → ◌≡◌ {A = Decoder} (record { limits = d.limits; state = state; shown = shown_of show state }) (after d (by_fault w d.state (decoded (parsed d.limits d.state packet))))
-after_left w d packet o show state e s k =
-    let p = picture_of (frame_of_packet o) in
-    rw (← e, kept_answer w o.tag.show p d.state (Some (state_after o)), s, k)
-    (ap (λ (q : Option Image). record { limits = d.limits; state = Some (state_after o); shown = q }) (shown_is o.tag.show (state_after o) p o.context.shown refl))
 
 -- ---- packets that are empty, or not
 
@@ -97,3 +72,59 @@ pub repeated-kept : (w : OnFault) (state : Option DecoderState) → by_fault w s
 repeated-kept on_fault.Forget state = refl
 repeated-kept on_fault.Keep None = refl
 repeated-kept on_fault.Keep (Some k) = elim k.shown as (λ s. by_fault on_fault.Keep (Some k) (Some k, shown_again s) ≡ (Some k, shown_again s)) [ None ↦ refl | Some p ↦ refl ]
+
+-- the step of a packet with bytes, by what is parsed of it
+pub record IsStepOf (w : OnFault) (d : Decoder) (packet : List ℕ) (r : Result ParsedPacket PacketFault) : Type 0 where
+  pub after : step_by w d.limits d.state packet ≡ by_fault w d.state (decoded r)
+  pub answer : (step d.limits d.state packet).1 ≡ (decoded r).1
+  pub facts : frame_facts d.limits d.state packet ≡ facts_in r
+
+pub step-of : (w : OnFault) (d e : Decoder) (packet : List ℕ) (r : Result ParsedPacket PacketFault) → e ≡ d → false ≡ (length packet == 0) → r ≡ parsed e.limits e.state packet → IsStepOf w d packet r
+step-of w d e packet r same some is =
+    subst (λ (z : Decoder). IsStepOf w z packet r) same (record {
+      after = rw (stepped w e.limits e.state packet, step-decoded e.limits e.state packet some, ← is) refl;
+      answer = rw (step-decoded e.limits e.state packet some, ← is) refl;
+      facts = rw (frame_facts-some e.limits e.state packet some, ← is) refl;
+    })
+
+-- what a decoder is left as by a packet, and returns for it
+pub record IsLeftBy (w : OnFault) (d : Decoder) (packet : List ℕ) (e : Decoder) (o : DecodedPacket) : Type 0 where
+  pub after : e ≡ after d (step_by w d.limits d.state packet)
+  pub outcome : o.outcome ≡ outcome (step d.limits d.state packet).1
+  pub frame : o.frame ≡ frame_facts d.limits d.state packet
+
+-- an empty packet
+pub empty_left : (w : OnFault) (d e : Decoder) (packet : List ℕ) (o : DecodedPacket) → true ≡ (length packet == 0) → e ≡ after d (repeated_frame (ok_or d.state NoReference))
+    → o.outcome ≡ outcome (repeated_frame (ok_or d.state NoReference)).1 → o.frame ≡ None → IsLeftBy w d packet e o
+empty_left w d e packet o none left told no_frame = record {
+  after = rw (stepped w d.limits d.state packet, step-empty d.limits d.state packet none, repeated-kept w d.state) left;
+  outcome = rw (step-empty d.limits d.state packet none) told;
+  frame = no_frame ∙ sym (frame_facts-empty d.limits d.state packet none);
+}
+
+-- a packet with a fault
+pub fault_left : (w : OnFault) (d e : Decoder) (packet : List ℕ) (f : PacketFault) (o : DecodedPacket) → IsStepOf w d packet (Err f) → e ≡ after d (by_fault w d.state (None, Fault f))
+    → o.outcome ≡ code.Fault f → o.frame ≡ None → IsLeftBy w d packet e o
+fault_left w d e packet f o step left told no_frame =
+    record { after = rw (step.after) left; outcome = told ∙ sym (ap (λ (a : Answer). outcome a) step.answer); frame = no_frame ∙ sym step.facts }
+
+-- a frame, by the state that is left and whether it is shown
+pub after_left : (w : OnFault) (d : Decoder) (packet : List ℕ) (o : ParsedPacket) (limits : Limits) (show : Bool) (state : Option DecoderState) → IsStepOf w d packet (Ok o) → limits ≡ d.limits → show ≡ o.tag.show
+    → state ≡ Some (state_after o) → ◌≡◌ {A = Decoder} (record { limits = limits; state = state; shown = shown_of show state }) (after d (step_by w d.limits d.state packet))
+after_left w d packet o limits show state is l s k =
+    let p = picture_of (frame_of_packet o) in
+    rw (is.after, kept_answer w o.tag.show p d.state (Some (state_after o)), l, s, k)
+    (ap (λ (q : Option Image). record { limits = d.limits; state = Some (state_after o); shown = q }) (shown_is o.tag.show (state_after o) p o.context.shown refl))
+
+pub outcome-answer : (show : Bool) (p : Image) → frame_outcome show ≡ outcome (answer show p)
+outcome-answer true p = refl
+outcome-answer false p = refl
+
+decoded_answer : (show : Bool) (p : Image) → IsDecoded (answer show p)
+decoded_answer true p = tt
+decoded_answer false p = tt
+
+-- memory runs out only once a packet's faults are known
+pub decoded_late : {A E : Type 0} (w : OnFault) (d : Decoder) (packet : List ℕ) (o : ParsedPacket) (r : Result A E) → IsStepOf w d packet (Ok o) → OnErr r (IsDecoded (step d.limits d.state packet).1)
+decoded_late w d packet o (Ok v) is = tt
+decoded_late w d packet o (Err e) is = rw (is.answer) (decoded_answer o.tag.show (picture_of (frame_of_packet o)))

@@ -1,19 +1,5 @@
 -- The grid of a frame's tokens has at each place the tokens that are read there at its turn.
-use Rattle.std.proofs.Common.{◌≡◌, ◌≢◌, ◌∙◌, ℕ, zero, suc, ◌*◌, ◌%◌, ◌<◌, ◌≤◌, List, [], ◌∷◌, length, replicate, map, refl, sym, ap, subst, arith, inl, inr}
-use Rattle.std.specs.Prelude.{Option, slice_index_or, slice_set, unwrap_or}
-use Rattle.std.proofs.lemmas.Bool.{cases_lt}
-use Rattle.std.proofs.lemmas.List.{length-replicate, length-set, map-set}
-use Rattle.vp_bool.specs.Bools.{State, initial_state}
-use Rattle.vp_bool.specs.Reader.{bind, rows}
-use Rattle.vp_base.specs.declared.place.Place.{Place}
-use Rattle.vp_base.specs.Grid.{Grid, Has, at, all, repeated, entry, mapped, changed, with_entry}
-use Rattle.vp_base.specs.Over.{over}
-use Rattle.vp_base.proofs.GridLemmas.{entry-here, entry-elsewhere}
-use Rattle.vp_tokens.specs.Blocks.{Blocks, blocks_of}
-use Rattle.vp_recon.specs.Predictor.{has_y2}
-use Rattle.vp_decode.specs.MacroblockMaps.{place}
-use Rattle.vp_decode.specs.Frame.{FrameInfo, ReadTokens, no_tokens_read, predictor_at, tokens_read, token_row_read, all_tokens_read, tokens_of}
-use Rattle.vp_decode.specs.TokenRows.{tokens_at, seen_read, row_seen, row_tokens, Readings, row_partition, readings, tokens_when_read}
+use Rattle.vp_decode.proofs.Words.{◌≡◌, ◌≢◌, ◌∙◌, ℕ, zero, suc, ◌*◌, ◌%◌, ◌<◌, ◌≤◌, List, [], ◌∷◌, length, replicate, map, refl, sym, ap, subst, arith, inl, inr, Option, slice_index_or, slice_set, unwrap_or, cases_lt, length-replicate, length-set, map-set, State, initial_state, bind, rows, Place, Grid, Has, at, all, repeated, entry, mapped, changed, with_entry, over, entry-here, entry-elsewhere, Blocks, blocks_of, has_y2, place, FrameInfo, ReadTokens, no_tokens_read, predictor_at, tokens_read, token_row_read, all_tokens_read, tokens_of, tokens_at, seen_read, row_seen, row_tokens, Readings, row_partition, readings, tokens_when_read}
 use Rattle.vp_decode.proofs.MapLemmas.{rows-holds}
 
 -- ---- one macroblock

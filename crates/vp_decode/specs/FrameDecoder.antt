@@ -32,6 +32,15 @@ pub record IsOneFrame (b : FrameDecoder) : Type 0 where
   pub level_rows : b.levels.rows ≡ macroblocks b.picture.height
   pub contexts : length b.contexts.above ≡ macroblocks b.picture.width
 
+-- b decodes the frame that a decodes, and has its sizes
+pub record IsSameFrame (a b : FrameDecoder) : Type 0 where
+  pub info : b.info ≡ a.info
+  pub width : b.picture.width ≡ a.picture.width
+  pub height : b.picture.height ≡ a.picture.height
+  pub level_columns : b.levels.columns ≡ a.levels.columns
+  pub level_rows : b.levels.rows ≡ a.levels.rows
+  pub contexts : length b.contexts.above ≡ length a.contexts.above
+
 -- m is the macroblock at p: its modes, and what it is predicted from
 pub record IsMacroblockAt (f : FrameInfo) (p : Place) (m : MacroblockInfo) : Type 0 where
   pub modes : m.modes.now ≡ modes_in f.maps p
@@ -56,11 +65,12 @@ pub record IsMacroblockStep (f : FrameInfo) (p : Place) (g : Grid Blocks) (s t :
   pub elsewhere : (q : Place) → q ≢ p → entry after.levels q ≡ entry before.levels q
 
 -- what changes during the first n macroblocks of a row
-pub record IsRow (f : FrameInfo) (row n : ℕ) (g : Grid Blocks) (s t : State) (before after : FrameDecoder) : Type 0 where
+pub record IsRow (f : FrameInfo) (row n : ℕ) (g : Grid Blocks) (s t : State) (before after : FrameDecoder)
+    : Type 0 where
   pub contexts : AreContextsAt (row_seen f row n g s).0 (place row n) after.contexts
   pub rest : t ≡ (row_seen f row n g s).1
-  pub picture : after.picture ≡ over n (λ column. rebuilt (macroblock_at f (place row column) (row_tokens f row g s column))
-      (place row column)) before.picture
+  pub picture : after.picture ≡ over n (λ column. rebuilt
+      (macroblock_at f (place row column) (row_tokens f row g s column)) (place row column)) before.picture
   pub here : (column : ℕ) → column < n → entry after.levels (place row column)
       ≡ Some (level_at f (place row column) (row_tokens f row g s column))
   pub elsewhere : (q : Place) → q.row ≢ row → entry after.levels q ≡ entry before.levels q

@@ -1,7 +1,7 @@
 -- Facts about the frame in a packet (RFC 6386, chapters 9.1, 9.6 and 9.7), which its tag and its header say, and
 -- whether it is corrupt. Pinned by the tests `facts_of_frames`.
-use Rattle.std.specs.Prelude.{◌≡◌, ◌⊎◌, ℕ, Bool, true, false, ◌||◌, List, [], ◌∷◌, Option, Some, None, Result, Ok, Err, is_some}
-use Rattle.std.specs.Prelude.{IsSomeAnd, option_and_then}
+use Rattle.std.specs.Prelude.{◌≡◌, ◌⊎◌, ℕ, Bool, true, false, ◌||◌, List, [], ◌∷◌, Result, Ok, Err}
+use Rattle.std.specs.Prelude.{Option, Some, None, is_some, IsSomeAnd, option_and_then}
 use Rattle.vp_base.specs.Image.{Image}
 use Rattle.vp_base.specs.declared.limits.Limits.{Limits}
 use Rattle.vp_head.specs.declared.fields.KeyTag.{KeyTag}

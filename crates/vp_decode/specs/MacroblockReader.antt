@@ -20,7 +20,7 @@ maps_of columns rows macroblocks = record {
 pub record MacroblockReader : Type 0 where
   pub columns : ℕ
   pub rows : ℕ
-  pub kept : Option (List ℕ)
+  pub kept_segments : Option (List ℕ)
   pub read : List Macroblock
 
 -- the modes of a frame's macroblocks before they are read: those of the kept segments, or `plain`
@@ -30,7 +30,7 @@ kept_modes columns rows (Some segments) = map plain_of segments
 
 -- the same, by place
 abbrev pub modes_before : MacroblockReader → Grid Modes
-modes_before r = record { columns = r.columns; rows = r.rows; entries = kept_modes r.columns r.rows r.kept }
+modes_before r = record { columns = r.columns; rows = r.rows; entries = kept_modes r.columns r.rows r.kept_segments }
 
 -- the first entries are replaced by those that are read
 unfoldable pub begun : {A : Type 0} → List A → List A → List A

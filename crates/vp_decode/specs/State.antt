@@ -47,8 +47,8 @@ pub record OpenPacket : Type 0 where
   pub rest : List ℕ
 
 -- the parsed packet, once the header h is read, after which s is saved
-abbrev pub with_header : OpenPacket → Header → Saved → Result ParsedPacket PacketFault
-with_header p h s = do
+abbrev pub cut_partitions : OpenPacket → Header → Saved → Result ParsedPacket PacketFault
+cut_partitions p h s = do
   partitions ← cut_of p.rest (count_of h.log2_partitions)
   Ok (record {
     tag = p.tag;
@@ -63,7 +63,7 @@ with_header p h s = do
 abbrev pub finished : OpenPacket → Result ParsedPacket PacketFault
 finished p =
     let read : (Header × Saved) × State = header p.context.saved p.tag p.first in
-    with_header (record { tag = p.tag; context = p.context; first = read.1; rest = p.rest }) read.0.0 read.0.1
+    cut_partitions (record { tag = p.tag; context = p.context; first = read.1; rest = p.rest }) read.0.0 read.0.1
 
 -- the same, unless a fault was found before
 abbrev pub finished_from : Result OpenPacket PacketFault → Result ParsedPacket PacketFault

@@ -1,20 +1,19 @@
 //! Decodes one frame, without changing the decoder's state yet.
 
-ghost use Rattle.std.specs.Prelude.{◌≡◌, map, IfOk, IfSome, None, option_map};
+ghost use Rattle.std.specs.Prelude.{◌≡◌, IfOk, IfSome, None, option_map};
 ghost use Rattle.vp_modes.specs.Map.{segments_of};
-ghost use Rattle.vp_bool.specs.Bools.{initial_state};
-ghost use Rattle.vp_decode.specs.Corrupt.{any_past, tokens_after, first_after, is_corrupt};
+ghost use Rattle.vp_decode.specs.Corrupt.{first_after, is_corrupt};
 ghost use Rattle.vp_decode.specs.Equation.{IsOneSize};
 ghost use Rattle.vp_decode.specs.Frame.{picture_of};
 ghost use Rattle.vp_decode.specs.RebuiltFrame.{IsRebuiltFrame};
 ghost use Rattle.vp_decode.specs.Step.{frame_info_of, frame_of_packet, shown_after, state_after};
 
 use crate::frame_buffers::FrameBuffers;
-use crate::frame_decoder::{DecodedPicture, decode_picture};
+use crate::frame_decoder::decode_picture;
 use crate::frame_info::{FrameInfo, all_factors};
+use crate::macroblock_reader::MacroblockReader;
 use crate::macroblocks::Macroblocks;
 use crate::parsed_packet::ParsedPacket;
-use crate::rebuilt_frame::filter_rebuilt;
 use std::alloc::{AllocError, Global};
 use std::mem;
 use std::rc::Rc;
@@ -23,7 +22,8 @@ use vp_loop::RowFilter;
 use vp_modes::Segment;
 use vp_recon::unfiltered_picture_solves_its_equation;
 
-/// A decoded frame that is not yet part of the decoder's state.
+/// A decoded frame that is not yet part of the decoder's state: what it adds to a parsed packet. Made by
+/// `decode_frame`; `keep` moves it into the decoder's state.
 #[derive(Drop)]
 pub(crate) struct DecodedFrame {
     pub segments: Grid<Segment>,
@@ -52,7 +52,7 @@ fn shown_after(
     }
 }
 
-/// Reads the modes and the motion of a frame's macroblocks, reusing the memory of `buffers`. Tells too whether the
+/// Reads the modes and the motion of a frame's macroblocks, reusing the memory of `buffers`. Also returns whether the
 /// first partition is past its end after them.
 fn read_macroblocks(
     alloc: Global,
@@ -61,56 +61,20 @@ fn read_macroblocks(
 ) -> Result<(Macroblocks, bool), AllocError>
     ensures maps { IfOk result (λ r. r.0 ≡ (frame_info_of parsed.now).maps) }
     ensures past { IfOk result (λ r. r.1 ≡ (first_after parsed.now).past) }
-    ensures columns { IfOk result (λ r. r.0.modes.columns ≡ parsed.now.context.modes.columns) }
-    ensures rows { IfOk result (λ r. r.0.modes.rows ≡ parsed.now.context.modes.rows) }
 {
-    let kept = mem::replace(&mut buffers.macroblocks, Vec::new(alloc));
-    let mut first = parsed.first.copy();
-    let context = &parsed.context;
-    let reader = context.macroblock_reader(kept)?;
+    let buffer = mem::replace(&mut buffers.macroblocks, Vec::new(alloc));
+    let opened = &parsed.opened;
+    let mut first = opened.first.copy();
+    let reader = MacroblockReader::new(&opened.context, buffer)?;
     let macroblocks = reader.read(parsed.header, &mut first);
     Ok((macroblocks, first.is_past_end()))
 }
 
-/// Decodes or filters the picture of a parsed packet, given what is known of its frame. A picture that is only filtered
-/// is not corrupt.
-fn picture_of_packet<F: RowFilter>(
-    alloc: Global,
-    buffers: &mut FrameBuffers,
-    parsed: &ParsedPacket,
-    filter: &mut F,
-    rebuilt: Option<Picture>,
-    info: &FrameInfo,
-) -> Result<DecodedPicture, AllocError>
-    requires columns { info.now.maps.modes.columns ≡ parsed.now.context.modes.columns }
-    requires rows { info.now.maps.modes.rows ≡ parsed.now.context.modes.rows }
-    requires given { IfSome rebuilt (IsRebuiltFrame parsed.now) }
-    requires info { info.now ≡ frame_info_of parsed.now }
-    ensures picture { IfOk result (λ p. p.picture ≡ picture_of (frame_of_packet parsed.now)) }
-    ensures corrupt { rebuilt ≡ None → IfOk result (λ p. p.corrupt ≡ any_past
-        (tokens_after (frame_info_of parsed.now) (map initial_state parsed.now.partitions))) }
-{
-    // A law, no work: each pixel is its prediction and its residue, whatever the order of macroblocks.
-    unfiltered_picture_solves_its_equation();
-    match rebuilt {
-        Some(rebuilt) => Ok(DecodedPicture {
-            picture: filter_rebuilt(alloc, buffers, info, rebuilt, filter)?,
-            corrupt: false,
-        }),
-        None => {
-            let context = &parsed.context;
-            let partitions = &parsed.partitions;
-            decode_picture(alloc, buffers, info, context.dim, partitions, filter)
-        }
-    }
-}
-
-/// Returns a frame of this picture. It is the last shown picture too if `show` is set, else the one before it is.
-/// `corrupt` says whether a partition was read past its end.
+/// Returns the packet's frame, with this picture. It is the last shown picture too if the tag says so, else the one
+/// before it is. `corrupt` says whether a partition was read past its end.
 fn frame_of_picture(
     alloc: Global,
-    show: bool,
-    before: Option<&Rc<Picture>>,
+    parsed: &ParsedPacket,
     segments: Grid<Segment>,
     picture: Picture,
     corrupt: bool,
@@ -118,11 +82,12 @@ fn frame_of_picture(
     ensures segments { IfOk result (λ f. f.segments ≡ segments) }
     ensures picture { IfOk result (λ f. f.picture.value ≡ picture) }
     ensures shown { IfOk result (λ f. option_map (λ p. p.value) f.shown
-        ≡ shown_after show picture (option_map (λ p. p.now.value) before.entry)) }
+        ≡ shown_after parsed.now.tag.show picture parsed.now.context.shown) }
     ensures corrupt { IfOk result (λ f. f.corrupt ≡ corrupt) }
 {
     let picture = Rc::new(alloc, picture)?;
-    let shown = shown_after(show, &picture, before)?;
+    let opened = &parsed.opened;
+    let shown = shown_after(opened.tag.show, &picture, opened.context.shown)?;
     Ok(DecodedFrame {
         segments,
         picture,
@@ -151,28 +116,12 @@ pub(crate) fn decode_frame<F: RowFilter>(
     // A law, no work: each pixel is its prediction and its residue, whatever the order of macroblocks.
     unfiltered_picture_solves_its_equation();
     let (macroblocks, past) = read_macroblocks(alloc, buffers, parsed)?;
-    let kept = mem::replace(&mut buffers.segments, Grid::empty(alloc));
-    let segments = macroblocks.segments_in(kept)?;
-    let context = &parsed.context;
-    let version = parsed.tag.version;
+    let buffer = mem::replace(&mut buffers.segments, Grid::empty(alloc));
+    let segments = macroblocks.segments_in(buffer)?;
     let factors = all_factors(parsed.header);
-    let info = FrameInfo::new(
-        parsed.header,
-        version,
-        context.references,
-        &macroblocks,
-        &factors,
-    );
-    let decoded = picture_of_packet(alloc, buffers, parsed, filter, rebuilt, &info)?;
+    let info = FrameInfo::of(parsed, &macroblocks, &factors);
+    let (picture, tokens_past) = decode_picture(alloc, buffers, parsed, &info, filter, rebuilt)?;
     buffers.macroblocks = macroblocks.into_list();
-    let corrupt = past | decoded.corrupt;
-    let show = parsed.tag.show;
-    frame_of_picture(
-        alloc,
-        show,
-        context.shown,
-        segments,
-        decoded.picture,
-        corrupt,
-    )
+    let corrupt = past | tokens_past;
+    frame_of_picture(alloc, parsed, segments, picture, corrupt)
 }

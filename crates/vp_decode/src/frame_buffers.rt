@@ -110,10 +110,10 @@ impl FrameBuffers {
         ensures columns { IfOk result (λ g. g.columns ≡ columns) }
         ensures rows { IfOk result (λ g. g.rows ≡ rows) }
     {
-        let kept = mem::replace(&mut self.levels, Grid::empty(alloc));
-        if kept.columns() == columns && kept.rows() == rows {
-            return Ok(kept);
+        let levels = mem::replace(&mut self.levels, Grid::empty(alloc));
+        if levels.columns() == columns && levels.rows() == rows {
+            return Ok(levels);
         }
-        kept.refill(columns, rows, NO_LEVEL)
+        levels.refill(columns, rows, NO_LEVEL)
     }
 }

@@ -1,25 +1,21 @@
 //! The context that a frame is decoded in: defaults for a key frame, the saved state for an inter frame.
 
-ghost use Rattle.std.specs.Prelude.{◌≡◌, ◌≤◌, Ok, Err, IfOk, MatchResult, []};
+ghost use Rattle.std.specs.Prelude.{◌≡◌, Ok, Err, MatchResult};
 ghost use Rattle.std.specs.Option.{ok_or};
-ghost use Rattle.vp_head.specs.Header.{header};
 ghost use Rattle.vp_head.specs.declared.fault.PacketFault.TheVariants.{NoReference};
-ghost use Rattle.vp_decode.specs.MacroblockReader.{modes_before};
 ghost use Rattle.vp_decode.specs.Step.{context_of};
 
 use crate::decoder::DecoderState;
-use crate::macroblock_reader::MacroblockReader;
-use crate::macroblocks::Macroblock;
-use std::alloc::AllocError;
 use std::marker::Model;
 use std::rc::Rc;
 use vp_base::{Dim, Grid, Picture};
-use vp_bool::BoolDecoder;
-use vp_head::{Header, KeyTag, PacketFault, Saved, Tag};
+use vp_head::{KeyTag, PacketFault, Saved};
 use vp_modes::Segment;
 use vp_refs::Refs;
 
-/// The context that a frame is decoded in. A key frame uses only its own size; an inter frame uses the decoder's state.
+/// The context that a frame is decoded in: what it takes from before it. A key frame uses only its own size; an inter
+/// frame uses the decoder's state. `open_packet` makes it from tag and state, as a part of an `OpenPacket`. The header,
+/// the `MacroblockReader` and the `FrameInfo` start from it.
 #[derive(Drop)]
 pub(crate) struct FrameContext<'a> {
     pub dim: Dim,
@@ -92,36 +88,5 @@ impl<'a> FrameContext<'a> {
                 Ok(kept.context())
             }
         }
-    }
-
-    /// Reads the frame header with this tag, and returns it with the values that are saved for the next frame's header.
-    /// It is not inlined: the memory for reading the header then is not part of the stack while the frame is decoded.
-    #[inline(never)]
-    pub(crate) fn read_header(&self, tag: &Tag, first: &mut BoolDecoder) -> (Header, Saved)
-        ensures value { result ≡ (header self.now.saved tag.now first.old).0 }
-        ensures rest { first.new ≡ (header self.now.saved tag.now first.old).1 }
-        ensures few { result.0.log2_partitions ≤ 3 }
-    {
-        let Some(saved) = self.saved else {
-            return Header::read(&Saved::defaults(), tag, first);
-        };
-        Header::read(saved, tag, first)
-    }
-
-    /// Returns a reader of the frame's macroblocks, in the memory of `room`. Allocates only if it is too small.
-    pub(crate) fn macroblock_reader(
-        &self,
-        room: Vec<Macroblock>,
-    ) -> Result<MacroblockReader<'a>, AllocError>
-        ensures before { IfOk result (λ r. modes_before r ≡ self.now.modes) }
-        ensures read { IfOk result (λ r. r.read ≡ []) }
-    {
-        let columns = usize::from(self.dim.mb_cols());
-        let rows = usize::from(self.dim.mb_rows());
-        let kept = match self.segments {
-            Some(segments) => Some(segments.as_slice()),
-            None => None,
-        };
-        MacroblockReader::new(columns, rows, kept, room)
     }
 }

@@ -1,25 +1,28 @@
 //! Rebuilds and filters a frame's picture, row by row of macroblocks.
 
-ghost use Rattle.std.specs.Prelude.{◌≡◌, ℕ, ◌+◌, ◌<◌, ◌≤◌, IfOk, [], length, map, slice_index_or, take};
+ghost use Rattle.std.specs.Prelude.{◌≡◌, ℕ, ◌+◌, ◌<◌, ◌≤◌, IfOk, IfSome, None, [], length, map, slice_index_or, take};
 ghost use Rattle.vp_base.specs.Grid.{Grid, Has, all};
-ghost use Rattle.vp_base.specs.Image.{macroblocks};
 ghost use Rattle.vp_bool.specs.Bools.{initial_state};
 ghost use Rattle.vp_loop.specs.Filtered.{row_filtered, level_in};
 ghost use Rattle.vp_tokens.specs.Blocks.{Blocks, no_blocks_read};
 ghost use Rattle.vp_tokens.specs.Contexts.{AreContextsAt};
 ghost use Rattle.vp_decode.specs.MacroblockMaps.{place};
 ghost use Rattle.vp_decode.specs.Frame.{frame_of, picture_of};
-ghost use Rattle.vp_decode.specs.FrameDecoder.{IsMacroblockAt, IsMacroblockStep, IsRow};
+ghost use Rattle.vp_decode.specs.FrameDecoder.{IsMacroblockAt, IsMacroblockStep, IsRow, IsSameFrame};
+ghost use Rattle.vp_decode.specs.RebuiltFrame.{IsRebuiltFrame};
 ghost use Rattle.vp_decode.specs.RowBands.{IsShaped};
+ghost use Rattle.vp_decode.specs.Step.{frame_info_of, frame_of_packet};
 ghost use Rattle.vp_decode.specs.Corrupt.{any_past, tokens_after};
 
 use crate::frame_buffers::FrameBuffers;
 use crate::frame_info::{FrameInfo, MacroblockInfo};
 use crate::laws::unfiltered_picture_is_the_one_solution;
+use crate::parsed_packet::ParsedPacket;
+use crate::rebuilt_frame::filter_rebuilt;
 use std::alloc::{AllocError, Global};
 use std::marker::Model;
 use std::mem;
-use vp_base::{Dim, Grid, Picture, Place};
+use vp_base::{Grid, Picture, Place};
 use vp_bool::BoolDecoder;
 use vp_loop::{Level, RowFilter};
 use vp_recon::{
@@ -28,14 +31,8 @@ use vp_recon::{
 };
 use vp_tokens::{Contexts, Partitions, Tokens, read_macroblock, skip_macroblock};
 
-/// A frame's picture, and whether a token partition was read past its end.
-#[derive(Drop)]
-pub(crate) struct DecodedPicture {
-    pub picture: Picture,
-    pub corrupt: bool,
-}
-
-/// A frame's picture while its rows are rebuilt and filtered, with the token contexts and the filter levels.
+/// A frame's picture while its rows are rebuilt and filtered, with the token contexts and the filter levels. Made by
+/// `decode_picture`, and gone with it.
 #[derive(Drop)]
 pub(crate) struct FrameDecoder<'a> {
     info: &'a FrameInfo<'a>,
@@ -62,16 +59,13 @@ impl<'a> Model for FrameDecoder<'a> {
 }
 
 impl<'a> FrameDecoder<'a> {
-    /// Decodes the macroblock at a place: reads its tokens, rebuilds it, and computes its filter level. Inlined, so that
-    /// the compiler sees where the predictor comes from.
+    /// Decodes the macroblock at a place: reads its tokens, rebuilds it, and computes its filter level. Inlined, so
+    /// that the compiler sees where the predictor comes from.
     #[inline(always)]
     fn decode_macroblock(&mut self, macroblock: &MacroblockInfo, place: Place, d: &mut BoolDecoder)
         requires place { Has self.old.info.maps.modes place }
         requires macroblock { IsMacroblockAt self.old.info place macroblock.now }
-        ensures info { self.new.info ≡ self.old.info }
-        ensures width { self.new.picture.width ≡ self.old.picture.width }
-        ensures height { self.new.picture.height ≡ self.old.picture.height }
-        ensures columns { self.new.levels.columns ≡ self.old.levels.columns }
+        ensures same { IsSameFrame self.old self.new }
         ensures step { (g : Grid Blocks) → Has g place → AreContextsAt g place self.old.contexts
             → IsMacroblockStep self.old.info place g d.old d.new self.old self.new }
     {
@@ -79,7 +73,7 @@ impl<'a> FrameDecoder<'a> {
         let modes = macroblock.modes;
         let predictor = &macroblock.predictor;
         let has_y2 = predictor.has_y2();
-        let coded = if modes.skip && !predictor.has_sub_modes() {
+        let coded = if modes.skip && !predictor.is_by_subblocks() {
             // There are no tokens to clear, and no residue to add to the prediction.
             skip_macroblock(&mut self.contexts, place, has_y2);
             predict_macroblock(&mut self.picture, place, predictor);
@@ -112,10 +106,7 @@ impl<'a> FrameDecoder<'a> {
     /// Decodes a row of macroblocks.
     fn decode_row(&mut self, row: usize, d: &mut BoolDecoder)
         requires { row < self.old.info.maps.modes.rows }
-        ensures info { self.new.info ≡ self.old.info }
-        ensures width { self.new.picture.width ≡ self.old.picture.width }
-        ensures height { self.new.picture.height ≡ self.old.picture.height }
-        ensures columns { self.new.levels.columns ≡ self.old.levels.columns }
+        ensures same { IsSameFrame self.old self.new }
         ensures row { (g : Grid Blocks) → g.columns ≡ self.old.info.maps.modes.columns → row < g.rows
             → AreContextsAt g (place row 0) self.old.contexts
             → IsRow self.old.info row self.old.info.maps.modes.columns g d.old d.new self.old self.new }
@@ -132,11 +123,9 @@ impl<'a> FrameDecoder<'a> {
     /// Filters the row above `row`, if there is one.
     fn filter_row_above<F: RowFilter>(&mut self, row: usize, filter: &mut F)
         requires { row ≤ self.old.info.maps.modes.rows }
-        ensures info { self.new.info ≡ self.old.info }
+        ensures same { IsSameFrame self.old self.new }
         ensures contexts { self.new.contexts ≡ self.old.contexts }
         ensures levels { self.new.levels ≡ self.old.levels }
-        ensures width { self.new.picture.width ≡ self.old.picture.width }
-        ensures height { self.new.picture.height ≡ self.old.picture.height }
         ensures none { row ≡ 0 → self.new.picture ≡ self.old.picture }
         ensures one { (k : ℕ) → row ≡ k + 1 → self.new.picture
             ≡ row_filtered (level_in self.old.levels.entries self.old.levels.columns) k self.old.picture }
@@ -181,14 +170,14 @@ fn any_past_end(decoders: &[BoolDecoder]) -> bool
     decoders.iter().any(|decoder| decoder.is_past_end())
 }
 
-/// Returns token partition `i`, or no bytes if there is none.
-fn part_or_none<'a>(parts: &Partitions<'a>, i: usize) -> &'a [u8]
-    ensures { result.now ≡ slice_index_or parts.now i [] }
+/// Returns a decoder of token partition `i`, or of no bytes if there is none.
+fn decoder_of<'a>(parts: &Partitions<'a>, i: usize) -> BoolDecoder<'a>
+    ensures { result ≡ initial_state (slice_index_or parts.now i []) }
 {
     if i < parts.count() {
-        parts.part(i)
+        BoolDecoder::new(parts.part(i))
     } else {
-        &[]
+        BoolDecoder::new(&[])
     }
 }
 
@@ -198,39 +187,44 @@ fn decoders_of<'a>(parts: &Partitions<'a>) -> [BoolDecoder<'a>; 8]
     ensures { take (length parts.now) result ≡ map initial_state parts.now }
 {
     [
-        BoolDecoder::new(part_or_none(parts, 0)),
-        BoolDecoder::new(part_or_none(parts, 1)),
-        BoolDecoder::new(part_or_none(parts, 2)),
-        BoolDecoder::new(part_or_none(parts, 3)),
-        BoolDecoder::new(part_or_none(parts, 4)),
-        BoolDecoder::new(part_or_none(parts, 5)),
-        BoolDecoder::new(part_or_none(parts, 6)),
-        BoolDecoder::new(part_or_none(parts, 7)),
+        decoder_of(parts, 0),
+        decoder_of(parts, 1),
+        decoder_of(parts, 2),
+        decoder_of(parts, 3),
+        decoder_of(parts, 4),
+        decoder_of(parts, 5),
+        decoder_of(parts, 6),
+        decoder_of(parts, 7),
     ]
 }
 
-/// Decodes a frame's picture from its 1 to 8 token partitions, and tells whether one is read past its end. Uses the
-/// memory of `buffers`. It is not inlined: its own memory then is not part of the stack while the header is read.
+/// Decodes the picture of a parsed packet from its 1 to 8 token partitions. Also returns whether one is read past its
+/// end. If the picture before the loop filter is given, it is only filtered, and nothing is read. Uses the memory of
+/// `buffers`. It is not inlined: its own memory then is not part of the stack while the header is read.
 #[inline(never)]
 pub(crate) fn decode_picture<F: RowFilter>(
     alloc: Global,
     buffers: &mut FrameBuffers,
+    parsed: &ParsedPacket,
     info: &FrameInfo,
-    dim: Dim,
-    partitions: &Partitions,
     filter: &mut F,
-) -> Result<DecodedPicture, AllocError>
-    requires columns { info.now.maps.modes.columns ≡ macroblocks dim.w }
-    requires rows { info.now.maps.modes.rows ≡ macroblocks dim.h }
-    requires some { 0 < length partitions.now }
-    requires few { length partitions.now ≤ 8 }
-    ensures picture { IfOk result (λ p. p.picture
-        ≡ picture_of (frame_of info.now (map initial_state partitions.now) dim.w dim.h)) }
-    ensures corrupt { IfOk result (λ p. p.corrupt
-        ≡ any_past (tokens_after info.now (map initial_state partitions.now))) }
+    rebuilt: Option<Picture>,
+) -> Result<(Picture, bool), AllocError>
+    requires info { info.now ≡ frame_info_of parsed.now }
+    requires rebuilt { IfSome rebuilt (IsRebuiltFrame parsed.now) }
+    ensures picture { IfOk result (λ r. r.0 ≡ picture_of (frame_of_packet parsed.now)) }
+    ensures past { rebuilt ≡ None → IfOk result (λ r. r.1
+        ≡ any_past (tokens_after (frame_info_of parsed.now) (map initial_state parsed.now.partitions))) }
 {
+    // A law, no work: each pixel is its prediction and its residue, whatever the order of macroblocks.
+    unfiltered_picture_solves_its_equation();
+    let opened = &parsed.opened;
+    if let Some(rebuilt) = rebuilt {
+        let picture = filter_rebuilt(alloc, buffers, info, rebuilt, filter)?;
+        return Ok((picture, false));
+    }
     let columns = info.columns();
-    let picture = buffers.picture(alloc, dim)?;
+    let picture = buffers.picture(alloc, opened.context.dim)?;
     let contexts = mem::replace(&mut buffers.contexts, Contexts::empty(alloc)).refill(columns)?;
     let levels = buffers.levels(alloc, columns, info.rows())?;
     let mut frame = FrameDecoder {
@@ -240,13 +234,11 @@ pub(crate) fn decode_picture<F: RowFilter>(
         levels,
         tokens: &mut Tokens::NONE,
     };
+    let partitions = &parsed.partitions;
     let decoders = &mut decoders_of(partitions)[..partitions.count()];
     frame.decode_rows(decoders, filter);
-    let corrupt = any_past_end(decoders);
+    let past = any_past_end(decoders);
     buffers.contexts = frame.contexts;
     buffers.levels = frame.levels;
-    Ok(DecodedPicture {
-        picture: frame.picture,
-        corrupt,
-    })
+    Ok((frame.picture, past))
 }

@@ -6,7 +6,7 @@ ghost use Rattle.vp_decode.specs.FrameFacts.{is_frame_corrupt};
 use crate::parsed_packet::ParsedPacket;
 
 /// Facts about the frame in a packet, which its tag and its header say (RFC 6386, chapters 9.1, 9.6 and 9.7), and
-/// whether it is corrupt.
+/// whether it is corrupt. A copy for callers, made after the frame is decoded; the decoder itself doesn't read it.
 #[derive(Clone, Copy, Debug, PartialEq, Eq)]
 pub struct FrameFacts {
     /// Whether it is a key frame.
@@ -41,11 +41,12 @@ pub struct FrameFacts {
 impl FrameFacts {
     ghost use Rattle.vp_decode.specs.FrameFacts.{facts_with};
 
-    /// Returns the facts of a packet's frame, whose partitions were read past their ends if `corrupt` is set.
+    /// Returns the facts of a packet's frame. `corrupt` says whether one of its partitions was read past its end.
     pub(crate) fn of(packet: &ParsedPacket, corrupt: bool) -> FrameFacts
         ensures { result ≡ facts_with packet.now corrupt }
     {
-        let (tag, header, dim) = (&packet.tag, packet.header, packet.context.dim);
+        let opened = &packet.opened;
+        let (tag, header, dim) = (&opened.tag, packet.header, opened.context.dim);
         let (horizontal_scale, vertical_scale) = match tag.key {
             Some(key) => (key.horizontal_scale, key.vertical_scale),
             None => (0, 0),

@@ -12,6 +12,7 @@ ghost use Rattle.vp_decode.specs.Frame.{inter_mode_class, mode_class_of, level_a
 ghost use Rattle.vp_decode.specs.FrameDecoder.{IsMacroblockAt, IsMacroblockRow};
 
 use crate::macroblocks::{Macroblock, Macroblocks};
+use crate::parsed_packet::ParsedPacket;
 use std::marker::Model;
 use vp_base::Place;
 use vp_head::Header;
@@ -23,7 +24,9 @@ use vp_recon::{Predictor, SegmentFactors};
 use vp_refs::Refs;
 use vp_tables::VectorMode;
 
-/// The frame header and the modes and motion of all macroblocks, read from the first partition.
+/// What the macroblocks of a frame are decoded by: of the parsed packet what they look at, the modes and motion that
+/// are read from its first partition, and what follows from its header. Made once a frame by `decode_frame`, and read
+/// by `FrameDecoder` and `filter_rebuilt`.
 #[derive(Drop)]
 pub(crate) struct FrameInfo<'a> {
     header: &'a Header,
@@ -55,7 +58,8 @@ impl<'a> Model for FrameInfo<'a> {
         ∷ factors_of f.header.now 2 ∷ factors_of f.header.now 3 ∷ []) × AreFrameLevels f.header.now f.levels };
 }
 
-/// What is known of a macroblock: its modes, and what it is predicted from.
+/// What is known of a macroblock: its modes, and what it is predicted from. `FrameInfo::macroblock` makes it, for each
+/// macroblock once.
 #[derive(Drop)]
 pub(crate) struct MacroblockInfo<'a> {
     pub modes: &'a Modes,
@@ -139,29 +143,29 @@ pub(crate) fn all_factors(header: &Header) -> [SegmentFactors; 4]
 }
 
 impl<'a> FrameInfo<'a> {
-    pub(crate) fn new(
-        header: &'a Header,
-        version: u8,
-        references: Option<&'a Refs>,
+    /// Collects what the macroblocks of a packet's frame are decoded by.
+    pub(crate) fn of<'p: 'a>(
+        parsed: &ParsedPacket<'p>,
         macroblocks: &'a Macroblocks,
         factors: &'a [SegmentFactors; 4],
     ) -> FrameInfo<'a>
-        requires { factors.now ≡ factors_of header.now 0 ∷ factors_of header.now 1 ∷ factors_of header.now 2
-            ∷ factors_of header.now 3 ∷ [] }
+        requires { factors.now ≡ factors_of parsed.now.header 0 ∷ factors_of parsed.now.header 1
+            ∷ factors_of parsed.now.header 2 ∷ factors_of parsed.now.header 3 ∷ [] }
         ensures { result ≡ record {
-          header = header.now;
-          version = version;
-          references = option_map (λ r. r.now) references.entry;
+          header = parsed.now.header;
+          version = parsed.now.tag.version;
+          references = parsed.now.context.references;
           maps = macroblocks.now;
         } }
     {
+        let opened = &parsed.opened;
         FrameInfo {
-            header,
-            version,
-            references,
+            header: parsed.header,
+            version: opened.tag.version,
+            references: opened.context.references,
             macroblocks,
             factors,
-            levels: LevelTable::of(header),
+            levels: LevelTable::of(parsed.header),
         }
     }
 

@@ -1,7 +1,7 @@
 //! Reads the macroblocks of a frame from the first partition.
 
-ghost use Rattle.std.specs.Prelude.{◌≡◌, ◌+◌, ◌*◌, ◌<◌, ◌≤◌, [], length, option_map, slice_get};
-ghost use Rattle.std.specs.Prelude.{IfOk, IfSome};
+ghost use Rattle.std.specs.Prelude.{◌≡◌, ◌+◌, ◌*◌, ◌<◌, [], length, option_map, slice_get};
+ghost use Rattle.std.specs.Prelude.{IfOk};
 ghost use Rattle.vp_base.specs.declared.place.Place.{Place};
 ghost use Rattle.vp_base.specs.Grid.{Has};
 ghost use Rattle.vp_motion.specs.Vector.{IsWithin};
@@ -10,6 +10,7 @@ ghost use Rattle.vp_decode.specs.MacroblockMaps.{motion_in, macroblock_read, row
 ghost use Rattle.vp_decode.specs.MacroblockReader.{maps_so_far, modes_before, with_macroblock, IsAhead, IsNext};
 ghost use Rattle.vp_decode.specs.Step.{maps_before};
 
+use crate::frame_context::FrameContext;
 use crate::macroblocks::{Macroblock, Macroblocks};
 use std::alloc::AllocError;
 use std::marker::Model;
@@ -22,14 +23,14 @@ use vp_motion::{
 };
 use vp_tables::{SubMode, VectorMode};
 
-/// The macroblocks of a frame while they are read, in raster order. One that is not read yet has the segment that is
-/// kept of the frame before, else default modes, and no motion.
+/// The macroblocks of a frame while they are read, in raster order. One that is not read yet has no motion, and default
+/// modes, with its segment of the frame before if segments are kept. Made and read by `read_macroblocks`.
 #[derive(Drop)]
 pub(crate) struct MacroblockReader<'a> {
     columns: usize,
     rows: usize,
-    /// The segments that are kept, in raster order. None for a key frame, whose macroblocks start with segment 0.
-    kept: Option<&'a [Segment]>,
+    /// The segments of the frame before, in raster order. None for a key frame, whose macroblocks start with segment 0.
+    kept_segments: Option<&'a [Segment]>,
     /// The macroblocks that are read. There is memory for all of the frame.
     macroblocks: Vec<Macroblock>,
     /// The motion of a macroblock that is not read, and outside the frame: that of an intra macroblock.
@@ -46,41 +47,37 @@ impl<'a> Model for MacroblockReader<'a> {
     ghost view = { λ r. record {
       columns = r.columns;
       rows = r.rows;
-      kept = option_map (λ s. s.now) r.kept;
+      kept_segments = option_map (λ s. s.now) r.kept_segments;
       read = r.macroblocks.items;
     } };
 
     ghost invariant = { λ r. (r.columns ≤ 1024) × (r.rows ≤ 1024)
-        × IfSome r.kept (λ s. length s.now ≡ r.rows * r.columns)
+        × IfSome r.kept_segments (λ s. length s.now ≡ r.rows * r.columns)
         × (r.rows * r.columns ≤ vec_capacity r.macroblocks) × (r.outside ≡ intra) };
 }
 
 impl<'a> MacroblockReader<'a> {
-    /// Starts to read a frame of this many columns and rows of macroblocks. Uses the memory of `room`, and allocates
-    /// only if it is too small.
+    /// Starts to read the macroblocks of a frame. Reuses the memory of `buffer`, and allocates only if it is too small.
     pub(crate) fn new(
-        columns: usize,
-        rows: usize,
-        kept: Option<&'a [Segment]>,
-        room: Vec<Macroblock>,
+        context: &FrameContext<'a>,
+        buffer: Vec<Macroblock>,
     ) -> Result<MacroblockReader<'a>, AllocError>
-        requires columns { columns ≤ 1024 }
-        requires rows { rows ≤ 1024 }
-        requires kept { IfSome kept (λ s. length s.now ≡ rows * columns) }
-        ensures { IfOk result (λ r. r ≡ record {
-          columns = columns;
-          rows = rows;
-          kept = option_map (λ s. s.now) kept.entry;
-          read = [];
-        }) }
+        ensures before { IfOk result (λ r. modes_before r ≡ context.now.modes) }
+        ensures none_read { IfOk result (λ r. r.read ≡ []) }
     {
-        let mut macroblocks = room;
+        let columns = usize::from(context.dim.mb_cols());
+        let rows = usize::from(context.dim.mb_rows());
+        let mut macroblocks = buffer;
         macroblocks.truncate(0);
         macroblocks.reserve(rows * columns)?;
+        let kept_segments = match context.segments {
+            Some(segments) => Some(segments.as_slice()),
+            None => None,
+        };
         Ok(MacroblockReader {
             columns,
             rows,
-            kept,
+            kept_segments,
             macroblocks,
             outside: MacroblockMotion::INTRA,
         })
@@ -120,8 +117,8 @@ impl<'a> MacroblockReader<'a> {
         self.macroblocks.push_reserved(macroblock);
     }
 
-    /// Reads the split vectors of the next macroblock, and appends it. Not inlined, so that the memory of its vectors is
-    /// cleared only for a split macroblock.
+    /// Reads the split vectors of the next macroblock, and appends it. Not inlined, so that the memory of its vectors
+    /// is cleared only for a split macroblock.
     #[inline(never)]
     fn read_split(
         &mut self,
@@ -156,9 +153,9 @@ impl<'a> MacroblockReader<'a> {
         });
     }
 
-    /// Reads the modes of the next macroblock, and its motion if it is an inter macroblock.
+    /// Reads the modes of the next macroblock, and its motion if it is an inter macroblock, and appends it.
     #[tactic(auto, unfolding(crate::specs::MacroblockMaps::macroblock_read, crate::specs::MacroblockMaps::motion_read, vp_bool::specs::Reader::bind))]
-    fn read_macroblock(&mut self, header: &Header, place: Place, d: &mut BoolDecoder)
+    fn read_next(&mut self, header: &Header, place: Place, d: &mut BoolDecoder)
         requires { IsNext self.old place }
         ensures maps { maps_so_far self.new ≡ (macroblock_read header.now place (maps_so_far self.old) d.old).0 }
         ensures rest { d.new ≡ (macroblock_read header.now place (maps_so_far self.old) d.old).1 }
@@ -189,14 +186,15 @@ impl<'a> MacroblockReader<'a> {
     fn read_row(&mut self, header: &Header, row: usize, d: &mut BoolDecoder)
         requires row { row < self.old.rows }
         requires next { length self.old.read ≡ row * self.old.columns }
-        ensures maps { maps_so_far self.new ≡ (row_read header.now self.old.columns row (maps_so_far self.old) d.old).0 }
+        ensures maps { maps_so_far self.new
+            ≡ (row_read header.now self.old.columns row (maps_so_far self.old) d.old).0 }
         ensures rest { d.new ≡ (row_read header.now self.old.columns row (maps_so_far self.old) d.old).1 }
         ensures ahead { IsAhead self.old self.new self.old.columns }
     {
         // The compiler keeps a local decoder in registers.
         let mut own = d.copy();
         for column in 0..self.columns() {
-            self.read_macroblock(header, Place { column, row }, &mut own);
+            self.read_next(header, Place { column, row }, &mut own);
         }
         *d = own;
     }
@@ -207,22 +205,12 @@ impl<'a> MacroblockReader<'a> {
         requires { self.read ≡ [] }
         ensures value { result ≡ (maps_read header.now (maps_before (modes_before self.entry)) d.old).0 }
         ensures rest { d.new ≡ (maps_read header.now (maps_before (modes_before self.entry)) d.old).1 }
-        ensures columns { result.modes.columns ≡ self.entry.columns }
-        ensures rows { result.modes.rows ≡ self.entry.rows }
     {
         let mut reader = self;
         for row in 0..reader.rows() {
             reader.read_row(header, row, d);
         }
-        reader.finish()
-    }
-
-    /// Returns the macroblocks, all of which are read.
-    fn finish(self) -> Macroblocks
-        requires { length self.read ≡ self.rows * self.columns }
-        ensures { result ≡ maps_so_far self.entry }
-    {
-        Macroblocks::of(self.columns, self.rows, self.macroblocks)
+        Macroblocks::of(reader.columns, reader.rows, reader.macroblocks)
     }
 }
 
@@ -234,7 +222,7 @@ impl<'a> ModeGrid for MacroblockReader<'a> {
             let modes = &macroblock.modes;
             return modes.segment;
         }
-        match self.kept {
+        match self.kept_segments {
             Some(segments) => {
                 let segment = &segments[place.row * self.columns + place.column];
                 segment.number

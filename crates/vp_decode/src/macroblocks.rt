@@ -11,7 +11,7 @@ use vp_base::Grid;
 use vp_modes::{Modes, Segment};
 use vp_motion::MacroblockMotion;
 
-/// The modes and the motion of a macroblock.
+/// The modes and the motion of a macroblock, as they are read from the first partition.
 #[derive(Clone, Copy)]
 pub(crate) struct Macroblock {
     pub modes: Modes,
@@ -78,12 +78,12 @@ impl Macroblocks {
         &self.grid.as_slice()[from..from + columns]
     }
 
-    /// Stores the segments of the macroblocks in the buffer of `room`. Allocates only if it is too small.
-    pub(crate) fn segments_in(&self, room: Grid<Segment>) -> Result<Grid<Segment>, AllocError>
+    /// Stores the segments of the macroblocks in the memory of `buffer`. Allocates only if it is too small.
+    pub(crate) fn segments_in(&self, buffer: Grid<Segment>) -> Result<Grid<Segment>, AllocError>
         ensures { IfOk result (λ g. g ≡ segments_of self.now.modes) }
     {
         let macroblocks = self.grid.as_slice();
-        let mut segments = room.into_entries();
+        let mut segments = buffer.into_entries();
         segments.truncate(0);
         segments.reserve(macroblocks.len())?;
         for macroblock in macroblocks {

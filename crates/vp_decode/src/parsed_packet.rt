@@ -2,7 +2,7 @@
 
 ghost use Rattle.std.specs.Prelude.{◌≡◌, ◌≤◌, ◌<◌, Ok, Err, IfOk, MatchResult};
 ghost use Rattle.vp_base.specs.declared.limits.Limits.{Limits};
-ghost use Rattle.vp_decode.specs.State.{finished, finished_from, parts_of, with_header};
+ghost use Rattle.vp_decode.specs.State.{finished, finished_from, parts_of, cut_partitions};
 ghost use Rattle.vp_decode.specs.Step.{parsed, count_of, tag_length};
 
 use crate::decoder::DecoderState;
@@ -13,13 +13,14 @@ use vp_bool::BoolDecoder;
 use vp_head::{Header, PacketFault, Saved, Tag};
 use vp_tokens::Partitions;
 
-/// An open packet: its tag is read, and its frame header isn't yet.
+/// An open packet, of which the tag is read: its context is chosen, and its first partition lies within the packet.
+/// Made by `open_packet`. `read_header` moves `first` past the frame header.
 #[derive(Drop)]
 pub(crate) struct OpenPacket<'a> {
-    tag: Tag,
-    context: FrameContext<'a>,
+    pub tag: Tag,
+    pub context: FrameContext<'a>,
     /// The first partition.
-    first: BoolDecoder<'a>,
+    pub first: BoolDecoder<'a>,
     /// The bytes after the first partition.
     rest: &'a [u8],
 }
@@ -34,18 +35,16 @@ impl<'a> Model for OpenPacket<'a> {
     ghost invariant = { λ o. HasConsistentSizes o.context };
 }
 
-/// A parsed packet: its tag, its frame header, and its partitions. The header and the saved values are lent: they don't
-/// move with the packet.
+/// A parsed packet, which has no fault: an open one, with the frame header that is read from it and its token
+/// partitions. Made by `OpenPacket::cut_partitions`; `decode_frame` decodes it. Header and saved values are lent: they
+/// don't move with the packet.
 #[derive(Drop)]
 pub(crate) struct ParsedPacket<'a> {
-    pub tag: Tag,
-    pub context: FrameContext<'a>,
+    /// Its first partition is left after the frame header.
+    pub opened: OpenPacket<'a>,
     pub header: &'a Header,
     /// The values that are saved for the next frame's header.
     pub saved: &'a Saved,
-    /// The first partition, after the frame header.
-    pub first: BoolDecoder<'a>,
-    /// The token partitions.
     pub partitions: Partitions<'a>,
 }
 
@@ -57,15 +56,16 @@ impl<'a> Model for ParsedPacket<'a> {
     ghost Value = { ParsedPacket };
 
     ghost view = { λ o. record {
-      tag = o.tag;
-      context = o.context;
+      tag = o.opened.tag;
+      context = o.opened.context;
       header = o.header.now;
       saved = o.saved.now;
-      first = o.first;
+      first = o.opened.first;
       partitions = o.partitions;
     } };
 
-    ghost invariant = { λ o. HasConsistentSizes o.context × (0 < length o.partitions) × (length o.partitions ≤ 8) };
+    ghost invariant = { λ o. HasConsistentSizes o.opened.context
+        × (0 < length o.partitions) × (length o.partitions ≤ 8) };
 }
 
 /// Returns the number of token partitions of a frame, 1 to 8, by the two bits of its header (RFC 6386, chapter 9.5).
@@ -87,37 +87,38 @@ fn length_of(tag: &Tag) -> usize
 }
 
 impl<'a> OpenPacket<'a> {
-    /// Reads the frame header, and returns it with the values that are saved for the next frame's header.
+    /// Reads the frame header, and returns it with the values that are saved for the next frame's header. It is not
+    /// inlined: the memory for reading the header then is not part of the stack while the frame is decoded.
+    #[inline(never)]
     pub(crate) fn read_header(&mut self) -> (Header, Saved)
-        ensures read { with_header self.new result.0 result.1 ≡ finished self.old }
+        ensures read { cut_partitions self.new result.0 result.1 ≡ finished self.old }
         ensures few { result.0.log2_partitions ≤ 3 }
     {
-        self.context.read_header(&self.tag, &mut self.first)
+        let Some(saved) = self.context.saved else {
+            return Header::read(&Saved::defaults(), &self.tag, &mut self.first);
+        };
+        Header::read(saved, &self.tag, &mut self.first)
     }
 
     /// Cuts the token partitions of a packet whose frame header is read.
-    pub(crate) fn with_header(
+    pub(crate) fn cut_partitions(
         self,
         header: &'a Header,
         saved: &'a Saved,
     ) -> Result<ParsedPacket<'a>, PacketFault>
         requires { header.now.log2_partitions ≤ 3 }
-        ensures value { result ≡ with_header self.entry header.now saved.now }
+        ensures value { result ≡ cut_partitions self.entry header.now saved.now }
         ensures header { IfOk result (λ o. o.header ≡ header.now) }
         ensures saved { IfOk result (λ o. o.saved ≡ saved.now) }
     {
         let count = partition_count(header.log2_partitions);
-        match Partitions::cut(self.rest, count) {
-            Ok(partitions) => Ok(ParsedPacket {
-                tag: self.tag,
-                context: self.context,
-                header,
-                saved,
-                first: self.first,
-                partitions,
-            }),
-            Err(fault) => Err(fault),
-        }
+        let partitions = Partitions::cut(self.rest, count)?;
+        Ok(ParsedPacket {
+            opened: self,
+            header,
+            saved,
+            partitions,
+        })
     }
 }
 

@@ -1,17 +1,12 @@
-use Rattle.std.proofs.Common.{◌∙◌, ap}
-use Rattle.vp_bool.specs.Bools.{State}
-use Rattle.vp_modes.specs.Entry.{Modes}
-use Rattle.vp_base.specs.Grid.{Grid}
-use Rattle.vp_decode.specs.MacroblockMaps.{maps_read}
-use Rattle.vp_decode.specs.Step.{frame_info_of, maps_before}
+use Rattle.vp_decode.proofs.Words.{◌∙◌, ap, State, Modes, Grid, maps_read, frame_info_of, maps_before}
 use Rattle.vp_decode.proofs.decoded_frame.read_macroblocks.Goals as goal
 
 pub returns-clause-maps : goal.returns-clause-maps
 unfolding frame_info_of
-returns-clause-maps c = rw (← c.parsed.view_is, ← c.copy-first.ensures, ← c.in_ok-reader.ensures.before) c.read-macroblocks.ensures.value
+returns-clause-maps c = rw (← c.parsed.view_is, ← c.opened.view_is, ← c.copy-first.ensures, ← c.in_ok-reader.ensures.before) c.read-macroblocks.ensures.value
 
 pub returns-clause-past : goal.returns-clause-past
 returns-clause-past c =
-    rw (← c.parsed.view_is, ← c.copy-first.ensures)
+    rw (← c.parsed.view_is, ← c.opened.view_is, ← c.copy-first.ensures)
     (c.is_past_end.ensures ∙ ap (λ (s : State). s.past) c.read-macroblocks.ensures.rest
     ∙ ap (λ (g : Grid Modes). (maps_read c.parsed.inside.header.now (maps_before g) c.copy-first.result).1.past) c.in_ok-reader.ensures.before)

@@ -1,5 +1,4 @@
-use Rattle.std.proofs.Common.{◌≡◌, ℕ, ◌≤◌, List, [], ◌∷◌, length, take, map, get_or, refl, arith}
-use Rattle.vp_bool.specs.Bools.{State, initial_state}
+use Rattle.vp_decode.proofs.Words.{◌≡◌, ℕ, ◌≤◌, List, [], ◌∷◌, length, take, map, get_or, refl, arith, State, initial_state}
 use Rattle.vp_decode.proofs.frame_decoder.decoders_of.Goals as goal
 
 abbrev nth : List (List ℕ) → ℕ → State
@@ -21,21 +20,13 @@ eight_of (a ∷ b ∷ c ∷ d ∷ e ∷ f ∷ g ∷ i ∷ j ∷ ps) h = absurd (
 pub returns : goal.returns
 returns c =
     rw (
-      c.new.ensures.value,
-      c.new-2.ensures.value,
-      c.new-3.ensures.value,
-      c.new-4.ensures.value,
-      c.new-5.ensures.value,
-      c.new-6.ensures.value,
-      c.new-7.ensures.value,
-      c.new-8.ensures.value,
-      c.part_or_none.ensures,
-      c.part_or_none-2.ensures,
-      c.part_or_none-3.ensures,
-      c.part_or_none-4.ensures,
-      c.part_or_none-5.ensures,
-      c.part_or_none-6.ensures,
-      c.part_or_none-7.ensures,
-      c.part_or_none-8.ensures,
+      c.decoder_of.ensures,
+      c.decoder_of-2.ensures,
+      c.decoder_of-3.ensures,
+      c.decoder_of-4.ensures,
+      c.decoder_of-5.ensures,
+      c.decoder_of-6.ensures,
+      c.decoder_of-7.ensures,
+      c.decoder_of-8.ensures,
     )
     (eight_of c.args.parts.now c.requires)

@@ -1,8 +1,4 @@
-use Rattle.std.proofs.Common.{◌∙◌, [], ap}
-use Rattle.vp_bool.specs.Bools.{State}
-use Rattle.vp_bool.specs.Reader.{bind}
-use Rattle.vp_head.specs.Rows.{four_signed}
-use Rattle.vp_head.specs.Header.{segment_values}
+use Rattle.vp_decode.proofs.Words.{◌∙◌, [], ap, State, bind, four_signed, segment_values}
 use Rattle.vp_decode.proofs.header_start.pass_segment_values.Goals as goal
 
 -- without kept values the four are optional numbers over 0

@@ -1,5 +1,4 @@
-use Rattle.std.proofs.Common.{◌<◌, ◌^◌, arith}
-use Rattle.vp_bool.specs.Bools.{literal}
+use Rattle.vp_decode.proofs.Words.{◌<◌, ◌^◌, arith, literal}
 use Rattle.vp_head.proofs.Numbers.{literal-small}
 use Rattle.vp_decode.proofs.header_start.read_log2_partitions.Goals as goal
 

@@ -1,7 +1,4 @@
-use Rattle.std.proofs.Common.{sym, ap}
-use Rattle.vp_base.specs.Image.{Image}
-use Rattle.vp_loop.specs.Filtered.{filtered}
-use Rattle.vp_decode.specs.Frame.{picture_of}
+use Rattle.vp_decode.proofs.Words.{sym, ap, Image, filtered, picture_of}
 use Rattle.vp_decode.proofs.laws.the_picture_is_the_filtered_solution.Goals as goal
 
 pub returns : goal.returns

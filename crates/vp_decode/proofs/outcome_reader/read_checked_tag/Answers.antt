@@ -1,4 +1,4 @@
-use Rattle.vp_decode.specs.Step.{parsed}
+use Rattle.vp_decode.proofs.Words.{parsed}
 use Rattle.vp_decode.proofs.OutcomeLemmas.{without_context, with_context}
 use Rattle.vp_decode.proofs.outcome_reader.read_checked_tag.Goals as goal
 

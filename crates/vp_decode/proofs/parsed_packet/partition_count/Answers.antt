@@ -1,5 +1,4 @@
-use Rattle.std.proofs.Common.{◌≡◌, ℕ, zero, suc, ◌*◌, ◌^◌, ◌%◌, ◌<◌, ◌≤◌, arith, refl}
-use Rattle.vp_decode.specs.Step.{count_of}
+use Rattle.vp_decode.proofs.Words.{◌≡◌, ℕ, zero, suc, ◌*◌, ◌^◌, ◌%◌, ◌<◌, ◌≤◌, arith, refl, count_of}
 use Rattle.vp_decode.proofs.parsed_packet.partition_count.Goals as goal
 
 -- one, doubled n times

@@ -1,9 +1,4 @@
-use Rattle.std.proofs.Common.{◌≡◌, ◌∙◌, ℕ, refl, sym, ap, arith}
-use Rattle.vp_base.specs.Image.{macroblocks}
-use Rattle.vp_base.specs.Over.{over}
-use Rattle.vp_base.proofs.OverLemmas.{over-none}
-use Rattle.vp_loop.specs.Filtered.{filtered, row_filtered}
-use Rattle.vp_decode.specs.SkippedLevels.{level_by}
+use Rattle.vp_decode.proofs.Words.{◌≡◌, ◌∙◌, ℕ, refl, sym, ap, arith, macroblocks, over, over-none, filtered, row_filtered, level_by}
 use Rattle.vp_decode.proofs.RowsLemmas.{row_sized, row_more}
 use Rattle.vp_decode.proofs.rebuilt_frame.filter_rebuilt.Goals as goal
 

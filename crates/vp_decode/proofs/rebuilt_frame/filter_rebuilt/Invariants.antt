@@ -1,9 +1,4 @@
-use Rattle.std.proofs.Common.{◌≡◌}
-use Rattle.vp_base.specs.declared.place.Place.{Place}
-use Rattle.vp_base.specs.Over.{over}
-use Rattle.vp_tokens.specs.declared.contexts.Tokens.{Tokens}
-use Rattle.vp_loop.specs.Filtered.{row_filtered}
-use Rattle.vp_decode.specs.SkippedLevels.{AreSkipsOf, level_by}
+use Rattle.vp_decode.proofs.Words.{◌≡◌, Place, over, Tokens, row_filtered, AreSkipsOf, level_by}
 use Rattle.vp_decode.proofs.rebuilt_frame.filter_rebuilt.Given as goal
 
 abbrev pub invariant-loop-row : goal.invariant-loop-row

@@ -1,5 +1,4 @@
-use Rattle.std.proofs.Common.{◌≡◌}
-use Rattle.vp_decode.specs.SkippedLevels.{AreRowLevels}
+use Rattle.vp_decode.proofs.Words.{◌≡◌, AreRowLevels}
 use Rattle.vp_decode.proofs.rebuilt_frame.set_levels.Given as goal
 
 abbrev pub invariant-loop-column : goal.invariant-loop-column

@@ -1,22 +1,13 @@
-use Rattle.std.proofs.Common.{◌≡◌, ◌∙◌, ℕ, ◌<◌, refl, ap, subst, arith}
-use Rattle.vp_base.specs.Grid.{Grid}
-use Rattle.vp_tokens.specs.Blocks.{Blocks}
-use Rattle.vp_decode.specs.Frame.{FrameInfo}
-use Rattle.vp_decode.specs.TokenRows.{row_seen}
-use Rattle.vp_decode.specs.MacroblockMaps.{place}
-use Rattle.vp_decode.specs.FrameDecoder.{FrameDecoder, IsMacroblockStep, IsRow}
-use Rattle.vp_decode.proofs.ReadingLemmas.{row_none, row_next, row_has}
+use Rattle.vp_decode.proofs.Words.{◌≡◌, ◌∙◌, ℕ, ◌<◌, ap, subst, arith, Grid, Blocks, FrameInfo, row_seen, place, FrameDecoder, IsMacroblockStep, IsRow}
+use Rattle.vp_decode.proofs.ReadingLemmas.{same_frame, then_same, row_none, row_next, row_has}
 use Rattle.vp_decode.proofs.frame_decoder.FrameDecoder.decode_row.Goals as goal
 
 pub loop-column-init : goal.loop-column-init
-loop-column-init c = record { info = refl; width = refl; height = refl; columns = refl; made = λ g wide inside stands. row_none c.args.self.now.info c.args.row g c.args.d.now c.args.self.now stands }
+loop-column-init c = record { same = same_frame c.args.self.now; made = λ g wide inside stands. row_none c.args.self.now.info c.args.row g c.args.d.now c.args.self.now stands }
 
 pub loop-column-preserved : goal.loop-column-preserved
 loop-column-preserved c = record {
-  info = c.decode_macroblock.ensures.info ∙ c.loop-column.invariant.info;
-  width = c.decode_macroblock.ensures.width ∙ c.loop-column.invariant.width;
-  height = c.decode_macroblock.ensures.height ∙ c.loop-column.invariant.height;
-  columns = c.decode_macroblock.ensures.columns ∙ c.loop-column.invariant.columns;
+  same = then_same c.args.self.now c.loop-column.self c.decode_macroblock.new.self c.loop-column.invariant.same c.decode_macroblock.ensures.same;
   made = λ g wide inside stands.
       let f : FrameInfo = c.args.self.now.info in
       let n : ℕ = c.loop-column.column in
@@ -26,5 +17,5 @@ loop-column-preserved c = record {
       let within : n < g.columns = omega (arith, columns, wide) in
       let step = c.decode_macroblock.ensures.step seen (row_has f c.args.row n g c.args.d.now within inside) made.contexts in
       row_next f c.args.row n g c.args.d.now c.loop-column.d c.decode_macroblock.new.d c.args.self.now c.loop-column.self c.decode_macroblock.new.self made
-      (subst (λ (z : FrameInfo). IsMacroblockStep z (place c.args.row n) seen c.loop-column.d c.decode_macroblock.new.d c.loop-column.self c.decode_macroblock.new.self) c.loop-column.invariant.info step);
+      (subst (λ (z : FrameInfo). IsMacroblockStep z (place c.args.row n) seen c.loop-column.d c.decode_macroblock.new.d c.loop-column.self c.decode_macroblock.new.self) c.loop-column.invariant.same.info step);
 }

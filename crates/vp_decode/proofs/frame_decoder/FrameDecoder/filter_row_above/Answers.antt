@@ -1,25 +1,9 @@
-use Rattle.std.proofs.Common.{◌≡◌, ◌∙◌, ℕ, ap, sym}
-use Rattle.vp_base.specs.Image.{Image, macroblocks}
-use Rattle.vp_loop.proofs.WindowLemmas.{row_size}
-use Rattle.vp_decode.specs.FrameDecoder.{FrameDecoder}
+use Rattle.vp_decode.proofs.ReadingLemmas.{one_frame}
+use Rattle.vp_decode.proofs.RowsLemmas.{filtered_same}
 use Rattle.vp_decode.proofs.frame_decoder.FrameDecoder.filter_row_above.Goals as goal
 
-pub returns-then-row-gt0-clause-width : goal.returns-then-row-gt0-clause-width
-returns-then-row-gt0-clause-width g c =
-    ap (λ (p : Image). p.width) c.row.ensures ∙ (row_size _ _ c.self.inside.picture).width ∙ ap (λ (b : FrameDecoder). b.picture.width) c.self.view_is
-
-pub returns-then-row-gt0-clause-height : goal.returns-then-row-gt0-clause-height
-returns-then-row-gt0-clause-height g c =
-    ap (λ (p : Image). p.height) c.row.ensures ∙ (row_size _ _ c.self.inside.picture).height ∙ ap (λ (b : FrameDecoder). b.picture.height) c.self.view_is
+pub returns-then-row-gt0-clause-same : goal.returns-then-row-gt0-clause-same
+returns-then-row-gt0-clause-same g c = rw (← c.self.view_is) (filtered_same _ _ _ _ _ _ _ c.row.ensures)
 
 pub invariant_of-self : goal.invariant_of-self
-invariant_of-self g c =
-    let w : c.self.inside.picture.width ≡ c.row.new.picture.width = sym (ap (λ (p : Image). p.width) c.row.ensures ∙ (row_size _ _ c.self.inside.picture).width) in
-    let h : c.self.inside.picture.height ≡ c.row.new.picture.height = sym (ap (λ (p : Image). p.height) c.row.ensures ∙ (row_size _ _ c.self.inside.picture).height) in
-    record {
-      columns = c.self.invariant.columns ∙ ap (λ (n : ℕ). macroblocks n) w;
-      rows = c.self.invariant.rows ∙ ap (λ (n : ℕ). macroblocks n) h;
-      level_columns = c.self.invariant.level_columns ∙ ap (λ (n : ℕ). macroblocks n) w;
-      level_rows = c.self.invariant.level_rows ∙ ap (λ (n : ℕ). macroblocks n) h;
-      contexts = c.self.invariant.contexts ∙ ap (λ (n : ℕ). macroblocks n) w;
-    }
+invariant_of-self g c = one_frame _ _ (filtered_same _ _ c.self.inside.picture c.row.new.picture c.self.inside.info.now c.self.inside.contexts c.self.inside.levels c.row.ensures) c.self.invariant

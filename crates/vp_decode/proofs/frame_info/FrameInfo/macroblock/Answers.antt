@@ -1,5 +1,4 @@
-use Rattle.std.proofs.Common.{◌∙◌}
-use Rattle.vp_decode.specs.Frame.{FrameInfo, predictor_by, predictor_at}
+use Rattle.vp_decode.proofs.Words.{◌∙◌, FrameInfo, predictor_by, predictor_at}
 use Rattle.vp_decode.proofs.RowEntries.{item_at}
 use Rattle.vp_decode.proofs.frame_info.FrameInfo.macroblock.Goals as goal
 

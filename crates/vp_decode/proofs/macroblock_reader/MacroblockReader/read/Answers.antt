@@ -1,8 +1,7 @@
-use Rattle.std.proofs.Common.{◌≡◌, ◌∙◌, ℕ, ◌+◌, ◌*◌, List, [], length, sym, ap, arith}
-use Rattle.vp_bool.proofs.ReaderLemmas.{rows-more, rows-none, gives}
-use Rattle.vp_decode.specs.MacroblockMaps.{row_read, maps_read}
-use Rattle.vp_decode.proofs.MacroblockLists.{none-ahead, then-ahead, nothing-read}
+use Rattle.vp_decode.proofs.Words.{◌≡◌, ◌∙◌, ℕ, ◌+◌, ◌*◌, List, [], length, sym, ap, arith, rows-more, rows-none, Gives, gives, row_read, maps_read, maps_so_far, MacroblockReader, maps_before, modes_before}
+use Rattle.vp_decode.proofs.MacroblockLists.{none-ahead, then-ahead, nothing-read, all-read, kept-length}
 use Rattle.vp_decode.proofs.macroblock_reader.MacroblockReader.read.Goals as goal
+use Rattle.vp_decode.proofs.macroblock_reader.MacroblockReader.read.Goals.{After-of}
 
 nothing : (n : ℕ) → 0 ≡ 0 * n
 nothing n = omega arith
@@ -31,25 +30,23 @@ loop-row-preserved c =
           (ap (λ n. c.loop-row.row * c.args.self.columns + n) made.ahead.columns ∙ omega arith);
     }
 
-pub finish-requires : goal.finish-requires
-finish-requires c =
-    let ahead = c.loop-row.invariant.ahead in
-    let all : c.loop-row.row ≡ c.args.self.rows = omega (arith, c.loop-row-test.false, c.loop-row.auto.row-end, c.rows-row-end.ensures.value) in
-    ahead.read ∙ from-none c.args.self.read (c.loop-row.row * c.args.self.columns) c.requires
-    ∙ (λ i. (all ∙ sym ahead.rows) i * sym ahead.columns i)
+-- all rows are read
+all_rows : (c : After-of) → c.loop-row.row ≡ c.args.self.rows
+all_rows c = omega (arith, c.loop-row-test.false, c.loop-row.auto.row-end, c.rows-row-end.ensures.value)
+
+ended : (c : After-of) → Gives (maps_read c.args.header.now (maps_before (modes_before c.args.self)) c.args.d.now) (maps_so_far c.loop-row.reader) c.loop-row.d
+unfolding maps_read
+ended c = rw (← nothing-read c.args.self c.requires) (gives _ _ _ (rw (all_rows c) at c.loop-row.invariant.so_far))
 
 pub returns-clause-value : goal.returns-clause-value
-unfolding maps_read
 returns-clause-value c =
-    let made = c.loop-row.invariant in
-    let all : c.loop-row.row ≡ c.args.self.rows = omega (arith, c.loop-row-test.false, c.loop-row.auto.row-end, c.rows-row-end.ensures.value) in
-    let h = gives _ _ _ (rw all at made.so_far) in
-    c.finish.ensures ∙ rw (← nothing-read c.args.self c.requires) h.value
+    let ahead = c.loop-row.invariant.ahead in
+    let last = c.reader-2 in
+    let read : length c.loop-row.reader.read ≡ c.loop-row.reader.rows * c.loop-row.reader.columns =
+    ahead.read ∙ from-none c.args.self.read (c.loop-row.row * c.args.self.columns) c.requires
+    ∙ (λ i. (all_rows c ∙ sym ahead.rows) i * sym ahead.columns i) in
+    let whole = all-read _ (kept-length last.inside.columns last.inside.rows last.inside.kept_segments last.invariant.2) (rw (← last.view_is) at read) in
+    c.of.ensures ∙ whole ∙ ap (λ (r : MacroblockReader). maps_so_far r) last.view_is ∙ (ended c).value
 
 pub returns-clause-rest : goal.returns-clause-rest
-unfolding maps_read
-returns-clause-rest c =
-    let made = c.loop-row.invariant in
-    let all : c.loop-row.row ≡ c.args.self.rows = omega (arith, c.loop-row-test.false, c.loop-row.auto.row-end, c.rows-row-end.ensures.value) in
-    let h = gives _ _ _ (rw all at made.so_far) in
-    rw (← nothing-read c.args.self c.requires) h.rest
+returns-clause-rest c = (ended c).rest

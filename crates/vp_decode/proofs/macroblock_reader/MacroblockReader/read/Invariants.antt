@@ -1,7 +1,4 @@
-use Rattle.std.proofs.Common.{◌≡◌, ◌*◌}
-use Rattle.vp_bool.specs.Reader.{rows}
-use Rattle.vp_decode.specs.MacroblockMaps.{row_read}
-use Rattle.vp_decode.specs.MacroblockReader.{maps_so_far, IsAhead}
+use Rattle.vp_decode.proofs.Words.{◌≡◌, ◌*◌, rows, row_read, maps_so_far, IsAhead}
 use Rattle.vp_decode.proofs.macroblock_reader.MacroblockReader.read.Given as goal
 
 abbrev pub invariant-loop-row : goal.invariant-loop-row

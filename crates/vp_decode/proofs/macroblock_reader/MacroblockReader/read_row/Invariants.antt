@@ -1,7 +1,4 @@
-use Rattle.std.proofs.Common.{◌≡◌}
-use Rattle.vp_bool.specs.Reader.{rows}
-use Rattle.vp_decode.specs.MacroblockMaps.{macroblock_read, place}
-use Rattle.vp_decode.specs.MacroblockReader.{maps_so_far, IsAhead}
+use Rattle.vp_decode.proofs.Words.{◌≡◌, rows, macroblock_read, place, maps_so_far, IsAhead}
 use Rattle.vp_decode.proofs.macroblock_reader.MacroblockReader.read_row.Given as goal
 
 abbrev pub invariant-loop-column : goal.invariant-loop-column

@@ -1,5 +1,4 @@
-use Rattle.std.proofs.Common.{◌∙◌, sym, ap}
-use Rattle.vp_modes.specs.Map.{sub_of}
+use Rattle.vp_decode.proofs.Words.{◌∙◌, sym, ap, sub_of}
 use Rattle.vp_decode.proofs.MacroblockLists.{modes-read, sub-unread}
 use Rattle.vp_decode.proofs.macroblock_reader.MacroblockReaderModeGrid.sub_mode.Goals as goal
 

@@ -1,7 +1,6 @@
-use Rattle.std.proofs.Common.{◌≡◌, ◌∙◌, length, map, take, ap, sym, arith}
+use Rattle.vp_decode.proofs.Words.{◌≡◌, ◌∙◌, length, map, take, ap, sym, arith, MacroblockMaps}
 use Rattle.std.proofs.Math.Seq.{take-length}
 use Rattle.std.proofs.lemmas.Simd.{map-map}
-use Rattle.vp_decode.specs.MacroblockMaps.{MacroblockMaps}
 use Rattle.vp_decode.proofs.macroblocks.Macroblocks.segments_in.Goals as goal
 
 pub returns : goal.returns

@@ -1,6 +1,4 @@
-use Rattle.std.proofs.Common.{◌∙◌, ap}
-use Rattle.std.specs.Prelude.{is_some}
-use Rattle.vp_decode.specs.Outcomes.{OutcomeReader}
+use Rattle.vp_decode.proofs.Words.{◌∙◌, ap, is_some, OutcomeReader}
 use Rattle.vp_decode.proofs.OutcomeLemmas.{empty_told, frame_told, fault_told, has_state}
 use Rattle.vp_decode.proofs.outcome_reader.OutcomeReader.outcome.Goals as goal
 

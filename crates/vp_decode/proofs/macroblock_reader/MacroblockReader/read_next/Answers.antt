@@ -1,9 +1,6 @@
-use Rattle.std.proofs.Common.{◌∙◌, ap, sym}
-use Rattle.vp_head.specs.Reference.{is_intra}
-use Rattle.vp_modes.specs.Entry.{Modes}
-use Rattle.vp_motion.specs.Map.{intra}
+use Rattle.vp_decode.proofs.Words.{◌∙◌, ap, sym, is_intra, Modes, intra}
 use Rattle.vp_decode.proofs.MacroblockLists.{intra-read}
-use Rattle.vp_decode.proofs.macroblock_reader.MacroblockReader.read_macroblock.Goals as goal
+use Rattle.vp_decode.proofs.macroblock_reader.MacroblockReader.read_next.Goals as goal
 
 pub returns-then-is_intra-clause-maps : goal.returns-then-is_intra-clause-maps
 unfolding intra
