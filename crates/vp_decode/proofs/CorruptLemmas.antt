@@ -1,5 +1,6 @@
 -- Whether a frame is corrupt, by its facts.
-use Rattle.vp_decode.proofs.Words.{◌≡◌, ℕ, List, [], ◌∷◌, refl, Option, Result, Ok, Err, Limits, PacketFault, DecoderState, ParsedPacket, parsed, corrupt, corrupt_in, is_frame_corrupt, facts_in, frame_facts}
+use Rattle.std.proofs.Common.{[]}
+use Rattle.vp_decode.proofs.Words.{◌≡◌, ℕ, List, ◌∷◌, refl, Option, Result, Ok, Err, Limits, PacketFault, DecoderState, ParsedPacket, parsed, corrupt, corrupt_in, is_frame_corrupt, facts_in, frame_facts}
 
 is_frame_corrupt-facts_in : (r : Result ParsedPacket PacketFault) → is_frame_corrupt (facts_in r) ≡ corrupt_in r
 is_frame_corrupt-facts_in (Err f) = refl

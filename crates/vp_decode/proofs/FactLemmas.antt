@@ -1,5 +1,6 @@
 -- The facts of a frame are those of the states before and after it, and of the answer.
-use Rattle.vp_decode.proofs.Words.{◌≡◌, ◌∙◌, ℕ, Bool, true, false, List, [], ◌∷◌, Some, None, Ok, Err, inl, inr, refl, sym, ap, subst, Option, Result, IsSomeAnd, is_some, or_parts, Image, Limits, PacketFault, Header, KeyTag, Last, References, copied_by, reference_picture, picture_of, facts_of, facts_in, frame_facts, shown_before, IsOlder, AreFactsOfStep, DecoderState, FrameContext, ParsedPacket, context_of, parsed, frame_of_packet, references_after, shown_after, state_after, answer, decoded, step, outcome, ◌⊎◌, ◌||◌, FrameFacts}
+use Rattle.std.proofs.Common.{[]}
+use Rattle.vp_decode.proofs.Words.{◌≡◌, ◌∙◌, ℕ, Bool, true, false, List, ◌∷◌, Some, None, Ok, Err, inl, inr, refl, sym, ap, subst, Option, Result, IsSomeAnd, is_some, or_parts, Image, Limits, PacketFault, Header, KeyTag, Last, References, copied_by, reference_picture, picture_of, facts_of, facts_in, frame_facts, shown_before, IsOlder, AreFactsOfStep, DecoderState, FrameContext, ParsedPacket, context_of, parsed, frame_of_packet, references_after, shown_after, state_after, answer, decoded, step, outcome, ◌⊎◌, ◌||◌, FrameFacts}
 use Rattle.std.specs.Prelude.{if◌then◌else◌}
 use Rattle.vp_head.specs.declared.fields.ReferenceUpdates.{ReferenceUpdates}
 use Rattle.vp_head.specs.declared.fields.Reference.{Reference}

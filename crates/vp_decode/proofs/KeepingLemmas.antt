@@ -1,5 +1,6 @@
 -- A step that leaves the state after a fault, beside one that drops it.
-use Rattle.vp_decode.proofs.Words.{◌≡◌, ◌∙◌, ℕ, List, [], ◌∷◌, refl, sym, ap, Option, Limits, DecoderState, Answer, Shown, Hidden, Fault, step}
+use Rattle.std.proofs.Common.{[]}
+use Rattle.vp_decode.proofs.Words.{◌≡◌, ◌∙◌, ℕ, List, ◌∷◌, refl, sym, ap, Option, Limits, DecoderState, Answer, Shown, Hidden, Fault, step}
 use Rattle.std.specs.Prelude.{filter, if◌then◌else◌}
 use Rattle.vp_decode.specs.Keeping.{keeping, step_keeping, is_decoded, run_state, run_answers, sound_packets}
 

@@ -1,5 +1,6 @@
 -- A frame's macroblocks while they are read: the list of those that are read, and the maps that it stands for.
-use Rattle.vp_decode.proofs.Words.{◌≡◌, ◌∙◌, ℕ, zero, suc, ◌+◌, ◌*◌, ◌<◌, ◌≤◌, List, [], ◌∷◌, ◌++◌, length, map, drop, replicate, true, Bor, Some, None, refl, ap, sym, arith, Option, option_map, unwrap_or, slice_get, slice_index_or, slice_set, IfSome, slice_get-map, slice_get_within, slice_get-get_or, unwrap_or-slice_get, map-append, length-map, length-replicate, Place, State, bind, Has, changed, repeated, with_entry, entry-inside, number_fits, Header, is_intra, Modes, plain, plain_of, sub_of, modes_at, MacroblockMotion, intra, modes_in, motion_in, with_modes, macroblock_read, MacroblockReader, IsAhead, IsNext, begun, kept_modes, maps_of, maps_so_far, modes_before, with_macroblock, maps_before, get_or_from_slice_get, set-get_or}
+use Rattle.std.proofs.Common.{[]}
+use Rattle.vp_decode.proofs.Words.{◌≡◌, ◌∙◌, ℕ, zero, suc, ◌+◌, ◌*◌, ◌<◌, ◌≤◌, List, ◌∷◌, ◌++◌, length, map, drop, replicate, true, Bor, Some, None, refl, ap, sym, arith, Option, option_map, unwrap_or, slice_get, slice_index_or, slice_set, IfSome, slice_get-map, slice_get_within, slice_get-get_or, unwrap_or-slice_get, map-append, length-map, length-replicate, Place, State, bind, Has, changed, repeated, with_entry, entry-inside, number_fits, Header, is_intra, Modes, plain, plain_of, sub_of, modes_at, MacroblockMotion, intra, modes_in, motion_in, with_modes, macroblock_read, MacroblockReader, IsAhead, IsNext, begun, kept_modes, maps_of, maps_so_far, modes_before, with_macroblock, maps_before, get_or_from_slice_get, set-get_or}
 use Rattle.std.proofs.Math.Seq.{drop-nil}
 use Rattle.vp_tables.specs.declared.modes.SubMode.TheVariants as sub_is
 use Rattle.vp_decode.specs.declared.macroblocks.Macroblock.{Macroblock}

@@ -1,5 +1,6 @@
 -- A frame is corrupt exactly if one of its partitions is read past its end.
-use Rattle.vp_decode.proofs.Words.{◌≡◌, ◌∙◌, ℕ, zero, suc, ◌%◌, ◌<◌, ◌≤◌, true, false, List, [], ◌∷◌, length, Ok, inl, inr, sym, ap, subst, arith, Option, map, slice_index_or, slice_set, cases_Bool, lt-ltb, ltb-true, ltb-false, or_left, or_right, or_parts, State, initial_state, after_bools, Limits, over-holds, tag_of, FrameInfo, Readings, row_partition, token_row, nothing_read, readings, DecoderState, ParsedPacket, first_part, parsed, maps_before, frame_info_of, first_after, tokens_after, any_past, is_corrupt, corrupt_in, corrupt}
+use Rattle.std.proofs.Common.{[]}
+use Rattle.vp_decode.proofs.Words.{◌≡◌, ◌∙◌, ℕ, zero, suc, ◌%◌, ◌<◌, ◌≤◌, true, false, List, ◌∷◌, length, Ok, inl, inr, sym, ap, subst, arith, Option, map, slice_index_or, slice_set, cases_Bool, lt-ltb, ltb-true, ltb-false, or_left, or_right, or_parts, State, initial_state, after_bools, Limits, over-holds, tag_of, FrameInfo, Readings, row_partition, token_row, nothing_read, readings, DecoderState, ParsedPacket, first_part, parsed, maps_before, frame_info_of, first_after, tokens_after, any_past, is_corrupt, corrupt_in, corrupt}
 use Rattle.std.proofs.Math.Dec.{ltb}
 use Rattle.vp_bool.specs.Laws.{PastIsBits, bits_after_first, bits_shifted}
 use Rattle.vp_decode.proofs.TokenGrid.{rests_in_turn}

@@ -1,5 +1,6 @@
 -- Parsers read bools and nothing else: the frame header, the modes, the motion and the tokens.
-use Rattle.vp_decode.proofs.Words.{◌≡◌, ◌∙◌, ℕ, zero, suc, Bool, true, false, cond, List, [], ◌∷◌, ◌++◌, Option, Some, None, refl, sym, ap, State, read, literal, after_bools, Reader, bind, give, when, rows, each, Place, Grid, Header, Saved, Tag, magnitude, optional_signed, renewed, four_signed, segment_values, tree_probabilities, segmentation, level_deltas, quantiser_indices, copy, refreshes, skip, reference_probabilities, frame, frame_and_kept, header, segment_of, skip_by, inter_reference, reference_of, luma_mode, chroma_mode, sub_row, sub_modes, intra_modes, modes_at, Vector, MacroblockMotion, Candidates, with_bit, long_size, component_magnitude, component, vector, new_vector, part_by, part_vector, part_row, split_vectors, vector_mode, vectors_by, motion_by, motion_at, Probabilities, bits, level_magnitude, signed_level, token, levels, coefficient_block, Blocks, block_at, macroblock, FrameInfo, tokens_at, seen_read, row_seen, MacroblockMaps, motion_read, macroblock_read, row_read, maps_read}
+use Rattle.std.proofs.Common.{[]}
+use Rattle.vp_decode.proofs.Words.{◌≡◌, ◌∙◌, ℕ, zero, suc, Bool, true, false, cond, List, ◌∷◌, ◌++◌, Option, Some, None, refl, sym, ap, State, read, literal, after_bools, Reader, bind, give, when, rows, each, Place, Grid, Header, Saved, Tag, magnitude, optional_signed, renewed, four_signed, segment_values, tree_probabilities, segmentation, level_deltas, quantiser_indices, copy, refreshes, skip, reference_probabilities, frame, frame_and_kept, header, segment_of, skip_by, inter_reference, reference_of, luma_mode, chroma_mode, sub_row, sub_modes, intra_modes, modes_at, Vector, MacroblockMotion, Candidates, with_bit, long_size, component_magnitude, component, vector, new_vector, part_by, part_vector, part_row, split_vectors, vector_mode, vectors_by, motion_by, motion_at, Probabilities, bits, level_magnitude, signed_level, token, levels, coefficient_block, Blocks, block_at, macroblock, FrameInfo, tokens_at, seen_read, row_seen, MacroblockMaps, motion_read, macroblock_read, row_read, maps_read}
 use Rattle.vp_tree.specs.declared.entry.TreeEntry.{TreeEntry}
 use Rattle.vp_tree.specs.declared.entry.TreeEntry.TheVariants.{Leaf, Pair}
 use Rattle.vp_tree.specs.Tree.{next, walk, walk_from}

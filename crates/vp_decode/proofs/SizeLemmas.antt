@@ -1,5 +1,6 @@
 -- The sizes of a frame's picture and of what stands between packets.
-use Rattle.vp_decode.proofs.Words.{◌≡◌, ◌∙◌, ℕ, ◌*◌, Bool, true, false, cond, List, [], ◌∷◌, Some, None, refl, sym, ap, Option, Result, Ok, Err, IfSome, Place, Limits, Grid, Image, IsAligned, AreWhole, macroblocks, blank_image, AreOneSize, IsWhole-blank, over-holds, PacketFault, KeyTag, Header, Saved, ReferenceCopy, Nothing, Last, Other, Unused, Level, filtered, row_filtered, row_size, row_aligned, row_whole, References, copied_by, all_rebuilt, Frame, unfiltered, picture_of, IsOneSize, IsShaped, IsSized, AreSized, HasConsistentSizes, DecoderState, FrameContext, key_context, inter_context, context_of, ParsedPacket, parsed, frame_info_of, frame_of_packet, references_after, shown_after, state_after, decoded, step, ◌||◌}
+use Rattle.std.proofs.Common.{[]}
+use Rattle.vp_decode.proofs.Words.{◌≡◌, ◌∙◌, ℕ, ◌*◌, Bool, true, false, cond, List, ◌∷◌, Some, None, refl, sym, ap, Option, Result, Ok, Err, IfSome, Place, Limits, Grid, Image, IsAligned, AreWhole, macroblocks, blank_image, AreOneSize, IsWhole-blank, over-holds, PacketFault, KeyTag, Header, Saved, ReferenceCopy, Nothing, Last, Other, Unused, Level, filtered, row_filtered, row_size, row_aligned, row_whole, References, copied_by, all_rebuilt, Frame, unfiltered, picture_of, IsOneSize, IsShaped, IsSized, AreSized, HasConsistentSizes, DecoderState, FrameContext, key_context, inter_context, context_of, ParsedPacket, parsed, frame_info_of, frame_of_packet, references_after, shown_after, state_after, decoded, step, ◌||◌}
 use Rattle.vp_base.specs.declared.limits.Dim.{Dim}
 use Rattle.vp_recon.specs.Predictor.{Macroblock}
 use Rattle.vp_decode.proofs.CutLemmas.{opened-is, by_context}

@@ -1,5 +1,6 @@
 -- What is kept over a state is what is kept over the context of the frame.
-use Rattle.vp_decode.proofs.Words.{◌≡◌, ◌∙◌, Bool, true, false, List, [], ◌∷◌, length, ℕ, suc, arith, Some, None, Ok, refl, sym, ap, Err, subst, Option, Result, option_map, is_some, ok_or, NoReference, facts_in, frame_facts, step_by, Image, Limits, KeyTag, Header, Saved, PacketFault, segments_of, all_of, picture_of, state_from_frame, references_in, shown_of, by_fault, DecoderState, FrameContext, context_of, ParsedPacket, parsed, frame_info_of, frame_of_packet, references_after, shown_after, state_after, answer, decoded, shown_again, repeated_frame, step, Decoder, picture_in, after, outcome, ◌==◌, OnErr, Fault, Answer, IsDecoded, frame_outcome}
+use Rattle.std.proofs.Common.{[]}
+use Rattle.vp_decode.proofs.Words.{◌≡◌, ◌∙◌, Bool, true, false, List, ◌∷◌, length, ℕ, suc, arith, Some, None, Ok, refl, sym, ap, Err, subst, Option, Result, option_map, is_some, ok_or, NoReference, facts_in, frame_facts, step_by, Image, Limits, KeyTag, Header, Saved, PacketFault, segments_of, all_of, picture_of, state_from_frame, references_in, shown_of, by_fault, DecoderState, FrameContext, context_of, ParsedPacket, parsed, frame_info_of, frame_of_packet, references_after, shown_after, state_after, answer, decoded, shown_again, repeated_frame, step, Decoder, picture_in, after, outcome, ◌==◌, OnErr, Fault, Answer, IsDecoded, frame_outcome}
 use Rattle.std.proofs.lemmas.Bool.Decides.{nat_tests}
 use Rattle.vp_decode.specs.declared.decoder.DecodedPacket.{DecodedPacket}
 use Rattle.vp_decode.specs.declared.decoder.Outcome.TheVariants as code

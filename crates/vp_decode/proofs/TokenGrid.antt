@@ -1,5 +1,6 @@
 -- The grid of a frame's tokens has at each place the tokens that are read there at its turn.
-use Rattle.vp_decode.proofs.Words.{◌≡◌, ◌≢◌, ◌∙◌, ℕ, zero, suc, ◌*◌, ◌%◌, ◌<◌, ◌≤◌, List, [], ◌∷◌, length, replicate, map, refl, sym, ap, subst, arith, inl, inr, Option, slice_index_or, slice_set, unwrap_or, cases_lt, length-replicate, length-set, map-set, State, initial_state, bind, rows, Place, Grid, Has, at, all, repeated, entry, mapped, changed, with_entry, over, entry-here, entry-elsewhere, Blocks, blocks_of, has_y2, place, FrameInfo, ReadTokens, no_tokens_read, predictor_at, tokens_read, token_row_read, all_tokens_read, tokens_of, tokens_at, seen_read, row_seen, row_tokens, Readings, row_partition, readings, tokens_when_read}
+use Rattle.std.proofs.Common.{[]}
+use Rattle.vp_decode.proofs.Words.{◌≡◌, ◌≢◌, ◌∙◌, ℕ, zero, suc, ◌*◌, ◌%◌, ◌<◌, ◌≤◌, List, ◌∷◌, length, replicate, map, refl, sym, ap, subst, arith, inl, inr, Option, slice_index_or, slice_set, unwrap_or, cases_lt, length-replicate, length-set, map-set, State, initial_state, bind, rows, Place, Grid, Has, at, all, repeated, entry, mapped, changed, with_entry, over, entry-here, entry-elsewhere, Blocks, blocks_of, has_y2, place, FrameInfo, ReadTokens, no_tokens_read, predictor_at, tokens_read, token_row_read, all_tokens_read, tokens_of, tokens_at, seen_read, row_seen, row_tokens, Readings, row_partition, readings, tokens_when_read}
 use Rattle.vp_decode.proofs.MapLemmas.{rows-holds}
 
 -- ---- one macroblock

@@ -1,5 +1,5 @@
 -- The words of specs, and the lemmas of std and of the crates below, that the proofs of several functions cite.
-pub use Rattle.std.proofs.Common.{Bool, Bor, List, None, Some, [], add-one, ap, arith, cond, drop, false, get_or, inl, inr, length, length-drop, refl, replicate, subst, suc, sym, take, true, zero, ℕ, ◌%◌, ◌*◌, ◌++◌, ◌+◌, ◌-◌, ◌<◌, ◌^◌, ◌∙◌, ◌∷◌, ◌≡◌, ◌≢◌, ◌≤◌}
+pub use Rattle.std.proofs.Common.{Bool, Bor, List, None, Some, add-one, ap, arith, cond, drop, false, get_or, inl, inr, length, length-drop, refl, replicate, subst, suc, sym, take, true, zero, ℕ, ◌%◌, ◌*◌, ◌++◌, ◌+◌, ◌-◌, ◌<◌, ◌^◌, ◌∙◌, ◌∷◌, ◌≡◌, ◌≢◌, ◌≤◌}
 pub use Rattle.std.proofs.lemmas.Bool.{cases_Bool, cases_lt, le-ltb, lt-ltb, ltb-false, ltb-true, or_left, or_parts, or_right}
 pub use Rattle.std.proofs.lemmas.List.{get_or_default, get_or-drop, get_or-take, length-map, length-replicate, length-set, length-take-le, map-append, map-set, set-get_or}
 pub use Rattle.std.proofs.lemmas.Option.{get_or_from_slice_get, slice_get-get_or, slice_get-map, slice_get_read, slice_get_within, unwrap_or-slice_get}

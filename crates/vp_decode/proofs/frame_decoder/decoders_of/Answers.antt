@@ -1,4 +1,5 @@
-use Rattle.vp_decode.proofs.Words.{◌≡◌, ℕ, ◌≤◌, List, [], ◌∷◌, length, take, map, get_or, refl, arith, State, initial_state}
+use Rattle.std.proofs.Common.{[]}
+use Rattle.vp_decode.proofs.Words.{◌≡◌, ℕ, ◌≤◌, List, ◌∷◌, length, take, map, get_or, refl, arith, State, initial_state}
 use Rattle.vp_decode.proofs.frame_decoder.decoders_of.Goals as goal
 
 abbrev nth : List (List ℕ) → ℕ → State

@@ -1,4 +1,5 @@
-use Rattle.vp_decode.proofs.Words.{◌∙◌, [], ap, State, bind, four_signed, segment_values}
+use Rattle.std.proofs.Common.{[]}
+use Rattle.vp_decode.proofs.Words.{◌∙◌, ap, State, bind, four_signed, segment_values}
 use Rattle.vp_decode.proofs.header_start.pass_segment_values.Goals as goal
 
 -- without kept values the four are optional numbers over 0

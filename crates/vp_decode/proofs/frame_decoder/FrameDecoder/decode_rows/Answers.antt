@@ -1,4 +1,5 @@
-use Rattle.vp_decode.proofs.Words.{◌≡◌, ◌∙◌, ℕ, ◌+◌, ◌-◌, ◌%◌, ◌<◌, List, [], length, refl, sym, ap, subst, arith, length-set, slice_index_or, State, initial_state, Grid, Image, macroblocks, over, over-none, rebuilt, Blocks, place, FrameInfo, frame_of, tokens_of, macroblock_at, readings, row_partition, FrameDecoder, IsRow, IsOneFrame, IsAfterRows, IsSameFrame, get_or_default}
+use Rattle.std.proofs.Common.{[]}
+use Rattle.vp_decode.proofs.Words.{◌≡◌, ◌∙◌, ℕ, ◌+◌, ◌-◌, ◌%◌, ◌<◌, List, length, refl, sym, ap, subst, arith, length-set, slice_index_or, State, initial_state, Grid, Image, macroblocks, over, over-none, rebuilt, Blocks, place, FrameInfo, frame_of, tokens_of, macroblock_at, readings, row_partition, FrameDecoder, IsRow, IsOneFrame, IsAfterRows, IsSameFrame, get_or_default}
 use Rattle.vp_decode.proofs.TokenGrid.{rests_in_turn}
 use Rattle.vp_decode.proofs.ReadingLemmas.{same_frame, then_same, IsRowRead, rows_none, rows_next, rows_kept, row_of_frame, readings-sized}
 use Rattle.vp_decode.proofs.RowsLemmas.{filter_is_above, Rebuilds, row_filter, row_builder, row_is_below, row_keeps_shape, filtered_by_levels, frame_made}

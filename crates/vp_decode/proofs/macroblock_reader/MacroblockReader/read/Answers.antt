@@ -1,4 +1,5 @@
-use Rattle.vp_decode.proofs.Words.{◌≡◌, ◌∙◌, ℕ, ◌+◌, ◌*◌, List, [], length, sym, ap, arith, rows-more, rows-none, Gives, gives, row_read, maps_read, maps_so_far, MacroblockReader, maps_before, modes_before}
+use Rattle.std.proofs.Common.{[]}
+use Rattle.vp_decode.proofs.Words.{◌≡◌, ◌∙◌, ℕ, ◌+◌, ◌*◌, List, length, sym, ap, arith, rows-more, rows-none, Gives, gives, row_read, maps_read, maps_so_far, MacroblockReader, maps_before, modes_before}
 use Rattle.vp_decode.proofs.MacroblockLists.{none-ahead, then-ahead, nothing-read, all-read, kept-length}
 use Rattle.vp_decode.proofs.macroblock_reader.MacroblockReader.read.Goals as goal
 use Rattle.vp_decode.proofs.macroblock_reader.MacroblockReader.read.Goals.{After-of}
