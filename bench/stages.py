@@ -36,7 +36,7 @@ LIBVPX = (
 OURS = (
     (TOKENS, r"vp_tokens|vp_bool.*number_of"),
     (FILTER, r"vp_loop"),
-    (INTER, r"vp_inter|vp_recon.*(inter|moved|predict_(four|quarters))"),
+    (INTER, r"vp_inter|vp_recon.*(inter|moved|predict_(macroblock|luma|chroma|four|quarters))"),
     (INTRA, r"vp_intra|vp_recon.*intra"),
     (RESIDUE, r"vp_transform|vp_quant|vp_recon"),
     (MODES, r"vp_modes|vp_motion|vp_head|vp_bool|vp_tree|vp_decode|vp_refs"),

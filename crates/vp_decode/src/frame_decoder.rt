@@ -59,8 +59,8 @@ impl<'a> Model for FrameDecoder<'a> {
 }
 
 impl<'a> FrameDecoder<'a> {
-    /// Decodes the macroblock at a place: reads its tokens, rebuilds it, and computes its filter level. Inlined, so
-    /// that the compiler sees where the predictor comes from.
+    /// Decodes the macroblock at a place: reads its tokens unless it is skipped, rebuilds it, and looks up its limits of
+    /// the loop filter. Inlined, so that the compiler sees where the predictor comes from.
     #[inline(always)]
     fn decode_macroblock(&mut self, macroblock: &MacroblockInfo, place: Place, d: &mut BoolDecoder)
         requires place { Has self.old.info.maps.modes place }

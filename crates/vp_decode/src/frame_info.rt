@@ -226,7 +226,7 @@ impl<'a> FrameInfo<'a> {
         &factors[usize::from(modes.segment)]
     }
 
-    /// Returns the loop filter level of a macroblock. `coded` says whether it has any token.
+    /// Returns the loop filter's limits for a macroblock, which its level gives. `coded` says whether it has any token.
     #[tactic(auto, unfolding(crate::specs::Frame::level_at))]
     pub(crate) fn level(&self, macroblock: &MacroblockInfo, coded: bool) -> Level
         ensures { (place : Place) (tokens : Tokens) → IsMacroblockAt self.now place macroblock.now

@@ -84,7 +84,7 @@ fn read_with_kept(key: bool, kept: &Saved, d: &mut BoolDecoder) -> (Header, Save
     ensures rest { d.new ≡ (frame_and_kept key kept.now d.old).1 }
     ensures kind { result.0.key ≡ key }
 {
-    let header = read_frame(key, kept, d);
+    let header = read_fields(key, kept, d);
     let probabilities = if header.refresh_entropy {
         header.probabilities
     } else {
@@ -101,7 +101,7 @@ fn read_with_kept(key: bool, kept: &Saved, d: &mut BoolDecoder) -> (Header, Save
 
 /// Reads all syntax elements of the header, in order.
 #[tactic(auto, unfolding(crate::specs::Header::frame, vp_bool::specs::Reader::bind))]
-fn read_frame(key: bool, kept: &Saved, d: &mut BoolDecoder) -> Header
+fn read_fields(key: bool, kept: &Saved, d: &mut BoolDecoder) -> Header
     ensures value { result ≡ (frame key kept.now d.old).0 }
     ensures rest { d.new ≡ (frame key kept.now d.old).1 }
     ensures kind { result.key ≡ key }

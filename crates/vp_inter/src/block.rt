@@ -105,7 +105,7 @@ fn predict<const N: usize>(
     }
 }
 
-/// Predicts a block by the vertical pass over `N + 5` rows between the passes.
+/// Predicts a block by both passes, or by the vertical one alone, with `N + 5` rows between them.
 fn by_rows<const N: usize>(
     pixels: &mut [u8],
     at: usize,

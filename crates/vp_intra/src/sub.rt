@@ -42,7 +42,7 @@ fn row_of_above_right(x: usize, y: usize) -> usize
     if x % 16 == 12 { y - y % 16 } else { y }
 }
 
-/// Pixel `i`, 0 to 3, of those above and to the right of a subblock.
+/// Pixel `i`, 0 to 3, of those above and to the right of a subblock. Right of the frame the row's last is repeated.
 #[tactic(auto, unfolding(crate::specs::Sub::above_right_pixel))]
 fn pixel_at_right(plane: &Plane, x: usize, y: usize, i: usize) -> u8
     requires column { x + 4 ≤ plane.now.width }
@@ -98,7 +98,7 @@ fn above_right(plane: &Plane, x: usize, y: usize) -> u8x4
     ])
 }
 
-/// The thirteen pixels around a subblock: left column from the bottom, corner, row above; then the first three times.
+/// The thirteen pixels around a subblock: left column from the bottom, corner, row above; then the first three more times.
 fn pixels_around(plane: &Plane, x: usize, y: usize) -> u8x16
     requires columns { x + 4 ≤ plane.now.width }
     requires rows { y + 4 ≤ plane.now.height }

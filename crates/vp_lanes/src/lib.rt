@@ -1,5 +1,4 @@
-//! Vectors of 16 lanes: the loop filter processes sixteen lines at a time. No public contract of another crate
-//! mentions lanes.
+//! Vectors of 16 lanes: the loop filter processes sixteen lines at a time.
 #![tactic(auto)]
 
 ghost use Rattle.std.specs.Prelude.{◌≡◌, ℕ, ◌+◌, ◌≤◌, ◌<◌, ◌≤ℤ◌, pos, length, cond, slice_index, int_lt};

@@ -31,7 +31,8 @@ pub(crate) enum Orientation {
     Horizontal,
 }
 
-/// An edge of a macroblock. Pixel `p3` of the first line across it is at column `x` of row `y`.
+/// An edge of a macroblock. To `filter_edge` column `x` of row `y` has pixel `p3` of the first line across it; before,
+/// it is where the macroblock begins.
 #[derive(Clone, Copy)]
 pub(crate) struct Edge {
     pub(crate) planes: Planes,

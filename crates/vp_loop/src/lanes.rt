@@ -1,5 +1,6 @@
 //! The line step on sixteen lines at once, in the lanes of vectors. Each line has its own filter mask and high edge
-//! variance. Values from -128 to 127 are bytes with bias 128, so sums that saturate clamp as the standard does.
+//! variance. Values from -128 to 127 are bytes with bias 128, so sums that saturate clamp as the standard does. The
+//! last argument of `raised`, `lowered` and `where_low` is the bias of smaller numbers.
 
 ghost use Rattle.std.specs.Prelude.{◌≡◌, ℕ, ◌<◌, ◌≤◌, ◌+◌, ◌-ℤ◌, pos, slice_index, cond, ◌&&◌, nat_le, nat_lt};
 ghost use Rattle.std.specs.Prelude.{Bool, true};
