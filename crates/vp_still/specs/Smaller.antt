@@ -1,4 +1,4 @@
--- A picture that is made smaller, and the encoder for its key frame.
+-- Private to the crate: a picture that is made smaller, and the encoder for its key frame.
 use Rattle.std.specs.Prelude.{◌≡◌, ℕ, List}
 use Rattle.vp_base.specs.declared.limits.Dim.{Dim}
 use Rattle.vp_base.specs.Image.{Image, i420}
