@@ -1,7 +1,7 @@
 -- Lemmas on blocks that are written to a picture, and on rows of them.
-use Rattle.std.proofs.Common.{◌≡◌, ◌∙◌, ℕ, ◌+◌, ◌-◌, ◌*◌, ◌<◌, ◌≤◌, ◌⊎◌, inl, inr, Bool, true, cond, List, ◌++◌, length, take, drop, get_or, refl, ap, sym, arith, length-append, length-drop}
+use Rattle.std.proofs.Common.{◌≡◌, ◌∙◌, ℕ, zero, suc, ◌+◌, ◌-◌, ◌*◌, ◌<◌, ◌≤◌, ◌⊎◌, inl, inr, Bool, true, cond, List, [], ◌∷◌, ◌++◌, length, take, drop, get_or, refl, ap, sym, subst, arith, length-append, length-drop}
 use Rattle.std.proofs.lemmas.Simd.{put_chunk_is, length-put_chunk}
-use Rattle.std.proofs.lemmas.List.{length-take, take_all, take-append-le}
+use Rattle.std.proofs.lemmas.List.{length-take, take_all, take-append-le, take-append-drop, get_or-take, get_or-drop}
 use Rattle.std.proofs.lemmas.Nat.{row_fits}
 use Rattle.std.proofs.lemmas.Bool.Decides.{nat_tests}
 use lib.Lanes.{put_chunk}
@@ -45,6 +45,37 @@ row_written n h first now next row at stride f done room put size value = record
       ∙ ap (λ (q : Raster). q.pixels) (with_block_more p x y n h f row lies.columns (omega arith) size value);
   len = ap length put ∙ length-put_chunk (at + h * stride) now row ∙ done.len;
 }
+
+-- elements that are written in two pieces
+put_split : (i : ℕ) (xs a b : List ℕ) → put_chunk i xs (a ++ b) ≡ put_chunk (i + length a) (put_chunk i xs a) b
+put_split i [] a b = refl
+put_split zero (x ∷ xs) [] b = ap (λ (k : ℕ). put_chunk k (x ∷ xs) b) (let e : 0 ≡ 0 + 0 = omega arith in e)
+put_split zero (x ∷ xs) (y ∷ a) b =
+    ap (λ (l : List ℕ). y ∷ l) (put_split zero xs a b ∙ ap (λ (k : ℕ). put_chunk k (put_chunk zero xs a) b) (let e : 0 + length a ≡ length a = omega arith in e))
+    ∙ ap (λ (k : ℕ). put_chunk k (y ∷ put_chunk zero xs a) b) (let e : suc (length a) ≡ 0 + suc (length a) = omega arith in e)
+put_split (suc i) (x ∷ xs) a b =
+    ap (λ (l : List ℕ). x ∷ l) (put_split i xs a b)
+    ∙ ap (λ (k : ℕ). put_chunk k (x ∷ put_chunk i xs a) b) (let e : suc (i + length a) ≡ suc i + length a = omega arith in e)
+
+-- two rows more, which follow one another
+pub rows_written : (h more : ℕ) (first now next rows : List ℕ) (at : ℕ) (f : ℕ → ℕ → ℕ) → more ≡ h + 1 + 1 → IsBlockWritten 4 h first now at 4 f
+    → at + h * 4 + 8 ≤ length now → next ≡ put_chunk (at + h * 4) now rows → length rows ≡ 8
+    → ((c : ℕ) → c < 4 → get_or rows c 0 ≡ f h c) → ((c : ℕ) → c < 4 → get_or rows (4 + c) 0 ≡ f (h + 1) c)
+    → IsBlockWritten 4 more first next at 4 f
+rows_written h more first now next rows at f two done room put size upper lower =
+    let a : List ℕ = take 4 rows in
+    let b : List ℕ = drop 4 rows in
+    let one : List ℕ = put_chunk (at + h * 4) now a in
+    let front : length a ≡ 4 = length-take 4 rows ∙ omega arith in
+    let back : length b ≡ 4 = length-drop 4 rows ∙ omega arith in
+    let kept : length one ≡ length now = length-put_chunk (at + h * 4) now a in
+    subst (λ (k : ℕ). IsBlockWritten 4 k first next at 4 f) (sym two)
+    (row_written 4 (h + 1) first one next b at 4 f
+    (row_written 4 h first now one a at 4 f done (omega arith) refl front (λ c cin. get_or-take 4 rows c 0 cin ∙ upper c cin))
+    (omega arith)
+    (put ∙ ap (put_chunk (at + h * 4) now) (sym (take-append-drop 4 rows)) ∙ put_split (at + h * 4) now a b
+    ∙ ap (λ (k : ℕ). put_chunk k one b) (omega arith))
+    back (λ c cin. get_or-drop 4 rows c 0 ∙ lower c cin))
 
 -- rows of the same pixels
 pub written_alike : (n h : ℕ) (old new : List ℕ) (at stride : ℕ) (f g : ℕ → ℕ → ℕ) → IsBlockWritten n h old new at stride f

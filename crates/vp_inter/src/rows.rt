@@ -41,9 +41,9 @@ pub(crate) fn copy_rows<const N: usize>(
     }
 }
 
-/// The horizontal pass over `rows` rows. It multiplies bytes if the plane has at least sixteen columns, except by two
-/// taps in rows of sixteen. All tests come before the loop over the rows.
-#[inline(never)]
+/// The horizontal pass over `rows` rows. Rows of four and eight pixels multiply bytes, if the plane has at least sixteen
+/// columns.
+#[inline(always)]
 pub(crate) fn horizontal_rows<const N: usize>(
     pixels: &mut [u8],
     at: usize,
@@ -60,7 +60,27 @@ pub(crate) fn horizontal_rows<const N: usize>(
     if (N == 4 || N == 8) && patch.width >= 16 {
         let filter = horizontal_filter(patch, 0, weights);
         short_rows::<N>(pixels, at, stride, patch, &filter, rows);
-    } else if has_two_taps(weights.six) {
+    } else {
+        other_rows::<N>(pixels, at, stride, patch, weights, rows);
+    }
+}
+
+/// The horizontal pass over long rows, and over rows of narrow planes. All tests come before the loop over the rows.
+#[inline(never)]
+fn other_rows<const N: usize>(
+    pixels: &mut [u8],
+    at: usize,
+    stride: usize,
+    patch: &Patch,
+    weights: Weights,
+    rows: usize,
+)
+    requires size { N ≤ 16 }
+    requires rows { rows ≤ 22 }
+    requires room { HasRoomForBlock N rows pixels.old at stride }
+    ensures { IsBlockWritten N rows pixels.old pixels.new at stride (patch_pass weights.six.now patch.now) }
+{
+    if has_two_taps(weights.six) {
         if patch.is_inside(N + 5, rows) {
             rows_by_taps::<N, true, 2>(pixels, at, stride, patch, weights.six, rows);
         } else {
@@ -379,8 +399,25 @@ pub(crate) fn put_two<const N: usize>(
         → ((c : ℕ) → c < N → slice_index pair (8 + c) ≡ f (2 * i + 1) c)
         → IsBlockWritten N (2 * (i + 1)) before pixels.new at stride f }
 {
+    if N == 4 && stride == 4 {
+        return put_fours(pixels, at, i, first_fours(pair));
+    }
     put_eight::<N>(pixels, at, stride, 2 * i, first_eight(pair));
     put_eight::<N>(pixels, at, stride, 2 * i + 1, last_eight(pair));
+}
+
+/// Writes eight pixels as rows `2 * i` and `2 * i + 1` of four, which follow one another: one store takes fewer
+/// instructions than two.
+#[inline(always)]
+fn put_fours(pixels: &mut [u8], at: usize, i: usize, rows: u8x8)
+    requires few { i ≤ 11 }
+    requires room { at + 2 * i * 4 + 8 ≤ length pixels.old }
+    ensures { (before : List ℕ) (f : ℕ → ℕ → ℕ) → IsBlockWritten 4 (2 * i) before pixels.old at 4 f
+        → ((c : ℕ) → c < 4 → slice_index rows c ≡ f (2 * i) c)
+        → ((c : ℕ) → c < 4 → slice_index rows (4 + c) ≡ f (2 * i + 1) c)
+        → IsBlockWritten 4 (2 * (i + 1)) before pixels.new at 4 f }
+{
+    rows.copy_to_slice(&mut pixels[at + 2 * i * 4..]);
 }
 
 /// Writes sixteen pixels as a 4x4 block.
@@ -408,6 +445,14 @@ pub(crate) fn last_eight(row: u8x16) -> u8x8
     ensures { (c : ℕ) → c < 8 → slice_index result c ≡ slice_index row (8 + c) }
 {
     row.extract::<8, 8>()
+}
+
+/// The first four of each eight pixels.
+fn first_fours(pair: u8x16) -> u8x8
+    ensures front { (c : ℕ) → c < 4 → slice_index result c ≡ slice_index pair c }
+    ensures back { (c : ℕ) → c < 4 → slice_index result (4 + c) ≡ slice_index pair (8 + c) }
+{
+    pair.swizzle::<8>([0, 1, 2, 3, 8, 9, 10, 11])
 }
 
 /// The first four of eight pixels.

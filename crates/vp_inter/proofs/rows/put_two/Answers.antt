@@ -1,7 +1,20 @@
-use Rattle.std.proofs.Common.{◌∙◌, ℕ, subst, arith}
+use Rattle.std.proofs.Common.{◌∙◌, ℕ, ◌+◌, ◌*◌, subst, sym, arith}
 use Rattle.vp_inter.specs.Written.{IsBlockWritten}
 use Rattle.vp_inter.proofs.WrittenLemmas.{within}
 use Rattle.vp_inter.proofs.rows.put_two.Goals as goal
+
+pub returns-then-stride-eq4 : goal.returns-then-stride-eq4
+returns-then-stride-eq4 g c before f done upper lower =
+    let four = c.if-this-eq4.true in
+    let tight = c.if-stride-eq4.true in
+    let i : ℕ = c.args.i in
+    subst (λ (n : ℕ). IsBlockWritten n (2 * (i + 1)) before c.put_fours.new.pixels c.args.at c.args.stride f) (sym four)
+    (subst (λ (s : ℕ). IsBlockWritten 4 (2 * (i + 1)) before c.put_fours.new.pixels c.args.at s f) (sym tight)
+    (c.put_fours.ensures before f
+    (subst (λ (s : ℕ). IsBlockWritten 4 (2 * i) before c.args.pixels.now c.args.at s f) tight
+    (subst (λ (n : ℕ). IsBlockWritten n (2 * i) before c.args.pixels.now c.args.at c.args.stride f) four done))
+    (λ k kin. c.first_fours.ensures.front k kin ∙ upper k (omega (arith, four)))
+    (λ k kin. c.first_fours.ensures.back k kin ∙ lower k (omega (arith, four)))))
 
 pub returns : goal.returns
 returns g c before f done upper lower =
