@@ -3,28 +3,26 @@ use Rattle.std.proofs.Common.{◌≡◌, ◌∙◌, ◌⊎◌, ◌<◌, ◌+◌,
 use Rattle.std.proofs.lemmas.Bool.{le-ltb}
 use Rattle.std.proofs.lemmas.List.{map-append, take_more}
 use Rattle.std.specs.List.{list_all, position_or_len}
-use Rattle.std.specs.Prelude.{◌&&◌, ◌||◌, codes, Result, Ok, Err, IfOk, IfErr}
+use Rattle.std.specs.Prelude.{◌&&◌, codes, Result, Ok, Err, IfOk, IfErr}
 use Rattle.std.specs.Borrow.{Bor}
 use Rattle.clap.specs.Built.{AddsArg, AddsSubcommand}
 use Rattle.clap.specs.Walk.{Row, Rule, Text, rule_of, texts}
 use Rattle.clap.specs.Kinds.{FailsBy, HasKind}
 use Rattle.clap.specs.Faults.{fault_of, is_simple_and_free}
-use Rattle.clap.specs.Simple.{App, HasMatchesOf, app_of, is_simple, new_rule, subcommand_of, subcommand_rows_of, with_rule, with_subcommand}
+use Rattle.clap.specs.Simple.{App, HasMatchesOf, app_of, is_simple, subcommand_of, subcommand_rows_of, with_rule, with_subcommand}
 use Rattle.clap.proofs.OnLiterals.{clap_on_literals}
 use Rattle.clap.specs.declared.error.Error.{Error}
 use Rattle.clap.specs.declared.builder.arg.Arg.{Arg}
 use Rattle.clap.specs.declared.builder.command.Command.{Command}
 use Rattle.clap.specs.declared.builder.command.Command.TheViews.{out-Command as fields_of}
 use Rattle.clap.specs.declared.parser.matches.ArgMatches.{ArgMatches}
-use Rattle.vp_args.specs.Tables.{form_rule, formed_rule, is_required, named_rule, part_app, with_parts, word_rule}
-use Rattle.vp_args.specs.declared.words.Form.{Form}
-use Rattle.vp_args.specs.declared.words.Form.TheVariants.{Flag, Setting, Operand, Operands}
+use Rattle.vp_args.specs.Tables.{part_app, with_parts, word_rule}
 use Rattle.vp_args.specs.declared.words.Part.{Part}
 use Rattle.vp_args.specs.declared.words.Word.{Word}
 use Rattle.vp_args.specs.declared.args.Task.TheVariants.{Nothing}
 use Rattle.vp_args.specs.declared.args.Refusal.{Refusal}
 use Rattle.vp_args.specs.declared.args.Refusal.TheVariants.{ClapError, Value}
-use Rattle.vp_args.specs.Args.{ParsedArgs, serves, check_app, decode_app, encode_app, faults_of, info_app, picture_app, serve_app, vp8_app, Gains, IsFlag, IsForMemory, IsNoNaming, IsTaskFor, is_equals, is_parted, program, required_if, with_rules, with_service, asks_many}
+use Rattle.vp_args.specs.Args.{ParsedArgs, serves, check_app, decode_app, encode_app, faults_of, info_app, picture_app, serve_app, vp8_app, IsFlag, IsForMemory, IsNoNaming, IsTaskFor, is_equals, is_parted, program, with_rules, with_service, asks_many}
 
 -- ---- the commands
 
@@ -32,36 +30,17 @@ with_one_more : (a : App) (rules : List Rule) (r : Rule) → with_rules a (rules
 with_one_more a [] r = refl
 with_one_more a (x ∷ rules) r = with_one_more (with_rule a x) rules r
 
-globals_stay : (b c : Bool) → c ≡ false → (b || c) ≡ b
-globals_stay b c e = rw e (or_false b)
-  where
-    or_false : (x : Bool) → (x || false) ≡ x
-    or_false true = refl
-    or_false false = refl
-
-pub gains_one : (old : Command) (rules : List Rule) (mid : Command) (a : Arg) (r : Rule) (new : Command) → Gains old rules mid → AddsArg mid a new
-    → a.global ≡ false → rule_of a ≡ r → Gains old (rules ++ r ∷ []) new
-gains_one old rules mid a r new h adds local is = (
-  adds.shape local ∙ (ap (λ x. with_rule (app_of mid) x) is ∙ (ap (λ x. with_rule x r) h.0 ∙ sym (with_one_more (app_of old) rules r))),
-  adds.globals ∙ (globals_stay (fields_of mid).has_globals a.global local ∙ h.1),
-)
-
--- a name and a form are a word
-forms_rule : (must : Bool) (form : Form) (name : Text) → formed_rule form name (required_if must (new_rule name)) ≡ required_if must (form_rule form name)
-forms_rule must Flag name = refl
-forms_rule must (Setting value) name = refl
-forms_rule must Operand name = refl
-forms_rule must Operands name = refl
-
-pub forms_name : (many : Bool) (w : Word) (named formed : Rule) → formed ≡ formed_rule w.form w.name.now named → named ≡ named_rule many w → formed ≡ word_rule many w
-forms_name many w named formed e f = e ∙ (ap (formed_rule w.form w.name.now) f ∙ forms_rule (is_required many w.need) w.form w.name.now)
-
 -- one more word of a table
-pub gains_word : (many : Bool) (old mid new : Command) (words : List Word) (i : ℕ) (d : Word) (a : Arg) → i < length words → Gains old (map (word_rule many) (take i words)) mid
-    → AddsArg mid a new → a.global ≡ false → rule_of a ≡ word_rule many (get_or words i d) → Gains old (map (word_rule many) (take (i + 1) words)) new
-gains_word many old mid new words i d a lt h adds local is =
-    let e = ap (map (word_rule many)) (take_more words i d lt) ∙ map-append (word_rule many) (take i words) (get_or words i d ∷ []) in
-    subst (λ rules. Gains old rules new) (sym e) (gains_one old (map (word_rule many) (take i words)) mid a (word_rule many (get_or words i d)) new h adds local is)
+pub gains_word : (many : Bool) (first : App) (mid new : Command) (words : List Word) (i : ℕ) (d : Word) (a : Arg) → i < length words
+    → app_of mid ≡ with_rules first (map (word_rule many) (take i words)) → (fields_of mid).has_globals ≡ false
+    → AddsArg mid a new → a.global ≡ false → rule_of a ≡ word_rule many (get_or words i d)
+    → (app_of new ≡ with_rules first (map (word_rule many) (take (i + 1) words))) × ((fields_of new).has_globals ≡ false)
+gains_word many first mid new words i d a lt is none adds local rule =
+    let more = ap (map (word_rule many)) (take_more words i d lt) ∙ map-append (word_rule many) (take i words) (get_or words i d ∷ []) in
+    let one = with_one_more first (map (word_rule many) (take i words)) (word_rule many (get_or words i d)) in (
+      adds.shape local ∙ (ap (λ x. with_rule (app_of mid) x) rule ∙ (ap (λ x. with_rule x (word_rule many (get_or words i d))) is ∙ (sym one ∙ ap (with_rules first) (sym more)))),
+      adds.globals ∙ rw (none, local) refl,
+    )
 
 -- one more subcommand of a table
 with_one_part : (many : Bool) (a : App) (parts : List Part) (p : Part) → with_parts many a (parts ++ p ∷ []) ≡ with_subcommand (with_parts many a parts) (part_app many p).top

@@ -1,3 +1,4 @@
 pub mod NumberLemmas
 pub mod PlainArgs
 pub mod ArgsLemmas
+pub mod SameWords

@@ -9,10 +9,8 @@ use Rattle.clap.specs.Lexer.{usize_max, long_of, short_of}
 use Rattle.clap.specs.Values.{kind_of}
 use Rattle.clap.specs.Kinds.{Kinds, HasKind, IsAmong}
 use Rattle.clap.specs.Walk.{Row, Rule, Text, all_of, first_of, one_of, texts}
-use Rattle.clap.specs.Simple.{App, app_of, new_app, new_rule, on_top, subcommand_of, with_rule, with_subcommand}
+use Rattle.clap.specs.Simple.{App, new_app, new_rule, on_top, subcommand_of, with_rule, with_subcommand}
 use Rattle.clap.specs.Faults.{fault_of}
-use Rattle.clap.specs.declared.builder.command.Command.{Command}
-use Rattle.clap.specs.declared.builder.command.Command.TheViews.{out-Command as fields_of}
 use Rattle.clap.specs.declared.builder.action.ArgAction.TheVariants.{Set, Append, SetTrue}
 use Rattle.clap.specs.declared.error.kind.ErrorKind.TheVariants.{DisplayHelp, DisplayVersion, OutOfMemory}
 use Rattle.vp_args.specs.declared.check_args.CheckArgs.{CheckArgs}
@@ -66,11 +64,6 @@ operands_rule name =
 abbrev pub with_rules : App → List Rule → App
 with_rules a [] = a
 with_rules a (r ∷ rs) = with_rules (with_rule a r) rs
-
--- the new command is the old one with these additional arguments
-abbrev pub Gains : Command → List Rule → Command → Type 0
-Gains old rules new = (app_of new ≡ with_rules (app_of old) rules)
-    × ((fields_of new).has_globals ≡ (fields_of old).has_globals)
 
 -- the options of `decode`
 abbrev pub picture_rules : List Rule
@@ -188,15 +181,15 @@ program many = with_subcommand (with_subcommand (with_subcommand (with_subcomman
 abbrev pub is_equals : ℕ → Bool
 is_equals byte = byte == 61
 
+-- the options for many connections at once
+abbrev pub many_options : List Text
+many_options =
+    codes "--max-connections" ∷ codes "--idle-timeout" ∷ codes "--cursors"
+    ∷ codes "--follow" ∷ codes "--poll-interval" ∷ codes "--access-log" ∷ []
+
 -- the argument is an option for many connections at once
 abbrev pub is_many_option : Text → Bool
-is_many_option word =
-    bytes_eq (before_first is_equals word) (codes "--max-connections")
-    || (bytes_eq (before_first is_equals word) (codes "--idle-timeout")
-    || (bytes_eq (before_first is_equals word) (codes "--cursors")
-    || (bytes_eq (before_first is_equals word) (codes "--follow")
-    || (bytes_eq (before_first is_equals word) (codes "--poll-interval")
-    || bytes_eq (before_first is_equals word) (codes "--access-log")))))
+is_many_option word = list_any (λ option. bytes_eq option (before_first is_equals word)) many_options
 
 -- such an argument, or one after it
 abbrev pub asks_many_at : Text → Bool → Bool
@@ -280,28 +273,19 @@ abbrev pub service_of : List Row → Option Text → ParsedArgs
 service_of rows None = turns_of rows
 service_of rows (Some most) = many_of rows
 
--- the task of `picture` or `serve`, given the name and the arguments
-abbrev pub serving_at : Text → List Row → ParsedArgs
-serving_at name rows =
-    if bytes_eq name (codes "picture") then with_operands (pictures rows) (first_of (codes "IN") rows)
-    (first_of (codes "OUT") rows)
-    else (if bytes_eq name (codes "serve") then service_of rows (first_of (codes "max-connections") rows) else nothing)
-
--- the task of `info` or `check`, or of these
-abbrev pub listing_at : Text → List Row → ParsedArgs
-listing_at name rows =
-    if bytes_eq name (codes "info") then with_files (tells rows) (all_of (codes "IN") rows)
-    else (if bytes_eq name (codes "check") then with_files (checks rows) (all_of (codes "IN") rows)
-    else serving_at name rows)
-
 -- the task, given a subcommand's name and its arguments
 abbrev pub asked_at : Text → List Row → ParsedArgs
 asked_at name rows =
     if bytes_eq name (codes "decode")
     then decoding_at rows (first_of (codes "IN") rows) (first_of (codes "OUT") rows)
-    else (if bytes_eq name (codes "encode") then with_operands (encodes rows) (first_of (codes "IN") rows)
-    (first_of (codes "OUT") rows)
-    else listing_at name rows)
+    else (if bytes_eq name (codes "encode")
+    then with_operands (encodes rows) (first_of (codes "IN") rows) (first_of (codes "OUT") rows)
+    else (if bytes_eq name (codes "info") then with_files (tells rows) (all_of (codes "IN") rows)
+    else (if bytes_eq name (codes "check") then with_files (checks rows) (all_of (codes "IN") rows)
+    else (if bytes_eq name (codes "picture")
+    then with_operands (pictures rows) (first_of (codes "IN") rows) (first_of (codes "OUT") rows)
+    else (if bytes_eq name (codes "serve") then service_of rows (first_of (codes "max-connections") rows)
+    else nothing)))))
 
 -- the task, given a subcommand, if there is one
 abbrev pub parsed_command : Option (Text × List Row) → ParsedArgs

@@ -5,9 +5,7 @@ use Rattle.std.specs.List.{list_all, list_any}
 use Rattle.std.specs.Str.Parse.{digits_value, IsNumeral}
 use Rattle.clap.specs.Values.{kind_of}
 use Rattle.clap.specs.Walk.{Row, Rule, Text, first_of}
-use Rattle.clap.specs.Lexer.{usize_max}
-use Rattle.clap.specs.Simple.{App, new_app, new_rule, with_subcommand}
-use Rattle.clap.specs.declared.builder.action.ArgAction.TheVariants.{Set, Append, SetTrue}
+use Rattle.clap.specs.Simple.{App, new_app, with_subcommand}
 use Rattle.clap.specs.declared.error.kind.ErrorKind.TheVariants.{OutOfMemory}
 use Rattle.vp_args.specs.declared.args.Refusal.{Refusal}
 use Rattle.vp_args.specs.declared.args.Refusal.TheVariants.{ClapError, Value}
@@ -39,18 +37,6 @@ form_rule Operands name = operands_rule name
 -- the rule of a word
 abbrev pub word_rule : Bool → Word → Rule
 word_rule many w = required_if (is_required many w.need) (form_rule w.form w.name.now)
-
--- the rule of a word that has no form yet
-abbrev pub named_rule : Bool → Word → Rule
-named_rule many w = required_if (is_required many w.need) (new_rule w.name.now)
-
--- a rule that gets this form
-abbrev pub formed_rule : Form → Text → Rule → Rule
-formed_rule Flag name r = record r { long = Some name; action = Some SetTrue }
-formed_rule (Setting value) name r = record r { long = Some name; action = Some Set; value_names = 1 }
-formed_rule Operand name r = record r { action = Some Set }
-formed_rule Operands name r =
-    record r { range = Some (record { start_inclusive = 1; end_inclusive = usize_max }); action = Some Append }
 
 -- a subcommand
 abbrev pub part_app : Bool → Part → App

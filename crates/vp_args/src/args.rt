@@ -1,20 +1,21 @@
 //! Parses the command line.
 
-ghost use Rattle.std.specs.Prelude.{◌≡◌, ◌<◌, [], IfErr, IfOk, None, Ok, codes, option_map};
+ghost use Rattle.std.specs.Prelude.{◌≡◌, [], IfErr, IfOk, codes, option_map};
 ghost use Rattle.clap.specs.Words.{found_of, rows_of, subcommand_rows_of};
 ghost use Rattle.clap.specs.Kinds.{HasKind};
 ghost use Rattle.clap.specs.Simple.{subcommand_of};
 ghost use Rattle.clap.specs.Walk.{all_of, first_of, one_of, texts};
-ghost use Rattle.vp_args.specs.Args.{asked_at, asks_many, encodes, faults_of, listing_at, parsed_args};
-ghost use Rattle.vp_args.specs.Args.{parsed_command, program, serves, serving_at, turns_of, AreNamed, AreNoSettings};
-ghost use Rattle.vp_args.specs.Args.{AreSettings, IsFlag, IsNoNaming, IsRefusal, IsInvalidValue, IsRefusalFor, IsTaskFor};
+ghost use Rattle.vp_args.specs.Args.{asked_at, asks_many, encodes, faults_of, parsed_args};
+ghost use Rattle.vp_args.specs.Args.{parsed_command, program, serves, turns_of, AreNamed};
+ghost use Rattle.vp_args.specs.Args.{IsFlag, IsNoNaming, IsRefusal, IsRefusalFor, IsTaskFor};
 
 use crate::check_args::{CheckArgs, check_task};
 use crate::decode_args::{DecodeArgs, DecodeRangeArgs};
 use crate::encode_args::{EncodeArgs, EncodeOptions};
+use crate::file_limits::FileLimits;
 use crate::info_args::{InfoArgs, info_task};
 use crate::many_args::{asks_many, serve_many_task};
-use crate::numbers::{ENCODE_NUMBERS, decimal, file_limits, kept_pictures, numbers};
+use crate::numbers::{CACHE, ENCODE_NUMBERS, decimal, number_of, numbers};
 use crate::picture_args::PictureArgs;
 use crate::picture_options::picture_task;
 use crate::range_args::decode_task;
@@ -105,8 +106,7 @@ fn read_matches<'a>(alloc: Global, matches: &ArgMatches<'a>) -> Result<Task<'a>,
     }
 }
 
-// Converts the arguments of a subcommand into a task. The subcommands are divided among three functions, as the proof
-// of one with many calls that may fail is dear.
+// Converts the arguments of a subcommand into a task.
 fn named_task<'a>(alloc: Global, name: &str, found: &ArgMatches<'a>) -> Result<Task<'a>, Refusal>
     ensures plan { IfOk result (IsTaskFor (asked_at name.now (rows_of (found_of found.now)))) }
     ensures refusal { IfErr result (IsRefusal (asked_at name.now (rows_of (found_of found.now)))) }
@@ -114,28 +114,8 @@ fn named_task<'a>(alloc: Global, name: &str, found: &ArgMatches<'a>) -> Result<T
     match name {
         "decode" => decode_task(found),
         "encode" => encode_task(found),
-        _ => listing_task(alloc, name, found),
-    }
-}
-
-// Converts the arguments of `info`, `check` or a command after them.
-fn listing_task<'a>(alloc: Global, name: &str, found: &ArgMatches<'a>) -> Result<Task<'a>, Refusal>
-    ensures plan { IfOk result (IsTaskFor (listing_at name.now (rows_of (found_of found.now)))) }
-    ensures refusal { IfErr result (IsRefusal (listing_at name.now (rows_of (found_of found.now)))) }
-{
-    match name {
         "info" => info_task(alloc, found),
         "check" => check_task(alloc, found),
-        _ => serving_task(alloc, name, found),
-    }
-}
-
-// Converts the arguments of `picture` or `serve`.
-fn serving_task<'a>(alloc: Global, name: &str, found: &ArgMatches<'a>) -> Result<Task<'a>, Refusal>
-    ensures plan { IfOk result (IsTaskFor (serving_at name.now (rows_of (found_of found.now)))) }
-    ensures refusal { IfErr result (IsRefusal (serving_at name.now (rows_of (found_of found.now)))) }
-{
-    match name {
         "picture" => picture_task(found),
         "serve" => serve_task(alloc, found),
         _ => Ok(Task::Nothing),
@@ -182,22 +162,6 @@ fn encode_task_args<'a>(
     ensures refusal { IfErr result (IsRefusal (encodes (rows_of
         (found_of found.now)) input.entry.now output.entry.now)) }
 {
-    let options = encode_options(found)?;
-    let limits = file_limits(found)?;
-    Ok(Task::Encode(EncodeArgs {
-        options,
-        progress: is_set(found, "progress"),
-        live: is_set(found, "live"),
-        limits,
-        input,
-        output,
-    }))
-}
-
-fn encode_options(found: &ArgMatches<'_>) -> Result<EncodeOptions, Refusal>
-    ensures settings { IfOk result (AreSettings (rows_of (found_of found.now))) }
-    ensures refusal { IfErr result (λ r. IsInvalidValue r × AreNoSettings (rows_of (found_of found.now))) }
-{
     let [
         qi,
         level,
@@ -206,18 +170,27 @@ fn encode_options(found: &ArgMatches<'_>) -> Result<EncodeOptions, Refusal>
         golden_every,
         range,
         partitions,
-    ] = numbers::<7>(found, ENCODE_NUMBERS.as_slice())?;
-    Ok(EncodeOptions {
-        qi: qi as u8,
-        level: level as u8,
-        sharpness: sharpness as u8,
-        simple: is_set(found, "simple"),
-        key_every,
-        golden_every,
-        range: range as u8,
-        subpel: is_set(found, "subpel"),
-        partitions: partitions as u8,
-    })
+        packets,
+        pixels,
+    ] = numbers::<9>(found, ENCODE_NUMBERS.as_slice())?;
+    Ok(Task::Encode(EncodeArgs {
+        options: EncodeOptions {
+            qi: qi as u8,
+            level: level as u8,
+            sharpness: sharpness as u8,
+            simple: is_set(found, "simple"),
+            key_every,
+            golden_every,
+            range: range as u8,
+            subpel: is_set(found, "subpel"),
+            partitions: partitions as u8,
+        },
+        progress: is_set(found, "progress"),
+        live: is_set(found, "live"),
+        limits: FileLimits { packets, pixels },
+        input,
+        output,
+    }))
 }
 
 fn serve_task<'a>(alloc: Global, found: &ArgMatches<'a>) -> Result<Task<'a>, Refusal>
@@ -262,7 +235,7 @@ fn serve_task_args<'a>(
     let Some(connections) = decimal(connections) else {
         return Err(Refusal::Value("--connections is a decimal number"));
     };
-    let cache = kept_pictures(found)?;
+    let cache = number_of(found, &CACHE)?;
     Ok(Task::Serve(ServeArgs {
         listen,
         connections,

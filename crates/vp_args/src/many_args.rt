@@ -9,10 +9,20 @@ ghost use Rattle.vp_args.specs.Args.{IsRefusal, IsTaskFor};
 ghost use Rattle.vp_args.specs.Tables.{IsNoFollowing};
 
 use crate::args::{Refusal, Task, is_set, named_files, text_of, texts_of};
-use crate::numbers::{SERVE_NUMBERS, kept_pictures, numbers};
+use crate::numbers::{SERVE_NUMBERS, numbers};
 use crate::serve_args::{NamedFile, ServeArgs, ServeManyArgs};
 use clap::ArgMatches;
 use std::alloc::Global;
+
+// The options for many connections at once.
+const MANY_OPTIONS: &[&str] = &[
+    "--max-connections",
+    "--idle-timeout",
+    "--cursors",
+    "--follow",
+    "--poll-interval",
+    "--access-log",
+];
 
 /// Whether an argument before `--` is an option for many connections at once.
 #[tactic(auto, unfolding(crate::specs::Args::asks_many))]
@@ -34,13 +44,7 @@ pub(crate) fn asks_many(words: &[&str]) -> bool
 fn is_many_option(word: &str) -> bool
     ensures { result ≡ is_many_option word.now }
 {
-    let name = option_name(word);
-    name == "--max-connections"
-        || name == "--idle-timeout"
-        || name == "--cursors"
-        || name == "--follow"
-        || name == "--poll-interval"
-        || name == "--access-log"
+    MANY_OPTIONS.contains(&option_name(word))
 }
 
 // What comes before the first `=`.
@@ -84,8 +88,8 @@ fn serve_many_args<'a>(
         poll_interval,
         cursors,
         connections,
-    ] = numbers::<5>(found, SERVE_NUMBERS.as_slice())?;
-    let cache = kept_pictures(found)?;
+        cache,
+    ] = numbers::<6>(found, SERVE_NUMBERS.as_slice())?;
     let follow = is_set(found, "follow");
     let streams = followed_files(alloc, follow, operands)?;
     Ok(Task::ServeMany(ServeManyArgs {

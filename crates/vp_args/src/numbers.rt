@@ -1,9 +1,9 @@
 //! The numbers that options give.
 
-ghost use Rattle.std.specs.Prelude.{◌≡◌, ◌≤◌, ◌<◌, ◌^◌, IfErr, IfOk, IfSome, None, codes, length};
+ghost use Rattle.std.specs.Prelude.{◌≡◌, ◌^◌, IfErr, IfOk, IfSome, None, length};
 ghost use Rattle.clap.specs.Words.{found_of, rows_of};
 ghost use Rattle.clap.specs.Walk.{first_of};
-ghost use Rattle.vp_args.specs.Args.{AreFileLimits, AreNoFileLimits, IsDecimal, IsMisnumbered, IsNoCache, IsNoDecimal};
+ghost use Rattle.vp_args.specs.Args.{AreFileLimits, AreNoFileLimits, IsDecimal, IsMisnumbered, IsNoDecimal};
 ghost use Rattle.vp_args.specs.Args.{IsNumber, IsInvalidValue};
 ghost use Rattle.vp_args.specs.Tables.{AreMissed, AreNumbers, IsMissed, IsNumberOf};
 
@@ -20,8 +20,8 @@ pub(crate) struct Number {
     pub(crate) refusal: &'static str,
 }
 
-/// The numbers of `encode`.
-pub(crate) const ENCODE_NUMBERS: [Number; 7] = [
+/// The numbers of `encode`, with the limits on files.
+pub(crate) const ENCODE_NUMBERS: [Number; 9] = [
     Number {
         name: "qi",
         usual: 32,
@@ -71,37 +71,40 @@ pub(crate) const ENCODE_NUMBERS: [Number; 7] = [
         most: 255,
         refusal: "--partitions is 1, 2, 4 or 8",
     },
+    MAX_PACKETS,
+    MAX_PIXELS,
 ];
 
-/// The limits on files.
-pub(crate) const LIMIT_NUMBERS: [Number; 2] = [
-    Number {
-        name: "max-packets",
-        usual: 1_048_576,
-        least: 1,
-        most: 16_777_216,
-        refusal: "--max-packets is a number from 1 to 16777216",
-    },
-    Number {
-        name: "max-pixels",
-        usual: 16_777_216,
-        least: 1,
-        most: 268_402_689,
-        refusal: "--max-pixels is a number from 1 to 268402689",
-    },
-];
+// The limits on files.
+const LIMIT_NUMBERS: &[Number] = &[MAX_PACKETS, MAX_PIXELS];
 
-/// The numbers of `picture`.
-pub(crate) const PICTURE_NUMBERS: [Number; 1] = [Number {
+const MAX_PACKETS: Number = Number {
+    name: "max-packets",
+    usual: 1_048_576,
+    least: 1,
+    most: 16_777_216,
+    refusal: "--max-packets is a number from 1 to 16777216",
+};
+
+const MAX_PIXELS: Number = Number {
+    name: "max-pixels",
+    usual: 16_777_216,
+    least: 1,
+    most: 268_402_689,
+    refusal: "--max-pixels is a number from 1 to 268402689",
+};
+
+/// The quantiser index of `picture`.
+pub(crate) const PICTURE_QI: &Number = &Number {
     name: "qi",
     usual: 8,
     least: 0,
     most: 127,
     refusal: "--qi is a number from 0 to 127",
-}];
+};
 
-// The number of cached pictures.
-const CACHE: Number = Number {
+/// The number of cached pictures.
+pub(crate) const CACHE: Number = Number {
     name: "cache",
     usual: 16,
     least: 1,
@@ -109,8 +112,8 @@ const CACHE: Number = Number {
     refusal: "--cache is a number from 1 to 4096",
 };
 
-/// The numbers of `serve` for many connections at once, without the number of cached pictures.
-pub(crate) const SERVE_NUMBERS: [Number; 5] = [
+/// The numbers of `serve` for many connections at once.
+pub(crate) const SERVE_NUMBERS: [Number; 6] = [
     Number {
         name: "max-connections",
         usual: 64,
@@ -146,6 +149,7 @@ pub(crate) const SERVE_NUMBERS: [Number; 5] = [
         most: u32::MAX,
         refusal: "--connections is a decimal number",
     },
+    CACHE,
 ];
 
 /// Returns the numbers of a table.
@@ -164,47 +168,27 @@ pub(crate) fn numbers<const N: usize>(
     Ok(all)
 }
 
-// Returns the number of an option, or its default.
-fn number_of(found: &ArgMatches<'_>, option: &Number) -> Result<u32, Refusal>
+/// Returns the number of an option, or its default.
+pub(crate) fn number_of(found: &ArgMatches<'_>, option: &Number) -> Result<u32, Refusal>
     ensures number { IfOk result (IsNumberOf (rows_of (found_of found.now)) option.now) }
     ensures refusal { IfErr result (λ r. IsInvalidValue r
         × IsMissed option.now (first_of option.now.name.now (rows_of (found_of found.now)))) }
 {
-    let number = count(found, option.name, option.usual, option.refusal)?;
-    if number < option.least || option.most < number {
-        return Err(Refusal::Value(option.refusal));
+    match count(found, option.name, option.usual) {
+        Some(number) if option.least <= number && number <= option.most => Ok(number),
+        _ => Err(Refusal::Value(option.refusal)),
     }
-    Ok(number)
 }
 
 /// Returns the 32-bit number of an option, or its default.
-pub(crate) fn count(
-    found: &ArgMatches<'_>,
-    option: &str,
-    usual: u32,
-    refusal: &'static str,
-) -> Result<u32, Refusal>
-    ensures number { IfOk result (IsNumber (first_of option.now (rows_of (found_of found.now))) usual) }
-    ensures refusal { IfErr result (λ r. IsInvalidValue r × IsMisnumbered (2 ^ 32)
-        (first_of option.now (rows_of (found_of found.now)))) }
+pub(crate) fn count(found: &ArgMatches<'_>, option: &str, usual: u32) -> Option<u32>
+    ensures some { IfSome result (IsNumber (first_of option.now (rows_of (found_of found.now))) usual) }
+    ensures none { result ≡ None → IsMisnumbered (2 ^ 32) (first_of option.now (rows_of (found_of found.now))) }
 {
-    let Some(text) = text_of(found, option) else {
-        return Ok(usual);
-    };
-    match decimal(text) {
-        Some(number) => Ok(number),
-        None => Err(Refusal::Value(refusal)),
+    match text_of(found, option) {
+        Some(text) => decimal(text),
+        None => Some(usual),
     }
-}
-
-/// Returns the number of cached pictures, 1 to 4096; the default is 16.
-pub(crate) fn kept_pictures(found: &ArgMatches<'_>) -> Result<u32, Refusal>
-    ensures number { IfOk result (λ n. IsNumber (first_of (codes "cache") (rows_of (found_of found.now))) 16 n × (0 < n)
-        × (n ≤ 4096)) }
-    ensures refusal { IfErr result (λ r. IsInvalidValue r × IsNoCache
-        (first_of (codes "cache") (rows_of (found_of found.now)))) }
-{
-    number_of(found, &CACHE)
 }
 
 /// Returns the limits that `--max-packets` and `--max-pixels` give.
@@ -212,7 +196,7 @@ pub(crate) fn file_limits(found: &ArgMatches<'_>) -> Result<FileLimits, Refusal>
     ensures limits { IfOk result (AreFileLimits (rows_of (found_of found.now))) }
     ensures refusal { IfErr result (λ r. IsInvalidValue r × AreNoFileLimits (rows_of (found_of found.now))) }
 {
-    let [packets, pixels] = numbers::<2>(found, LIMIT_NUMBERS.as_slice())?;
+    let [packets, pixels] = numbers::<2>(found, LIMIT_NUMBERS)?;
     Ok(FileLimits { packets, pixels })
 }
 

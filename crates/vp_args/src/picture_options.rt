@@ -8,7 +8,7 @@ ghost use Rattle.vp_args.specs.Args.{asked_at, form_by_name, has_end, pictures, 
 ghost use Rattle.vp_args.specs.Args.{IsNoScale, IsNumber, IsInvalidValue, IsPacket, IsTaskFor};
 
 use crate::args::{Refusal, Task, text_of};
-use crate::numbers::{PICTURE_NUMBERS, count, decimal, file_limits, numbers};
+use crate::numbers::{PICTURE_QI, count, decimal, file_limits, number_of};
 use crate::picture_args::{PictureArgs, StillForm};
 use clap::ArgMatches;
 use vp_scale::Scale;
@@ -35,7 +35,7 @@ fn picture_task_args<'a>(
 {
     let packet = packet(found)?;
     let scale = scale(found)?;
-    let [qi] = numbers::<1>(found, PICTURE_NUMBERS.as_slice())?;
+    let qi = number_of(found, PICTURE_QI)?;
     let limits = file_limits(found)?;
     let form = form(output)?;
     Ok(Task::Picture(PictureArgs {
@@ -71,11 +71,11 @@ fn scale(found: &ArgMatches<'_>) -> Result<Scale, Refusal>
     ensures refusal { IfErr result (λ r. IsInvalidValue r
         × IsNoScale (first_of (codes "scale") (rows_of (found_of found.now)))) }
 {
-    match count(found, "scale", 1, "--scale is 1, 2, 4 or 8")? {
-        1 => Ok(Scale::Full),
-        2 => Ok(Scale::Half),
-        4 => Ok(Scale::Quarter),
-        8 => Ok(Scale::Eighth),
+    match count(found, "scale", 1) {
+        Some(1) => Ok(Scale::Full),
+        Some(2) => Ok(Scale::Half),
+        Some(4) => Ok(Scale::Quarter),
+        Some(8) => Ok(Scale::Eighth),
         _ => Err(Refusal::Value("--scale is 1, 2, 4 or 8")),
     }
 }

@@ -1,10 +1,10 @@
 //! The words of each command: a table of its options and operands, with their help.
 
-ghost use Rattle.std.specs.Prelude.{◌≡◌, IfOk, false, map};
+ghost use Rattle.std.specs.Prelude.{◌≡◌, IfOk, false};
 ghost use Rattle.clap.specs.Words.{app_of, rule_of};
 ghost use Rattle.clap.specs.declared.builder.command.Command.TheViews.{out-Command as fields_of};
-ghost use Rattle.vp_args.specs.Args.{Gains, program, vp8_app};
-ghost use Rattle.vp_args.specs.Tables.{formed_rule, is_required, named_rule, part_app, with_parts, word_rule};
+ghost use Rattle.vp_args.specs.Args.{program, vp8_app};
+ghost use Rattle.vp_args.specs.Tables.{is_required, part_app, with_parts, word_rule};
 
 use clap::{Arg, ArgAction, Command};
 use std::alloc::{AllocError, Global};
@@ -472,19 +472,18 @@ const SERVE_WORDS: [Word; 12] = [
 pub(crate) fn program<'a>(alloc: Global, many: bool) -> Result<Command<'a>, AllocError>
     ensures { IfOk result (λ c. app_of c ≡ program many) }
 {
-    with_parts(alloc, many, vp8_command(alloc), PARTS.as_slice())
+    with_parts(alloc, many, PARTS.as_slice())
 }
 
-// Adds subcommands to a command.
-fn with_parts<'a>(
-    alloc: Global,
-    many: bool,
-    command: Command<'a>,
-    parts: &[Part],
-) -> Result<Command<'a>, AllocError>
-    ensures { IfOk result (λ new. app_of new ≡ with_parts many (app_of command.entry) parts.now) }
+// The program's command, with these subcommands.
+fn with_parts<'a>(alloc: Global, many: bool, parts: &[Part]) -> Result<Command<'a>, AllocError>
+    ensures { IfOk result (λ c. app_of c ≡ with_parts many vp8_app parts.now) }
 {
-    let mut command = command;
+    let mut command = Command::new(alloc, "vp8")
+        .about("Decodes, encodes and serves VP8 video")
+        .after_help("The manual: man vp8")
+        .version("0.2.0")
+        .subcommand_required(true);
     for part in parts {
         let made = part_command(alloc, many, part)?;
         command = command.subcommand(made)?;
@@ -492,82 +491,37 @@ fn with_parts<'a>(
     Ok(command)
 }
 
-// The program's command, without its subcommands.
-fn vp8_command<'a>(alloc: Global) -> Command<'a>
-    ensures { app_of result ≡ vp8_app }
-{
-    Command::new(alloc, "vp8")
-        .about("Decodes, encodes and serves VP8 video")
-        .after_help("The manual: man vp8")
-        .version("0.2.0")
-        .subcommand_required(true)
-}
-
+// A subcommand, with its words.
 fn part_command<'a>(alloc: Global, many: bool, part: &Part) -> Result<Command<'a>, AllocError>
     ensures app { IfOk result (λ c. app_of c ≡ part_app many part.now) }
     ensures local { IfOk result (λ c. (fields_of c).has_globals ≡ false) }
 {
-    let command = Command::new(alloc, part.name)
+    let mut command = Command::new(alloc, part.name)
         .about(part.about)
         .after_help(part.examples);
-    with_words(alloc, many, command, part.words)
-}
-
-// Adds words to a command.
-fn with_words<'a>(
-    alloc: Global,
-    many: bool,
-    command: Command<'a>,
-    words: &[Word],
-) -> Result<Command<'a>, AllocError>
-    ensures { IfOk result (Gains command.entry (map (word_rule many) words.now)) }
-{
-    let mut command = command;
-    for word in words {
+    for word in part.words {
         command = command.arg(argument(alloc, many, word))?;
     }
     Ok(command)
 }
 
+// An argument with a word's name, help, group and form.
 fn argument<'a>(alloc: Global, many: bool, word: &Word) -> Arg<'a>
     ensures rule { rule_of result ≡ word_rule many word.now }
     ensures local { result.global ≡ false }
 {
-    formed(named(alloc, many, word), word)
-}
-
-// An argument with a word's name, help and group.
-fn named<'a>(alloc: Global, many: bool, word: &Word) -> Arg<'a>
-    ensures rule { rule_of result ≡ named_rule many word.now }
-    ensures local { result.global ≡ false }
-{
-    let arg = Arg::new(alloc, word.name)
+    let plain = Arg::new(alloc, word.name)
         .help(word.help)
         .required(is_required(many, &word.need));
-    grouped(arg, word.group)
-}
-
-// Gives an argument a word's form.
-fn formed<'a>(arg: Arg<'a>, word: &Word) -> Arg<'a>
-    ensures rule { rule_of result ≡ formed_rule word.now.form word.now.name.now (rule_of arg.entry) }
-    ensures local { result.global ≡ arg.entry.global }
-{
+    let arg = match word.group {
+        Some(heading) => plain.help_heading(heading),
+        None => plain,
+    };
     match word.form {
         Form::Flag => arg.long(word.name).action(ArgAction::SetTrue),
         Form::Setting(value) => arg.long(word.name).value_name(value).action(ArgAction::Set),
         Form::Operand => arg.action(ArgAction::Set),
         Form::Operands => arg.num_args(1..).action(ArgAction::Append),
-    }
-}
-
-// Puts an argument into a group of help, if it has one.
-fn grouped<'a>(arg: Arg<'a>, group: Option<&'static str>) -> Arg<'a>
-    ensures rule { rule_of result ≡ rule_of arg.entry }
-    ensures local { result.global ≡ arg.entry.global }
-{
-    match group {
-        Some(heading) => arg.help_heading(heading),
-        None => arg,
     }
 }
 

@@ -1,3 +1,4 @@
 pub mod SeenLemmas
 pub mod PacketLemmas
 pub mod FilmLemmas
+pub mod SameKinds

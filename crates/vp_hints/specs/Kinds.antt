@@ -14,11 +14,16 @@ pub record Mark : Type 0 where
 abbrev pub mark : FileKind → ℕ → List ℕ → Mark
 mark kind place bytes = record { kind = kind; place = place; bytes = bytes }
 
--- the marks of videos and containers
+-- the marks of containers
+abbrev pub container_marks : List Mark
+container_marks =
+    mark Ivf 0 (codes "DKIF") ∷ mark WebM 0 (0x1a ∷ 0x45 ∷ 0xdf ∷ 0xa3 ∷ []) ∷ mark Mp4 4 (codes "ftyp")
+    ∷ mark Avi 8 (codes "AVI ") ∷ []
+
+-- the marks of other videos
 abbrev pub video_marks : List Mark
 video_marks =
-    mark Ivf 0 (codes "DKIF") ∷ mark WebM 0 (0x1a ∷ 0x45 ∷ 0xdf ∷ 0xa3 ∷ []) ∷ mark Mp4 4 (codes "ftyp")
-    ∷ mark Avi 8 (codes "AVI ") ∷ mark Y4m 0 (codes "YUV4MPEG2") ∷ mark Ogg 0 (codes "OggS")
+    mark Y4m 0 (codes "YUV4MPEG2") ∷ mark Ogg 0 (codes "OggS")
     ∷ mark H264 0 (0 ∷ 0 ∷ 0 ∷ 1 ∷ []) ∷ []
 
 -- the marks of images
@@ -39,7 +44,8 @@ kind_in (m ∷ ms) other head = if stands_at head m.place m.bytes then m.kind el
 -- the kind of a file that begins with these bytes
 abbrev pub kind_of : List ℕ → FileKind
 kind_of [] = Empty
-kind_of (b ∷ bs) = kind_in video_marks (kind_in image_marks Unknown (b ∷ bs)) (b ∷ bs)
+kind_of (b ∷ bs) =
+    kind_in container_marks (kind_in video_marks (kind_in image_marks Unknown (b ∷ bs)) (b ∷ bs)) (b ∷ bs)
 
 -- the name of a kind
 abbrev pub kind_name : FileKind → List ℕ

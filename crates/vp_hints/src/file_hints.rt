@@ -9,19 +9,37 @@ use std::io::Write;
 use std::{fmt, io};
 use vp_ivf::FileFault;
 
+// What a file's name is followed by where it has too many packets.
+const TOO_MANY: &str =
+    ": more packets than the limit. Try: a greater --max-packets, up to 16777216";
+
 // Up to four bytes as hexadecimal numbers.
 #[derive(Clone, Copy)]
-pub(crate) struct Hexadecimal<'a>(pub(crate) &'a [u8]);
+struct Hexadecimal<'a>(&'a [u8]);
 
 impl fmt::Display for Hexadecimal<'_> {
     fn fmt<W: fmt::Write>(&self, f: &mut fmt::Formatter<W>) -> fmt::Result {
-        for (place, byte) in self.0.iter().take(4).enumerate() {
-            if place > 0 {
-                f.write_str(" ")?;
-            }
-            write!(f, "{byte:02x}")?;
+        let mut mark = "";
+        for byte in &self.0[..self.0.len().min(4)] {
+            write!(f, "{mark}{byte:02x}")?;
+            mark = " ";
         }
         Ok(())
+    }
+}
+
+// What a file is that isn't of the wanted kind, by its first bytes: behind ` but ` its kind, if that is known.
+#[derive(Clone, Copy)]
+pub(crate) struct Found<'a>(pub(crate) FileKind, pub(crate) &'a [u8]);
+
+impl fmt::Display for Found<'_> {
+    fn fmt<W: fmt::Write>(&self, f: &mut fmt::Formatter<W>) -> fmt::Result {
+        let (kind, start) = (self.0, Hexadecimal(self.1));
+        match kind {
+            FileKind::Empty => Ok(()),
+            FileKind::Unknown => write!(f, "; it begins with {start}"),
+            _ => write!(f, " but {kind} ({start})"),
+        }
     }
 }
 
@@ -55,10 +73,7 @@ pub fn hint_file<W: Write>(
     match fault {
         FileFault::Signature => hint_not_ivf(name, seen, output),
         FileFault::Codec => hint_codec(name, seen.head(), output),
-        FileFault::TooMany => writeln!(
-            output,
-            "  {file}: more packets than the limit. Try: a greater --max-packets, up to 16777216"
-        ),
+        FileFault::TooMany => writeln!(output, "  {file}{TOO_MANY}"),
         FileFault::PacketTooLarge => writeln!(
             output,
             "  {file}: packet {number} has over 16,777,216 bytes; {done}"
@@ -75,15 +90,23 @@ fn hint_torn<W: Write>(
     done: Done<'_>,
     output: &mut W,
 ) -> io::Result<()> {
-    let (bytes, packets) = (seen.bytes(), seen.packets());
+    let packets = seen.packets();
+    if let Place::FileHead(_) = packets.place {
+        return hint_short_head(file, seen.bytes(), output);
+    }
     let number = packets.whole;
-    match packets.place {
-        Place::FileHead(_) if bytes == 0 => writeln!(output, "  {file} is empty"),
-        Place::FileHead(_) => writeln!(
+    writeln!(output, "  {file} ends inside packet {number}; {done}")
+}
+
+// Prints that a file ends after this number of bytes, inside its head.
+fn hint_short_head<W: Write>(file: Printable<'_>, bytes: u64, output: &mut W) -> io::Result<()> {
+    if bytes == 0 {
+        writeln!(output, "  {file} is empty")
+    } else {
+        writeln!(
             output,
             "  {file} ends inside its head, after {bytes} of 32 bytes"
-        ),
-        _ => writeln!(output, "  {file} ends inside packet {number}; {done}"),
+        )
     }
 }
 
@@ -93,19 +116,15 @@ pub fn hint_stream_file<W: Write>(
     file: Printable<'_>,
     output: &mut W,
 ) -> io::Result<()> {
-    match fault {
-        FileFault::Signature => writeln!(output, "  {file}: not an IVF file"),
-        FileFault::Codec => writeln!(output, "  {file}: not VP8"),
-        FileFault::TooMany => writeln!(
-            output,
-            "  {file}: more packets than the limit. Try: a greater --max-packets, up to 16777216"
-        ),
-        FileFault::PacketTooLarge => {
-            writeln!(output, "  {file}: a packet has over 16,777,216 bytes")
-        }
-        FileFault::Torn => writeln!(output, "  {file} ends inside its head or a packet"),
-        FileFault::Ended => Ok(()),
-    }
+    let words = match fault {
+        FileFault::Signature => ": not an IVF file",
+        FileFault::Codec => ": not VP8",
+        FileFault::TooMany => TOO_MANY,
+        FileFault::PacketTooLarge => ": a packet has over 16,777,216 bytes",
+        FileFault::Torn => " ends inside its head or a packet",
+        FileFault::Ended => return Ok(()),
+    };
+    writeln!(output, "  {file}{words}")
 }
 
 // Prints the codec of a file that isn't VP8, and how to encode those that ffmpeg decodes.
@@ -132,30 +151,23 @@ fn hint_other_codec<W: Write>(name: &str, codec: &str, output: &mut W) -> io::Re
 
 /// Prints what a file is that isn't IVF, and how to make an IVF file of it.
 pub fn hint_not_ivf<W: Write>(name: &str, seen: &Seen, output: &mut W) -> io::Result<()> {
-    let (kind, start) = (seen.kind(), Hexadecimal(seen.head()));
-    let file = Printable(name);
-    write!(output, "  {file}: not an IVF file")?;
-    match kind {
-        FileKind::Empty => writeln!(output),
-        FileKind::Unknown => writeln!(output, "; it begins with {start}"),
-        _ => {
-            write!(output, " but {kind} ({start})")?;
-            hint_making(name, kind, output)
-        }
-    }
+    let (file, kind) = (Printable(name), seen.kind());
+    let found = Found(kind, seen.head());
+    write!(output, "  {file}: not an IVF file{found}")?;
+    hint_making(name, kind, output)
 }
 
 // Prints how to make an IVF file, or a picture, of a file of another kind, after what it is.
 fn hint_making<W: Write>(name: &str, kind: FileKind, output: &mut W) -> io::Result<()> {
     let (word, made) = (ShellWord(name, ""), made_of(name));
     match kind {
-        FileKind::WebM | FileKind::Avi => {
-            write!(output, ". Try: ffmpeg -i {word} -c copy -r 30 {made}")?;
-            writeln!(output, ", with the film's rate for 30")
-        }
+        FileKind::WebM | FileKind::Avi => writeln!(
+            output,
+            ". Try: ffmpeg -i {word} -c copy -r 30 {made}, with the film's rate for 30"
+        ),
         FileKind::Y4m => writeln!(output, ". Try: vp8 encode {word} {made}"),
         FileKind::WebP => {
-            let picture = picture_of(name);
+            let picture = renamed(name, ".ppm");
             writeln!(output, ". Try: vp8 picture {word} {picture}")
         }
         FileKind::Mp4 | FileKind::H264 | FileKind::Ogg => hint_pipe(word, made, output),
@@ -165,21 +177,16 @@ fn hint_making<W: Write>(name: &str, kind: FileKind, output: &mut W) -> io::Resu
 
 // Returns the name of the IVF file that is made of a file, which is another name.
 fn made_of(name: &str) -> ShellWord<'_> {
-    match name.rsplit_once('.') {
-        Some((stem, "ivf")) => ShellWord(stem, ".vp8.ivf"),
-        Some((stem, ending)) if !stem.is_empty() && !ending.contains('/') => {
-            ShellWord(stem, ".ivf")
-        }
-        _ => ShellWord(name, ".ivf"),
+    match name.strip_suffix(".ivf") {
+        Some(stem) => ShellWord(stem, ".vp8.ivf"),
+        None => renamed(name, ".ivf"),
     }
 }
 
-// Returns the name of the PPM file that is made of a file.
-fn picture_of(name: &str) -> ShellWord<'_> {
+// Returns a file's name with another ending.
+fn renamed<'a>(name: &'a str, ending: &'a str) -> ShellWord<'a> {
     match name.rsplit_once('.') {
-        Some((stem, ending)) if !stem.is_empty() && !ending.contains('/') => {
-            ShellWord(stem, ".ppm")
-        }
-        _ => ShellWord(name, ".ppm"),
+        Some((stem, old)) if !stem.is_empty() && !old.contains('/') => ShellWord(stem, ending),
+        _ => ShellWord(name, ending),
     }
 }

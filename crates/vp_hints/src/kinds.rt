@@ -1,7 +1,8 @@
 //! Kinds of files, by their first bytes.
 
 ghost use Rattle.std.specs.Prelude.{◌≡◌, Some};
-ghost use Rattle.vp_hints.specs.Kinds.{image_marks, kind_in, kind_name, kind_of, stands_at, video_marks};
+ghost use Rattle.vp_hints.specs.Kinds.{container_marks, image_marks, kind_in, kind_name, kind_of, stands_at};
+ghost use Rattle.vp_hints.specs.Kinds.{video_marks};
 ghost use Rattle.vp_hints.specs.declared.kinds.FileKind.{FileKind};
 
 use std::fmt;
@@ -67,12 +68,12 @@ pub fn kind_of(head: &[u8]) -> FileKind
     if head.is_empty() {
         return FileKind::Empty;
     }
-    video_kind(head, image_kind(head))
+    container_kind(head, video_kind(head, image_kind(head)))
 }
 
-// Returns the kind of a video or container, or else the other kind.
-fn video_kind(head: &[u8], other: FileKind) -> FileKind
-    ensures { result ≡ kind_in video_marks other head.now }
+// Returns the kind of a container, or else the other kind.
+fn container_kind(head: &[u8], other: FileKind) -> FileKind
+    ensures { result ≡ kind_in container_marks other head.now }
 {
     if stands_at(head, 0, b"DKIF") {
         FileKind::Ivf
@@ -82,7 +83,16 @@ fn video_kind(head: &[u8], other: FileKind) -> FileKind
         FileKind::Mp4
     } else if stands_at(head, 8, b"AVI ") {
         FileKind::Avi
-    } else if stands_at(head, 0, b"YUV4MPEG2") {
+    } else {
+        other
+    }
+}
+
+// Returns the kind of a video, or else the other kind.
+fn video_kind(head: &[u8], other: FileKind) -> FileKind
+    ensures { result ≡ kind_in video_marks other head.now }
+{
+    if stands_at(head, 0, b"YUV4MPEG2") {
         FileKind::Y4m
     } else if stands_at(head, 0, b"OggS") {
         FileKind::Ogg

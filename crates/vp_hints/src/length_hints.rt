@@ -18,11 +18,22 @@ pub fn hint_length<W: Write>(name: &str, seen: &Seen, output: &mut W) -> io::Res
         return Ok(());
     }
     if packets < span && span <= stated {
-        return writeln!(
+        writeln!(
             output,
             "  {file}: its head says a duration of {stated}, its {packets} packets end at {span}; the file may be cut"
-        );
+        )
+    } else {
+        hint_count(file, stated, packets, output)
     }
+}
+
+// Prints that a file has this number of packets, where its head states more.
+fn hint_count<W: Write>(
+    file: Printable<'_>,
+    stated: u64,
+    packets: u64,
+    output: &mut W,
+) -> io::Result<()> {
     let plural = if stated == 1 { "" } else { "s" };
     let are = if packets == 1 { "is" } else { "are" };
     writeln!(

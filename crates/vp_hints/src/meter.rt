@@ -125,10 +125,9 @@ struct Standing {
     made: Option<(Film, u128)>,
 }
 
-/// Writes `1,234 packets, 40 %, 812.5 a second, 0:12 left`; without the share and the rest if the size isn't known. Of
-/// a film that is encoded, ` 96.0 kbit/s, PSNR 38.2 dB,` comes before the rest.
-impl fmt::Display for Standing {
-    fn fmt<W: fmt::Write>(&self, f: &mut fmt::Formatter<W>) -> fmt::Result {
+impl Standing {
+    // Writes what was counted, its share of the whole if the size is known, and how much of it a second takes.
+    fn write_pace<W: fmt::Write>(&self, f: &mut fmt::Formatter<W>) -> fmt::Result {
         let (count, unit) = (Grouped(self.count), self.unit);
         write!(f, "  {count} {unit}")?;
         if let Some(size) = self.size {
@@ -137,7 +136,15 @@ impl fmt::Display for Standing {
         }
         let tenths = share(self.count.saturating_mul(10_000), self.millis);
         let (pace, tenth) = (Grouped(tenths / 10), tenths % 10);
-        write!(f, ", {pace}.{tenth} a second")?;
+        write!(f, ", {pace}.{tenth} a second")
+    }
+}
+
+/// Writes `1,234 packets, 40 %, 812.5 a second, 0:12 left`; without the share and the rest if the size isn't known. Of
+/// a film that is encoded, ` 96.0 kbit/s, PSNR 38.2 dB,` comes before the rest.
+impl fmt::Display for Standing {
+    fn fmt<W: fmt::Write>(&self, f: &mut fmt::Formatter<W>) -> fmt::Result {
+        self.write_pace(f)?;
         if let Some((film, error)) = self.made {
             write_quality(film, self.count, error, f)?;
         }

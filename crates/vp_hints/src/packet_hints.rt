@@ -35,10 +35,8 @@ impl fmt::Display for Run {
         } else {
             write!(f, "packets {first} to {last}: ")?;
         }
-        if first == 0 && self.fault == PacketFault::NoReference {
-            return f.write_str("no key frame yet");
-        }
         match self.fault {
+            PacketFault::NoReference if first == 0 => f.write_str("no key frame yet"),
             PacketFault::Partition(number) => {
                 write!(f, "token partition {number} ends behind the packet's end")
             }

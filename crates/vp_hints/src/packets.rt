@@ -66,14 +66,17 @@ impl PacketCount {
         ensures passed { counted_after self.new result.now ≡ counted_after self.old bytes.now }
         ensures fewer { length result.now < length bytes.now }
     {
-        if self.place == Place::PacketHead(0, 0) && bytes.len() >= 12 {
-            let (head, others) = bytes.split_at(12);
-            self.pass_head(head);
-            return others;
+        match self.place {
+            Place::PacketHead(0, 0) if bytes.len() >= 12 => {
+                let (head, others) = bytes.split_at(12);
+                self.pass_head(head);
+                others
+            }
+            _ => {
+                self.pass_byte(bytes[0]);
+                bytes.split_at(1).1
+            }
         }
-        let (_, others) = bytes.split_at(1);
-        self.pass_byte(bytes[0]);
-        others
     }
 
     // Counts the head of a packet at once.

@@ -7,4 +7,4 @@ use Rattle.vp_args.proofs.ArgsLemmas.{all_met}
 use Rattle.vp_args.proofs.words.program.Goals as goal
 
 pub returns : goal.returns
-returns c = IfOk-weaker c.with_parts.result _ _ (λ new h. all_met c.args.many (app_of new) (let k : app_of new ≡ with_parts c.args.many (app_of c.vp8_command.result) c.as_slice.result.now = h in let e : app_of c.vp8_command.result ≡ vp8_app = c.vp8_command.ensures in rw (e, c.as_slice.ensures) at k)) c.with_parts.ensures
+returns c = IfOk-weaker c.with_parts.result _ _ (λ new h. all_met c.args.many (app_of new) (let k : app_of new ≡ with_parts c.args.many vp8_app c.as_slice.result.now = h in rw c.as_slice.ensures at k)) c.with_parts.ensures
