@@ -110,15 +110,27 @@ pub(crate) fn hint_odd_file<W: Write>(
     stream: &NamedFile<'_>,
     output: &mut W,
 ) -> io::Result<()> {
-    if stream.file == "-" {
-        return Ok(());
+    match oddity {
+        Some(fault) if stream.file != "-" => hint_file(stream, odd_words(fault), output),
+        _ => Ok(()),
     }
-    let words = match oddity {
-        Some(FileFault::Torn) => " is empty, or ends inside its head",
-        Some(FileFault::Codec) => ": not VP8",
-        Some(_) => ": not an IVF file",
-        None => return Ok(()),
-    };
+}
+
+// What is odd about a file.
+fn odd_words(fault: FileFault) -> &'static str {
+    match fault {
+        FileFault::Torn => " is empty, or ends inside its head",
+        FileFault::Codec => ": not VP8",
+        _ => ": not an IVF file",
+    }
+}
+
+/// Prints what is wrong with the file of a stream.
+pub(crate) fn hint_file<W: Write>(
+    stream: &NamedFile<'_>,
+    words: &str,
+    output: &mut W,
+) -> io::Result<()> {
     let (name, file) = (Printable(stream.name), Printable(stream.file));
     writeln!(output, "  {name}: {file}{words}")
 }

@@ -2,13 +2,12 @@
 
 ghost use Rattle.std.specs.Prelude.{◌≡◌, ◌≢◌, IfOk, None, false, true};
 ghost use Rattle.vp_base.specs.Counted.{counted_remaining};
-ghost use Rattle.vp_serve.specs.ServerLoop.{initial};
 ghost use Rattle.vp_app.specs.declared.many.ManyFault.{ManyFault};
 ghost use Rattle.vp_app.specs.declared.service.ServiceFault.{ServiceFault};
 ghost use Rattle.vp_app.specs.Many.{IsFedBefore, ServesMany, WorksLoop, followed_names, options_of};
 ghost use Rattle.vp_app.specs.Serving.{AreFilesFed, IsFileFed};
 
-use crate::hints::{hint_address, hint_names, hint_odd_file, hint_stream};
+use crate::hints::{hint_address, hint_file, hint_names, hint_odd_file, hint_stream};
 use crate::service::{ServiceFault, feed_stream, hub_with_cursors, print_address, stream_names};
 use std::alloc::{AllocError, Global};
 use std::io::{Read, Write};
@@ -19,7 +18,7 @@ use std::{fs, io};
 use vp_args::{NamedFile, ServeArgs, ServeManyArgs};
 use vp_base::{ByteList, Counted};
 use vp_commands::{Outside, hint_memory, is_regular, oddity_at, oddity_of};
-use vp_hints::{Cause, Meter, Printable};
+use vp_hints::{Cause, Meter};
 use vp_hub::Hub;
 use vp_mio::{FollowedFile, MioTransport};
 use vp_serve::{ServeOptions, ServerLoop, catch_up, serve};
@@ -88,7 +87,8 @@ pub(crate) fn serve_many<
 {
     let mut hub = hub_with_cursors(rt.alloc(), &many.service, many.cursors)?;
     let files = feed_or_follow(rt, &mut hub, many, input, errors)?;
-    run(rt, hub, files, many, output, errors)
+    let mut server = ServerLoop::new(rt.alloc(), hub, options_of(many));
+    run_loop(rt, &mut server, files, many, output, errors)
 }
 
 // Feeds each stream its file to its end, or opens the files that are followed.
@@ -117,10 +117,7 @@ fn follow_all<'a, H: Files + AllocGlobal, E: Write>(
 ) -> Result<Vec<FollowedFile<'a, H::File>>, ManyFault> {
     let mut files = Vec::new(rt.alloc());
     for (place, stream) in streams.iter().enumerate() {
-        let file = follow(rt, stream, place, errors)?;
-        if files.push(file).is_err() {
-            return Err(ManyFault::Memory);
-        }
+        follow(rt, stream, place, &mut files, errors)?;
     }
     Ok(files)
 }
@@ -130,12 +127,16 @@ fn follow<'a, H: Files, E: Write>(
     rt: &H,
     stream: &'a NamedFile<'_>,
     place: usize,
+    files: &mut Vec<FollowedFile<'a, H::File>>,
     errors: &mut Counted<E>,
-) -> Result<FollowedFile<'a, H::File>, ManyFault> {
+) -> Result<(), ManyFault> {
     match fs::open(rt, stream.file) {
         Ok(file) => {
             hint_start(rt, stream, &file, errors);
-            Ok(FollowedFile::new(stream.name, stream.file, file))
+            match files.push(FollowedFile::new(stream.name, stream.file, file)) {
+                Ok(()) => Ok(()),
+                Err(_) => Err(ManyFault::Memory),
+            }
         }
         Err(error) => Err(ManyFault::Open(place, error)),
     }
@@ -204,27 +205,6 @@ fn unfed(refused: Option<io::Error>, place: usize, fault: ServiceFault) -> ManyF
     }
 }
 
-// Serves from a hub, over sockets and the followed files.
-fn run<
-    'a,
-    H: Files + AllocGlobal + Clock + Net<Stream = TcpStream, Listener = TcpListener>,
-    W: Write,
-    E: Write,
->(
-    rt: &'a H,
-    hub: Hub,
-    files: Vec<FollowedFile<'a, H::File>>,
-    many: &ServeManyArgs<'_>,
-    output: &mut Counted<W>,
-    errors: &'a mut Counted<E>,
-) -> Result<bool, ManyFault>
-    ensures works { IfOk result (WorksLoop (followed_names many.now) (initial (options_of many.now) hub.state)) }
-    ensures quiet { many.now.service.show_address ≡ false → output.new ≡ output.old }
-{
-    let mut server = ServerLoop::new(rt.alloc(), hub, options_of(many));
-    run_loop(rt, &mut server, files, many, output, errors)
-}
-
 // Runs a server's loop, over sockets and the followed files.
 fn run_loop<
     'a,
@@ -242,7 +222,9 @@ fn run_loop<
     ensures works { IfOk result (WorksLoop (followed_names many.now) server.old) }
     ensures quiet { many.now.service.show_address ≡ false → output.new ≡ output.old }
 {
-    let names = followed_names(rt.alloc(), many)?;
+    let Ok(names) = followed_names(rt.alloc(), many) else {
+        return Err(ManyFault::Memory);
+    };
     let mut transport = new_transport(rt, files, many, errors)?;
     work(rt, server, &mut transport, &names, many, output)
 }
@@ -384,11 +366,14 @@ fn hint_fault<E: Write>(
         ManyFault::Feed(place, fault) => hint_unfed(&stream_at(many, *place), *fault, errors),
         ManyFault::Listen(error) => hint_address(many.service.listen, *error, errors),
         ManyFault::Print(_) => Ok(()),
-        ManyFault::System(error) => {
-            let cause = Cause(*error);
-            writeln!(errors, "  sockets can't be waited for: {cause}")
-        }
+        ManyFault::System(error) => hint_system(*error, errors),
     }
+}
+
+// Prints why sockets can't be waited for.
+fn hint_system<E: Write>(error: io::Error, errors: &mut Counted<E>) -> io::Result<()> {
+    let cause = Cause(error);
+    writeln!(errors, "  sockets can't be waited for: {cause}")
 }
 
 // Prints why the file of a stream isn't fed.
@@ -402,8 +387,7 @@ fn hint_unfed<E: Write>(
         ServiceFault::ReadTurns => " did not end within 4,294,967,295 reads",
         _ => ": it can't be read to its end",
     };
-    let (name, file) = (Printable(stream.name), Printable(stream.file));
-    writeln!(errors, "  {name}: {file}{words}")
+    hint_file(stream, words, errors)
 }
 
 // The stream at an index.

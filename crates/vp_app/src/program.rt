@@ -15,6 +15,7 @@ use crate::many::{ManyFault, print_fault, serve_many};
 use crate::service::{ServiceFault, serve};
 use clap::Error;
 use clap::error::ErrorKind;
+use std::alloc::{AllocError, Global};
 use std::io::{Read, Write};
 use std::net::{Net, TcpListener, TcpStream};
 use std::rt::{Env, Files};
@@ -318,12 +319,13 @@ fn owned_command<
     ensures status { result ≤ 2 }
     ensures usage { result ≡ 2 → (input.new ≡ input.old) × (output.new ≡ output.old) }
 {
-    match words
-        .iter()
-        .map(|word| word.as_str())
-        .collect::<Vec<&str>>(rt.alloc())
-    {
+    match lent_words(rt.alloc(), words) {
         Ok(words) => command_metered(rt, meter, &words, input, output, errors),
         Err(_) => report_fault(DecodeFault::Memory, errors),
     }
+}
+
+// Lends each of the words.
+fn lent_words(alloc: Global, words: &[String]) -> Result<Vec<&str>, AllocError> {
+    words.iter().map(|word| word.as_str()).collect(alloc)
 }

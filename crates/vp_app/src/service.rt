@@ -296,15 +296,15 @@ pub(crate) fn feed_stream<H: Files + AllocGlobal, R: Read>(
     if stream.file == "-" {
         return feed(outside.alloc(), hub, stream.name, input);
     }
-    let mut file = outside.open(stream.file)?;
-    let fed = feed(
-        outside.alloc(),
-        hub,
-        stream.name,
-        &mut Counted::new(&mut file),
-    );
-    outside.has_read(file);
-    fed
+    match outside.open(stream.file) {
+        Ok(mut file) => {
+            let reader = &mut Counted::new(&mut file);
+            let fed = feed(outside.alloc(), hub, stream.name, reader);
+            outside.has_read(file);
+            fed
+        }
+        Err(error) => Err(ServiceFault::from(error)),
+    }
 }
 
 fn feed<R: Read>(

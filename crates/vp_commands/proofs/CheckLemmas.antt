@@ -1,33 +1,20 @@
 -- Files are checked, and what is found is printed, one after another.
-use Rattle.std.proofs.Common.{◌≡◌, ◌⊎◌, ℕ, ◌+◌, ◌<◌, Bool, true, false, List, [], ◌∷◌, ◌++◌, length, take, drop, get_or, Option, refl, sym, ap, subst, ◌∙◌, inl, inr, append_assoc, arith}
-use Rattle.std.specs.Prelude.{Result, Err, ◌&&◌, if◌then◌else◌}
+use Rattle.std.proofs.Common.{◌≡◌, ℕ, ◌+◌, ◌<◌, Bool, true, false, List, [], ◌∷◌, ◌++◌, length, take, drop, get_or, Option, refl, sym, ap, subst, ◌∙◌, inl, inr, append_assoc, arith}
+use Rattle.std.specs.Prelude.{Result, ◌&&◌, if◌then◌else◌}
 use Rattle.std.specs.List.{list_all}
 use Rattle.std.specs.Borrow.{Bor}
 use Rattle.std.specs.Io.KnownBytes.{Appends}
-use Rattle.std.proofs.lemmas.List.{append-nil, length-append, map-append, take_more, take-append-drop}
+use Rattle.std.proofs.lemmas.List.{append-nil, length-append, length-map, map-append, take_more, take-append-drop}
 use Rattle.std.proofs.lemmas.List.Folds.{list_all-append}
 use Rattle.clap.specs.Walk.{texts}
 use Rattle.vp_base.proofs.Writes.{appends_none, appends_both}
 use Rattle.vp_stream.specs.declared.fault.DecodeFault.{DecodeFault}
-use Rattle.vp_stream.specs.declared.fault.DecodeFault.TheVariants.{Device, Memory}
 use Rattle.vp_args.specs.declared.file_limits.FileLimits.{FileLimits}
 use Rattle.vp_check.specs.declared.checked.Checked.{Checked}
 use Rattle.vp_lines.specs.declared.styles.LineStyle.{LineStyle}
 use Rattle.vp_lines.specs.declared.counts.Counts.{Counts}
 use Rattle.vp_lines.specs.CheckLines.{both_counts, checks_text, counts_of, file_text, files_text, is_well, no_counts, total_from}
-use Rattle.vp_commands.specs.Commands.{AreFilesChecked, ChecksFile, ChecksInput, PrintsChecks, Side, is_stream}
-use Rattle.vp_commands.proofs.CommandLemmas.{over_file, over_stream, over_work, unopened}
-
--- ---- a file
-
-pub check_stream : (most : FileLimits) (from : List ℕ) (done : Result Checked DecodeFault) (i i' : Side) → is_stream from ≡ true → ChecksInput most done i i' → ChecksFile most from done i i'
-check_stream most from done i i' e h = inr (over_stream from (ChecksInput most done) i i' e h)
-
-pub check_opened : (most : FileLimits) (from : List ℕ) (done : Result Checked DecodeFault) (i a b : Side) → is_stream from ≡ false → ChecksInput most done a b → ChecksFile most from done i i
-check_opened most from done i a b e h = inr (over_file from (ChecksInput most done) i a b e h)
-
-pub check_none : (most : FileLimits) (from : List ℕ) (fault : DecodeFault) (i : Side) → is_stream from ≡ false → (fault ≡ Device) ⊎ (fault ≡ Memory) → ChecksFile most from (Err fault) i i
-check_none most from fault i e f = inl (unopened Device Memory from fault e f, refl)
+use Rattle.vp_commands.specs.Commands.{AreFilesChecked, ChecksEach, ChecksFile, PrintsChecks, Side}
 
 -- ---- one file after another
 
@@ -112,6 +99,14 @@ stopped most style names k d dones done total well i m j a b lt h checked =
     ap texts (take_drop names (k + 1)) ∙ map-append (λ (s : Bor (List ℕ)). s.now) (take (k + 1) names) (drop (k + 1) names) in
     subst (λ ns. AreFilesChecked most ns (dones ++ done ∷ []) i j) (sym whole) more
 
+-- all files are checked, and all lines are printed
+pub all_told : (most : FileLimits) (style : LineStyle) (names : List (Bor (List ℕ))) (well : Bool) (status : ℕ) (i j o p : Side) → status ≡ (if well then 0 else 1)
+    → (dones : List (Result Checked DecodeFault)) × AreFilesChecked most (texts names) dones i j
+    × ((length dones ≡ length names) × (well ≡ list_all (is_well style) dones) × Appends o.bytes p.bytes (checks_text style (texts names) dones))
+    → ChecksEach most style (texts names) status i j o p
+all_told most style names well status i j o p status_is (dones, checked, (long, well_is, w)) =
+    (dones, checked, inl (long ∙ sym (length-map names (λ (s : Bor (List ℕ)). s.now)), status_is ∙ ap (λ b. if b then 0 else 1) well_is, w))
+
 -- ---- the laws
 
 zero_status : (b : Bool) (status : ℕ) → status ≡ 0 → status ≡ (if b then 0 else 1) → b ≡ true
@@ -122,8 +117,3 @@ pub nothing_wrong : (style : LineStyle) (names : List (List ℕ)) (dones : List 
     → (length dones ≡ length names) × (list_all (is_well style) dones ≡ true) × Appends b.bytes a.bytes (checks_text style names dones)
 nothing_wrong style names dones b a (inl (long, e, w)) = (long, zero_status (list_all (is_well style) dones) 0 refl e, w)
 nothing_wrong style names dones b a (inr (e, f)) = absurd (omega (arith, e))
-
-pub reads_by_checking : (most : FileLimits) (from : List ℕ) (done : Result Checked DecodeFault) (i j : Side) → ChecksFile most from done i j
-    → (j ≡ i) ⊎ ((a : Side) × (b : Side) × ChecksInput most done a b)
-reads_by_checking most from done i j (inl u) = inl u.1
-reads_by_checking most from done i j (inr w) = inr (over_work (is_stream from) (ChecksInput most done) i j w)

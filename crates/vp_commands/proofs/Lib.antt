@@ -1,3 +1,5 @@
+pub mod WorkLemmas
+pub mod SameWork
 pub mod CommandLemmas
 pub mod CheckLemmas
 pub mod PictureLemmas

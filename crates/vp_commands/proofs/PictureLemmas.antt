@@ -1,6 +1,6 @@
 -- What `vp8 picture` makes of its input.
-use Rattle.std.proofs.Common.{◌≡◌, ◌⊎◌, inl, inr, List, ℕ, Bool, true, false}
-use Rattle.std.specs.Prelude.{Result, Ok, Err, IfOk, IfErr, MatchBool}
+use Rattle.std.proofs.Common.{◌≡◌, ◌⊎◌, inl, inr, List, ℕ, false}
+use Rattle.std.specs.Prelude.{Result, Ok, Err, IfOk, IfErr}
 use Rattle.vp_base.specs.declared.limits.Limits.{Limits}
 use Rattle.vp_scale.specs.Scale.{factor_of, scaled_side}
 use Rattle.vp_still.specs.declared.found.Found.{Found}
@@ -15,7 +15,7 @@ use Rattle.vp_commands.specs.declared.picture_fault.PictureFault.TheVariants.{Fi
 use Rattle.vp_commands.specs.Usual.{AreLimitsOf}
 use Rattle.vp_commands.specs.Commands.{IsFileRead, IsMadeInput, Over, Side, is_stream}
 use Rattle.vp_commands.specs.Picturing.{is_told, IsPictureFile, IsUnmade}
-use Rattle.vp_commands.proofs.CommandLemmas.{over_file}
+use Rattle.vp_commands.proofs.WorkLemmas.{over_by, over_file}
 
 -- of faults that tell nothing of the input's bytes nothing is said
 pub unmade : (p : PictureArgs) (fault : PictureFault) (i j : Side) → is_told fault ≡ false → IsMadeInput p (Err fault) i j
@@ -57,15 +57,6 @@ made p (Err (Find e)) found limits file i j usual read is number width height al
 made p (Err Device) found limits file i j usual read is number width height alpha none form = tt
 made p (Err ReadTurns) found limits file i j usual read is number width height alpha none form = tt
 made p (Err Memory) found limits file i j usual read is number width height alpha none form = tt
-
--- what is done over a file or a stream, by what implies it
-over_by : (name : List ℕ) (P Q : Side → Side → Type 0) (old new : Side) → ((a b : Side) → P a b → Q a b) → Over name P old new → Over name Q old new
-over_by name P Q old new h o = go (is_stream name) o
-  where
-    go : (b : Bool) → MatchBool b (P old new) ((new ≡ old) × ((a : Side) × (c : Side) × P a c))
-        → MatchBool b (Q old new) ((new ≡ old) × ((a : Side) × (c : Side) × Q a c))
-    go true w = h old new w
-    go false w = (w.0, (w.1.0, w.1.1, h w.1.0 w.1.1 w.1.2))
 
 pub over_written : (name : List ℕ) (p : PictureArgs) (done : Result MadePicture PictureFault) (m : MadePicture) (old new : Side)
     → IfOk done (λ n. n ≡ m) → IfErr done (λ fault. is_told fault ≡ false) → Over name (IsMadeInput p (Ok m)) old new

@@ -79,12 +79,41 @@ is_stream name = bytes_eq name (codes "-")
 abbrev pub Over : List ℕ → (Side → Side → Type 0) → Side → Side → Type 0
 Over name Work old new = MatchBool (is_stream name) (Work old new) ((new ≡ old) × ((a : Side) × (b : Side) × Work a b))
 
+-- a file couldn't be opened or created, or the output is the input file: the work ended by one of these faults
+abbrev pub IsUnopened : {T F : Type 0} → F → F → List ℕ → Result T F → Type 0
+IsUnopened device memory name done = (is_stream name ≡ false) × ((done ≡ Err device) ⊎ (done ≡ Err memory))
+
+-- work from the input of a name, which is done over it, unless it can't be opened
+abbrev pub WorksFrom : {T F : Type 0} → F → F → List ℕ → (Result T F → Side → Side → Side → Side → Type 0) → Result T F
+    → Side → Side → Side → Side → Type 0
+WorksFrom device memory from Work done input input' output output' =
+    (IsUnopened device memory from done × (input' ≡ input) × (output' ≡ output))
+    ⊎ Over from (λ a b. Work done a b output output') input input'
+
+-- work to the output of a name, once the input is open
+abbrev pub WorksInto : {T F : Type 0} → F → F → List ℕ → (Result T F → Side → Side → Side → Side → Type 0) → Result T F
+    → Side → Side → Side → Side → Type 0
+WorksInto device memory to Work done input input' output output' =
+    (IsUnopened device memory to done × (input' ≡ input) × (output' ≡ output))
+    ⊎ Over to (Work done input input') output output'
+
+-- work from the input of a name that writes to none of the streams
+abbrev pub LooksAt : {T : Type 0} → List ℕ → (Result T DecodeFault → Side → Side → Type 0) → Result T DecodeFault → Side
+    → Side → Type 0
+LooksAt from Work done input input' = (IsUnopened Device Memory from done × (input' ≡ input))
+    ⊎ Over from (Work done) input input'
+
 -- ---- vp8 decode
 
 -- the form is YUV4MPEG2
 abbrev pub is_y4m : Form → Bool
 is_y4m I420 = false
 is_y4m Y4m = true
+
+-- the form of the pictures, as the option says
+abbrev pub form_by : Bool → Form
+form_by false = I420
+form_by true = Y4m
 
 -- the result of `decode_all`
 pub record IsFileDecoded (most : FileLimits) (form : Form) (done : Result Report DecodeFault) (input input' output output' : Side)
@@ -100,22 +129,14 @@ pub record IsFileDecoded (most : FileLimits) (form : Form) (done : Result Report
   pub device : done ≡ Err Device → HasFailed input.failures input'.failures ⊎ HasFailed output.failures output'.failures
   pub quiet : done ≢ Err Device → (input'.failures ≡ input.failures) × (output'.failures ≡ output.failures)
 
--- a file couldn't be opened or created, or the output is the input file: the work ended by one of these faults
-abbrev pub IsUnopened : {T F : Type 0} → F → F → List ℕ → Result T F → Type 0
-IsUnopened device memory name done = (is_stream name ≡ false) × ((done ≡ Err device) ⊎ (done ≡ Err memory))
-
 -- decodes to the output file, once the input is open
 abbrev pub DecodesInto : FileLimits → Form → List ℕ → Result Report DecodeFault → Side → Side → Side → Side → Type 0
-DecodesInto most form to done input input' output output' =
-    (IsUnopened Device Memory to done × (input' ≡ input) × (output' ≡ output))
-    ⊎ Over to (IsFileDecoded most form done input input') output output'
+DecodesInto most form to = WorksInto Device Memory to (IsFileDecoded most form)
 
 -- decodes from the input file to the output file
 abbrev pub DecodesFile : FileLimits → Form → List ℕ → List ℕ → Result Report DecodeFault → Side → Side → Side → Side
     → Type 0
-DecodesFile most form from to done input input' output output' =
-    (IsUnopened Device Memory from done × (input' ≡ input) × (output' ≡ output))
-    ⊎ Over from (λ a b. DecodesInto most form to done a b output output') input input'
+DecodesFile most form from to = WorksFrom Device Memory from (DecodesInto most form to)
 
 -- ---- vp8 decode, for a range of packets
 
@@ -139,16 +160,12 @@ pub record IsFileRangeDecoded (most : FileLimits) (form : Form) (first last : �
 -- decodes a range to the output file, once the input is open
 abbrev pub DecodesRangeInto : FileLimits → Form → ℕ → ℕ → List ℕ → Result RangeReport DecodeFault → Side → Side
     → Side → Side → Type 0
-DecodesRangeInto most form first last to done input input' output output' =
-    (IsUnopened Device Memory to done × (input' ≡ input) × (output' ≡ output))
-    ⊎ Over to (IsFileRangeDecoded most form first last done input input') output output'
+DecodesRangeInto most form first last to = WorksInto Device Memory to (IsFileRangeDecoded most form first last)
 
 -- decodes a range from the input file to the output file
 abbrev pub DecodesRange : FileLimits → Form → ℕ → ℕ → List ℕ → List ℕ → Result RangeReport DecodeFault → Side → Side
     → Side → Side → Type 0
-DecodesRange most form first last from to done input input' output output' =
-    (IsUnopened Device Memory from done × (input' ≡ input) × (output' ≡ output))
-    ⊎ Over from (λ a b. DecodesRangeInto most form first last to done a b output output') input input'
+DecodesRange most form first last from to = WorksFrom Device Memory from (DecodesRangeInto most form first last to)
 
 -- the exit status: 0 only if the last packet of the range exists and no packet of the range has a fault
 abbrev pub status_by_range : ℕ → Result RangeReport DecodeFault → ℕ
@@ -181,8 +198,7 @@ SurveysInput most done input input' = (told : Result Survey SurveyFault) × (don
 
 -- surveys the input file
 abbrev pub SurveysFile : FileLimits → List ℕ → Result Survey DecodeFault → Side → Side → Type 0
-SurveysFile most from done input input' = (IsUnopened Device Memory from done × (input' ≡ input))
-    ⊎ Over from (SurveysInput most done) input input'
+SurveysFile most from = LooksAt from (SurveysInput most)
 
 -- the exit status for the file's fault
 abbrev pub status_by_fault : Option FileFault → ℕ
@@ -225,8 +241,7 @@ ChecksInput most done input input' = (told : Result Checked SurveyFault) × (don
 
 -- checks a file
 abbrev pub ChecksFile : FileLimits → List ℕ → Result Checked DecodeFault → Side → Side → Type 0
-ChecksFile most from done input input' = (IsUnopened Device Memory from done × (input' ≡ input))
-    ⊎ Over from (ChecksInput most done) input input'
+ChecksFile most from = LooksAt from (ChecksInput most)
 
 -- checks the first of these files, one after another, as many as there are results
 abbrev pub AreFilesChecked : FileLimits → List (List ℕ) → List (Result Checked DecodeFault) → Side → Side → Type 0
@@ -300,16 +315,12 @@ pub record IsFileEncoded (encoding : Encoding) (done : Result EncodeReport Encod
 
 -- encodes to the output file, once the input is open
 abbrev pub EncodesInto : Encoding → List ℕ → Result EncodeReport EncodeAllFault → Side → Side → Side → Side → Type 0
-EncodesInto encoding to done input input' output output' =
-    (IsUnopened encode_fault.Device encode_fault.Memory to done × (input' ≡ input) × (output' ≡ output))
-    ⊎ Over to (IsFileEncoded encoding done input input') output output'
+EncodesInto encoding to = WorksInto encode_fault.Device encode_fault.Memory to (IsFileEncoded encoding)
 
 -- encodes from the input file to the output file
 abbrev pub EncodesFile : Encoding → List ℕ → List ℕ → Result EncodeReport EncodeAllFault → Side → Side → Side → Side
     → Type 0
-EncodesFile encoding from to done input input' output output' =
-    (IsUnopened encode_fault.Device encode_fault.Memory from done × (input' ≡ input) × (output' ≡ output))
-    ⊎ Over from (λ a b. EncodesInto encoding to done a b output output') input input'
+EncodesFile encoding from to = WorksFrom encode_fault.Device encode_fault.Memory from (EncodesInto encoding to)
 
 -- the exit status of encoding
 abbrev pub status_by_report : Result EncodeReport EncodeAllFault → ℕ
@@ -337,8 +348,7 @@ Summed Work input input' = (a : Side) × (b : Side) × Work input input' a b
 -- sums up the pictures of the input file
 abbrev pub SumsFile : {T : Type 0} → (Result T DecodeFault → Side → Side → Side → Side → Type 0) → List ℕ
     → Result T DecodeFault → Side → Side → Type 0
-SumsFile Work from done input input' = (IsUnopened Device Memory from done × (input' ≡ input))
-    ⊎ Over from (Summed (Work done)) input input'
+SumsFile Work from = LooksAt from (λ done. Summed (Work done))
 
 -- the lines of the sums are printed, with this status, or the output failed; after a fault nothing is printed
 abbrev pub PrintsSum : {T : Type 0} → Bool → Result T DecodeFault → List ℕ → ℕ → ℕ → Side → Side → Type 0

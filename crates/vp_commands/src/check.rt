@@ -9,13 +9,13 @@ ghost use Rattle.vp_stream.specs.declared.fault.DecodeFault.{DecodeFault};
 ghost use Rattle.vp_check.specs.declared.checked.Checked.{Checked};
 ghost use Rattle.vp_lines.specs.CheckLines.{checks_text, counts_of, file_text, is_well};
 ghost use Rattle.vp_commands.specs.Commands.{read_side, written_side, AreFilesChecked, ChecksEach, ChecksFile, DoesCheck};
-ghost use Rattle.vp_commands.specs.Commands.{ChecksInput, IsFileChecked};
 
-use crate::files::{file_fault, limits_of};
-use crate::hints::{hint_decode, hint_empty};
+use crate::files::limits_of;
+use crate::hints::{hint_empty, hint_work};
 use crate::outside::Outside;
 use crate::unwritten::failed_write;
-use std::alloc::Global;
+use crate::work::{Work, over_input};
+use std::io;
 use std::io::{Read, Write};
 use std::rt::Files;
 use std::time::Clock;
@@ -24,7 +24,7 @@ use vp_base::{Counted, Device};
 use vp_check::{Checked, check};
 use vp_hints::{Unit, hint_length};
 use vp_lines::{Counts, LineStyle, has_total, is_well, put_done, put_total, report_fault};
-use vp_stream::{DecodeFault, SurveyFault};
+use vp_stream::DecodeFault;
 
 /// Files that are checked one after another.
 #[derive(Clone, Copy)]
@@ -195,11 +195,11 @@ fn hint_unread<H, E: Write>(
     if !has_total(style) {
         report_fault(fault, errors);
     }
-    let _ = hint_decode(outside, fault, (name, "-"), errors);
+    let _ = hint_work(outside, fault, (name, "-"), "decoded", errors);
 }
 
 // Opens a file, and checks it.
-#[tactic(auto, using(crate::proofs::CheckLemmas::check_stream, crate::proofs::CheckLemmas::check_opened, crate::proofs::CheckLemmas::check_none))]
+#[tactic(auto, using(crate::proofs::WorkLemmas::looked_at))]
 fn check_file<H: Files + AllocGlobal + Clock + Eprint, R: Read>(
     outside: &mut Outside<'_, H>,
     limits: FileLimits,
@@ -209,38 +209,34 @@ fn check_file<H: Files + AllocGlobal + Clock + Eprint, R: Read>(
     ensures { ChecksFile limits from.now result (read_side R.remaining input.old) (read_side R.remaining input.new) }
 {
     outside.forget();
-    if from == "-" {
-        return check_input(outside.alloc(), limits, input);
-    }
-    match outside.open_metered(from) {
-        Ok(mut file) => {
-            let done = check_input(outside.alloc(), limits, &mut Counted::new(&mut file));
-            outside.has_read(file.into_witness());
-            done
+    let nowhere = &mut Counted::new(io::sink());
+    over_input(outside, &Checking { limits }, from, input, nowhere)
+}
+
+// A check of a file within limits.
+#[derive(Drop)]
+struct Checking {
+    limits: FileLimits,
+}
+
+impl Work for Checking {
+    type Report = Checked;
+
+    type Fault = DecodeFault;
+
+    ghost use Rattle.vp_commands.specs.Commands.{ChecksInput};
+
+    ghost does = { λ work done i j _ _. ChecksInput work.limits done i j };
+
+    fn over<H: Files + AllocGlobal + Clock + Eprint, R: Read, W: Write>(
+        &self,
+        outside: &mut Outside<'_, H>,
+        input: &mut Counted<R>,
+        _output: &mut Counted<W>,
+    ) -> Result<Checked, DecodeFault> {
+        match check(outside.alloc(), input, limits_of(self.limits)) {
+            Ok(checked) => Ok(checked),
+            Err(fault) => Err(DecodeFault::from(fault)),
         }
-        Err(error) => Err(file_fault(&error, DecodeFault::Device, DecodeFault::Memory)),
     }
-}
-
-fn check_input<R: Read>(
-    alloc: Global,
-    limits: FileLimits,
-    input: &mut Counted<R>,
-) -> Result<Checked, DecodeFault>
-    ensures { ChecksInput limits result (read_side R.remaining input.old) (read_side R.remaining input.new) }
-{
-    match check_over(alloc, limits, input) {
-        Ok(checked) => Ok(checked),
-        Err(fault) => Err(DecodeFault::from(fault)),
-    }
-}
-
-fn check_over<R: Read>(
-    alloc: Global,
-    limits: FileLimits,
-    input: &mut Counted<R>,
-) -> Result<Checked, SurveyFault>
-    ensures { IsFileChecked limits result (read_side R.remaining input.old) (read_side R.remaining input.new) }
-{
-    check(alloc, input, limits_of(limits))
 }

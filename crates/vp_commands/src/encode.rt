@@ -1,17 +1,18 @@
 //! The command `vp8 encode`.
 
-ghost use Rattle.std.specs.Prelude.{◌≡◌, ◌≤◌, Result, ⊤, false};
+ghost use Rattle.std.specs.Prelude.{◌≡◌, ◌≤◌, Result, ⊤};
 ghost use Rattle.vp_encode.specs.declared.report.EncodeReport.{EncodeReport};
 ghost use Rattle.vp_encode.specs.declared.report.EncodeAllFault.{EncodeAllFault};
 ghost use Rattle.vp_commands.specs.Commands.{status_by_report};
-ghost use Rattle.vp_commands.specs.Commands.{encoding_of, is_stream, read_side, settings_of, written_side, EncodesFile};
-ghost use Rattle.vp_commands.specs.Commands.{EncodesInto, IsFileEncoded};
+ghost use Rattle.vp_commands.specs.Commands.{encoding_of, read_side, settings_of, written_side, EncodesFile, IsFileEncoded};
 
 use crate::encoded::tell_encoded;
-use crate::files::{file_fault, limits_of};
+use crate::files::limits_of;
 use crate::hints::hint_encode;
 use crate::outside::Outside;
+use crate::work::{FileWork, Work, over_files};
 use std::alloc::Global;
+use std::fs::OpenFile;
 use std::io::{Read, Write};
 use std::rt::Files;
 use std::time::Clock;
@@ -20,7 +21,7 @@ use vp_base::Counted;
 use vp_encode::{
     EncodeAllFault, EncodeReport, EncodedSoFar, Settings, Watcher, encode_all_watched,
 };
-use vp_hints::{Film, Meter, Tally, Unit};
+use vp_hints::{Film, Meter, Overwrite, Tally, Unit, Witness};
 use vp_live::encode_live;
 use vp_y4m::SourceHead;
 
@@ -78,72 +79,45 @@ pub fn run_encode<H: Files + AllocGlobal + Clock + Eprint, R: Read, W: Write, E:
         (written_side W.contents output.old) (written_side W.contents output.new) }
 {
     outside.tell_progress(encoding.progress, Unit::Frames);
-    let done = encode(outside, encoding, input, output);
+    let (from, to) = (encoding.input, encoding.output);
+    let done = over_files(outside, encoding, from, to, input, output);
     report_encode(outside, done, encoding, errors)
 }
 
-// Opens the input file, creates the output file, and encodes. The output must not be the input file, because creating
-// it would empty it.
-fn encode<H: Files + AllocGlobal + Clock + Eprint, R: Read, W: Write>(
-    outside: &mut Outside<'_, H>,
-    encoding: &EncodeArgs<'_>,
-    input: &mut Counted<R>,
-    output: &mut Counted<W>,
-) -> Result<EncodeReport, EncodeAllFault>
-    ensures encoded { EncodesFile (encoding_of encoding.now)
-        encoding.now.input.now encoding.now.output.now result
-        (read_side R.remaining input.old) (read_side R.remaining input.new)
-        (written_side W.contents output.old) (written_side W.contents output.new) }
-    ensures unread { is_stream encoding.now.input.now ≡ false → input.new ≡ input.old }
-    ensures unwritten { is_stream encoding.now.output.now ≡ false → output.new ≡ output.old }
-{
-    let mut watcher = Frames {
-        meter: outside.meter(),
-    };
-    if encoding.input == "-" {
-        return encode_into(outside, encoding, input, output, &mut watcher);
-    }
-    if encoding.input == encoding.output {
-        outside.is_one_file = true;
-        return Err(EncodeAllFault::Device);
-    }
-    match outside.open_metered(encoding.input) {
-        Ok(mut file) => {
-            let reader = &mut Counted::new(&mut file);
-            let done = encode_into(outside, encoding, reader, output, &mut watcher);
-            outside.has_read(file.into_witness());
-            done
-        }
-        Err(error) => Err(file_fault(&error, EncodeAllFault::Device, EncodeAllFault::Memory)),
+impl Work for EncodeArgs<'_> {
+    type Report = EncodeReport;
+
+    type Fault = EncodeAllFault;
+
+    ghost use Rattle.vp_commands.specs.Commands.{IsFileEncoded, encoding_of};
+
+    ghost does = { λ encoding. IsFileEncoded (encoding_of encoding) };
+
+    fn over<H: Files + AllocGlobal + Clock + Eprint, R: Read, W: Write>(
+        &self,
+        outside: &mut Outside<'_, H>,
+        input: &mut Counted<R>,
+        output: &mut Counted<W>,
+    ) -> Result<EncodeReport, EncodeAllFault> {
+        let mut watcher = Frames {
+            meter: outside.meter(),
+        };
+        encode_over(outside.alloc(), self, input, output, &mut watcher)
     }
 }
 
-#[tactic(auto, using(crate::proofs::CommandLemmas::encode_stream, crate::proofs::CommandLemmas::encode_file, crate::proofs::CommandLemmas::encode_none))]
-fn encode_into<H: Files + AllocGlobal, R: Read, W: Write, T: Watcher>(
-    outside: &mut Outside<'_, H>,
-    encoding: &EncodeArgs<'_>,
-    input: &mut Counted<R>,
-    output: &mut Counted<W>,
-    watcher: &mut T,
-) -> Result<EncodeReport, EncodeAllFault>
-    ensures encoded { EncodesInto (encoding_of encoding.now) encoding.now.output.now result
-        (read_side R.remaining input.old) (read_side R.remaining input.new)
-        (written_side W.contents output.old) (written_side W.contents output.new) }
-    ensures unwritten { is_stream encoding.now.output.now ≡ false → output.new ≡ output.old }
-{
-    if encoding.output == "-" {
-        return encode_over(outside.alloc(), encoding, input, output, watcher);
-    }
-    match outside.make(encoding.output) {
-        Ok(mut file) => {
-            let mut tally = Tally::new(&mut file);
-            let writer = &mut Counted::new(&mut tally);
-            let done = encode_over(outside.alloc(), encoding, input, writer, watcher);
-            outside.has_encoded(tally);
-            outside.has_written(encoding.output, file);
-            done
-        }
-        Err(error) => Err(file_fault(&error, EncodeAllFault::Device, EncodeAllFault::Memory)),
+impl FileWork for EncodeArgs<'_> {
+    // What is written is remembered.
+    fn over_file<H: Files + AllocGlobal + Clock + Eprint, R: Read, F: OpenFile + Write>(
+        &self,
+        outside: &mut Outside<'_, H>,
+        input: &mut Counted<R>,
+        file: &mut Witness<Overwrite<F>>,
+    ) -> Result<EncodeReport, EncodeAllFault> {
+        let mut tally = Tally::new(file);
+        let done = self.over(outside, input, &mut Counted::new(&mut tally));
+        outside.has_encoded(tally);
+        done
     }
 }
 

@@ -4,7 +4,7 @@ use crate::outside::Outside;
 use crate::picture_fault::PictureFault;
 use std::io;
 use std::io::Write;
-use vp_args::{DecodeRangeArgs, EncodeArgs, EncodeOptions, PictureArgs};
+use vp_args::{EncodeArgs, EncodeOptions, PictureArgs};
 use vp_check::CheckedPacket;
 use vp_encode::EncodeAllFault;
 use vp_head::PacketFault;
@@ -20,79 +20,20 @@ use vp_webp::WebPFault;
 // The name of standard input in words.
 const STANDARD_INPUT: &str = "standard input";
 
+// What a file does that is not read to its end.
+const ENDLESS: &str = "did not end within 4,294,967,295 reads";
+
+// Where a file of pictures ends.
+const Y4M_ENDS: &str = "ends inside its first line, a frame's line or a picture";
+
+// How packets are counted.
+const FROM_0: &str = "packets are counted from 0";
+
 // What to do if a packet gives no picture.
 const ANOTHER: &str = ". Try: another --packet, which vp8 info lists";
 
-/// Prints why a file was not decoded, and what to do.
-pub(crate) fn hint_decode<H, W: Write>(
-    outside: &Outside<'_, H>,
-    fault: DecodeFault,
-    files: (&str, &str),
-    output: &mut W,
-) -> io::Result<()> {
-    hint_work(outside, fault, files, "decoded", output)
-}
-
-/// Prints why a file was not surveyed, and what to do.
-pub(crate) fn hint_survey<H, W: Write>(
-    outside: &Outside<'_, H>,
-    fault: DecodeFault,
-    from: &str,
-    output: &mut W,
-) -> io::Result<()> {
-    hint_work(outside, fault, (from, "-"), "read", output)
-}
-
-/// Prints why the packets of a range were not decoded, and what to do.
-pub(crate) fn hint_range<H, W: Write>(
-    outside: &Outside<'_, H>,
-    fault: DecodeFault,
-    wanted: &DecodeRangeArgs<'_>,
-    output: &mut W,
-) -> io::Result<()> {
-    let files = (wanted.decoding.input, wanted.decoding.output);
-    hint_work(outside, fault, files, "read", output)
-}
-
-/// Prints that packets have no byte: how many, and which is the first.
-pub(crate) fn hint_empty<W: Write>(
-    from: &str,
-    packets: &[CheckedPacket],
-    output: &mut W,
-) -> io::Result<()> {
-    let file = input_name(from);
-    let Some(first) = packets.iter().position(|packet| packet.bytes == 0) else {
-        return Ok(());
-    };
-    let count = packets.iter().filter(|packet| packet.bytes == 0).count();
-    writeln!(
-        output,
-        "  {file}: empty packets: {count}, the first is packet {first}: frames that were dropped, or are lost"
-    )
-}
-
-/// Prints how packets are counted, under a packet that is missing.
-pub(crate) fn hint_missing<W: Write>(from: &str, output: &mut W) -> io::Result<()> {
-    say(input_name(from), "packets are counted from 0", "", output)
-}
-
-// Prints what is wrong with a file, and what to do.
-fn say<W: Write>(file: Printable<'_>, words: &str, advice: &str, output: &mut W) -> io::Result<()> {
-    writeln!(output, "  {file}: {words}{advice}")
-}
-
-// Prints that a file is not read to its end.
-fn hint_endless<W: Write>(file: Printable<'_>, output: &mut W) -> io::Result<()> {
-    writeln!(output, "  {file} did not end within 4,294,967,295 reads")
-}
-
-/// Prints that memory is refused.
-pub fn hint_memory<W: Write>(output: &mut W) -> io::Result<()> {
-    writeln!(output, "  out of memory")
-}
-
-// Prints why a file was not decoded. `done` says what happened to its whole packets.
-fn hint_work<H, W: Write>(
+/// Prints why work on packets ended, and what to do. `done` says what happened to the whole packets before.
+pub(crate) fn hint_work<H, W: Write>(
     outside: &Outside<'_, H>,
     fault: DecodeFault,
     (from, to): (&str, &str),
@@ -101,8 +42,7 @@ fn hint_work<H, W: Write>(
 ) -> io::Result<()> {
     let file = input_name(from);
     match fault {
-        DecodeFault::File(fault) if from == "-" => hint_stream_file(fault, file, output),
-        DecodeFault::File(fault) => hint_file(fault, from, &outside.input, done, output),
+        DecodeFault::File(fault) => hint_input(outside, fault, from, done, output),
         DecodeFault::SizeChange => say(
             file,
             "its pictures change in size, which YUV4MPEG2 can't hold",
@@ -110,8 +50,66 @@ fn hint_work<H, W: Write>(
             output,
         ),
         DecodeFault::Device => hint_device(outside, from, to, output),
-        DecodeFault::ReadTurns => hint_endless(file, output),
+        DecodeFault::ReadTurns => tell(file, ENDLESS, output),
         DecodeFault::Memory => hint_memory(output),
+    }
+}
+
+/// Prints that packets have no byte: how many, and which is the first.
+pub(crate) fn hint_empty<W: Write>(
+    from: &str,
+    packets: &[CheckedPacket],
+    output: &mut W,
+) -> io::Result<()> {
+    let (mut count, mut first): (usize, usize) = (0, 0);
+    for (number, packet) in packets.iter().enumerate() {
+        if packet.bytes == 0 {
+            first = if count == 0 { number } else { first };
+            count = count.saturating_add(1);
+        }
+    }
+    if count == 0 {
+        return Ok(());
+    }
+    let file = input_name(from);
+    writeln!(
+        output,
+        "  {file}: empty packets: {count}, the first is packet {first}: frames that were dropped, or are lost"
+    )
+}
+
+/// Prints how packets are counted, under a packet that is missing.
+pub(crate) fn hint_missing<W: Write>(from: &str, output: &mut W) -> io::Result<()> {
+    say(input_name(from), FROM_0, "", output)
+}
+
+// Prints what is wrong with a file, and what to do.
+fn say<W: Write>(file: Printable<'_>, words: &str, advice: &str, output: &mut W) -> io::Result<()> {
+    writeln!(output, "  {file}: {words}{advice}")
+}
+
+// Prints what a file is or does.
+fn tell<W: Write>(file: Printable<'_>, words: &str, output: &mut W) -> io::Result<()> {
+    writeln!(output, "  {file} {words}")
+}
+
+/// Prints that memory is refused.
+pub fn hint_memory<W: Write>(output: &mut W) -> io::Result<()> {
+    writeln!(output, "  out of memory")
+}
+
+// Prints what is wrong with an IVF file. Of standard input nothing was seen.
+fn hint_input<H, W: Write>(
+    outside: &Outside<'_, H>,
+    fault: FileFault,
+    from: &str,
+    done: &str,
+    output: &mut W,
+) -> io::Result<()> {
+    if from == "-" {
+        hint_stream_file(fault, Printable(STANDARD_INPUT), output)
+    } else {
+        hint_file(fault, from, &outside.input, done, output)
     }
 }
 
@@ -190,18 +188,31 @@ fn hint_encode_fault<H, W: Write>(
     output: &mut W,
 ) -> io::Result<()> {
     let (from, to) = (encoding.input, encoding.output);
-    let file = input_name(from);
     match fault {
-        EncodeAllFault::Magic => hint_not_y4m(file, &outside.input, to, output),
+        EncodeAllFault::Magic
+        | EncodeAllFault::Torn
+        | EncodeAllFault::Colour
+        | EncodeAllFault::Size => hint_source(outside, fault, encoding, output),
+        EncodeAllFault::Settings => hint_settings(&encoding.options, to, output),
+        EncodeAllFault::Device => hint_device(outside, from, to, output),
+        EncodeAllFault::Memory => hint_memory(output),
+        _ => say(input_name(from), words_of(fault), "", output),
+    }
+}
+
+// Prints what is wrong with a file of pictures.
+fn hint_source<H, W: Write>(
+    outside: &Outside<'_, H>,
+    fault: EncodeAllFault,
+    encoding: &EncodeArgs<'_>,
+    output: &mut W,
+) -> io::Result<()> {
+    let (file, to) = (input_name(encoding.input), encoding.output);
+    match fault {
         EncodeAllFault::Torn => hint_torn(outside, file, to, output),
         EncodeAllFault::Colour => hint_y4m_colour(file, &outside.input, output),
         EncodeAllFault::Size => hint_y4m_size(file, &outside.input, encoding.limits.pixels, output),
-        // To standard output a program encodes, which reads the fault alone.
-        EncodeAllFault::Settings if to == "-" => Ok(()),
-        EncodeAllFault::Settings => hint_settings(&encoding.options, output),
-        EncodeAllFault::Device => hint_device(outside, from, to, output),
-        EncodeAllFault::Memory => hint_memory(output),
-        _ => say(file, words_of(fault), "", output),
+        _ => hint_not_y4m(file, &outside.input, to, output),
     }
 }
 
@@ -222,7 +233,7 @@ pub(crate) fn hint_picture<H, W: Write>(
             output,
         ),
         PictureFault::Device => hint_device(outside, wanted.input, wanted.output, output),
-        PictureFault::ReadTurns => hint_endless(file, output),
+        PictureFault::ReadTurns => tell(file, ENDLESS, output),
         PictureFault::Memory => hint_memory(output),
     }
 }
@@ -234,26 +245,27 @@ fn hint_find<H, W: Write>(
     from: &str,
     output: &mut W,
 ) -> io::Result<()> {
-    let file = input_name(from);
     match fault {
-        FindFault::File(fault) if from == "-" => hint_stream_file(fault, file, output),
-        FindFault::File(fault) => hint_file(fault, from, &outside.input, "read", output),
+        FindFault::File(fault) => hint_input(outside, fault, from, "read", output),
         FindFault::WebP(WebPFault::Signature) if from != "-" => {
             hint_not_ivf(from, &outside.input, output)
         }
-        FindFault::WebP(fault) => say(file, webp_words(fault), "", output),
-        FindFault::Packet(fault) => {
-            say(
-                file,
-                meaning_of(fault),
-                packet_advice(outside, fault),
-                output,
-            )
-        }
-        FindFault::Hidden => say(file, "the packet shows no picture", ANOTHER, output),
-        FindFault::NoPacket(_) => hint_missing(from, output),
-        FindFault::NoPicture(_) => say(file, "no packet shows a picture", "", output),
         FindFault::Memory => hint_memory(output),
+        _ => {
+            let (words, advice) = find_words(outside, fault);
+            say(input_name(from), words, advice, output)
+        }
+    }
+}
+
+// Why a file gives no picture, and what to do.
+fn find_words<H>(outside: &Outside<'_, H>, fault: FindFault) -> (&'static str, &'static str) {
+    match fault {
+        FindFault::WebP(fault) => (webp_words(fault), ""),
+        FindFault::Packet(fault) => (meaning_of(fault), packet_advice(outside, fault)),
+        FindFault::Hidden => ("the packet shows no picture", ANOTHER),
+        FindFault::NoPacket(_) => (FROM_0, ""),
+        _ => ("no packet shows a picture", ""),
     }
 }
 
@@ -288,11 +300,8 @@ fn hint_torn<H, W: Write>(
     output: &mut W,
 ) -> io::Result<()> {
     match outside.input.kind() {
-        FileKind::Empty if file.0 != STANDARD_INPUT => writeln!(output, "  {file} is empty"),
-        FileKind::Empty | FileKind::Y4m => writeln!(
-            output,
-            "  {file} ends inside its first line, a frame's line or a picture"
-        ),
+        FileKind::Empty if file.0 != STANDARD_INPUT => tell(file, "is empty", output),
+        FileKind::Empty | FileKind::Y4m => tell(file, Y4M_ENDS, output),
         _ => hint_not_y4m(file, &outside.input, to, output),
     }
 }
@@ -314,8 +323,11 @@ fn words_of(fault: EncodeAllFault) -> &'static str {
     }
 }
 
-// Prints the first option that is out of its range.
-fn hint_settings<W: Write>(options: &EncodeOptions, output: &mut W) -> io::Result<()> {
+// Prints the first option that is out of its range. To standard output a program encodes, which reads the fault alone.
+fn hint_settings<W: Write>(options: &EncodeOptions, to: &str, output: &mut W) -> io::Result<()> {
+    if to == "-" {
+        return Ok(());
+    }
     let (option, value, range) = odd_setting(options);
     writeln!(output, "  {option} {value}: {range}")
 }

@@ -1,16 +1,17 @@
 //! The command `vp8 info`.
 
-ghost use Rattle.std.specs.Prelude.{◌≡◌, ◌≤◌, IfOk, IsOk, None, false};
+ghost use Rattle.std.specs.Prelude.{◌≡◌, ◌≤◌, IfOk, IsOk, None};
 ghost use Rattle.clap.specs.Walk.{texts};
-ghost use Rattle.vp_commands.specs.Commands.{first_name, info_style, is_plain, is_stream, read_side, written_side};
-ghost use Rattle.vp_commands.specs.Commands.{DoesInfo, IsFileSurveyed, ListsFile, PrintsSurvey, SurveysFile, SurveysInput};
+ghost use Rattle.vp_commands.specs.Commands.{first_name, info_style, is_plain, read_side, written_side};
+ghost use Rattle.vp_commands.specs.Commands.{DoesInfo, ListsFile, PrintsSurvey, SurveysFile};
 
 use crate::check::{CheckWork, check_files};
-use crate::files::{file_fault, limits_of};
-use crate::hints::hint_survey;
+use crate::files::limits_of;
+use crate::hints::hint_work;
 use crate::outside::Outside;
 use crate::unwritten::report_unwritten;
-use std::alloc::Global;
+use crate::work::{Work, over_input};
+use std::io;
 use std::io::{Read, Write};
 use std::rt::Files;
 use std::time::Clock;
@@ -18,7 +19,7 @@ use vp_args::{FileLimits, InfoArgs};
 use vp_base::Counted;
 use vp_hints::{Unit, hint_length};
 use vp_lines::{LineStyle, print_survey, report_fault};
-use vp_stream::{DecodeFault, Survey, SurveyFault, survey};
+use vp_stream::{DecodeFault, Survey, survey};
 
 /// Lists files.
 #[tactic(auto, using(crate::proofs::TaskLemmas::listed_file, crate::proofs::TaskLemmas::listed_files))]
@@ -100,50 +101,45 @@ fn list_file<H: Files + AllocGlobal + Clock + Eprint, R: Read, W: Write, E: Writ
 }
 
 // Opens the file, and surveys it.
-#[tactic(auto, using(crate::proofs::CommandLemmas::look_stream, crate::proofs::CommandLemmas::look_file, crate::proofs::CommandLemmas::look_none))]
+#[tactic(auto, using(crate::proofs::WorkLemmas::looked_at))]
 fn survey_file<H: Files + AllocGlobal + Clock + Eprint, R: Read>(
     outside: &mut Outside<'_, H>,
     limits: FileLimits,
     from: &str,
     input: &mut Counted<R>,
 ) -> Result<Survey, DecodeFault>
-    ensures looked { SurveysFile limits from.now result (read_side R.remaining input.old) (read_side R.remaining input.new) }
-    ensures unread { is_stream from.now ≡ false → input.new ≡ input.old }
+    ensures { SurveysFile limits from.now result (read_side R.remaining input.old) (read_side R.remaining input.new) }
 {
-    if from == "-" {
-        return survey_input(outside.alloc(), limits, input);
-    }
-    match outside.open_metered(from) {
-        Ok(mut file) => {
-            let done = survey_input(outside.alloc(), limits, &mut Counted::new(&mut file));
-            outside.has_read(file.into_witness());
-            done
+    let nowhere = &mut Counted::new(io::sink());
+    over_input(outside, &Surveying { limits }, from, input, nowhere)
+}
+
+// A survey of a file within limits.
+#[derive(Drop)]
+struct Surveying {
+    limits: FileLimits,
+}
+
+impl Work for Surveying {
+    type Report = Survey;
+
+    type Fault = DecodeFault;
+
+    ghost use Rattle.vp_commands.specs.Commands.{SurveysInput};
+
+    ghost does = { λ work done i j _ _. SurveysInput work.limits done i j };
+
+    fn over<H: Files + AllocGlobal + Clock + Eprint, R: Read, W: Write>(
+        &self,
+        outside: &mut Outside<'_, H>,
+        input: &mut Counted<R>,
+        _output: &mut Counted<W>,
+    ) -> Result<Survey, DecodeFault> {
+        match survey(outside.alloc(), input, limits_of(self.limits)) {
+            Ok(survey) => Ok(survey),
+            Err(fault) => Err(DecodeFault::from(fault)),
         }
-        Err(error) => Err(file_fault(&error, DecodeFault::Device, DecodeFault::Memory)),
     }
-}
-
-fn survey_input<R: Read>(
-    alloc: Global,
-    limits: FileLimits,
-    input: &mut Counted<R>,
-) -> Result<Survey, DecodeFault>
-    ensures { SurveysInput limits result (read_side R.remaining input.old) (read_side R.remaining input.new) }
-{
-    match survey_over(alloc, limits, input) {
-        Ok(survey) => Ok(survey),
-        Err(fault) => Err(DecodeFault::from(fault)),
-    }
-}
-
-fn survey_over<R: Read>(
-    alloc: Global,
-    limits: FileLimits,
-    input: &mut Counted<R>,
-) -> Result<Survey, SurveyFault>
-    ensures { IsFileSurveyed limits result (read_side R.remaining input.old) (read_side R.remaining input.new) }
-{
-    survey(alloc, input, limits_of(limits))
 }
 
 // Prints a survey and the file's fault, and returns the exit status.
@@ -186,6 +182,6 @@ fn report_unread<H, E: Write>(
     ensures { result ≡ 1 }
 {
     let status = report_fault(fault, errors);
-    let _ = hint_survey(outside, fault, from, errors);
+    let _ = hint_work(outside, fault, (from, "-"), "read", errors);
     status
 }

@@ -66,7 +66,7 @@ pub fn what_is_not_begun_changes_nothing()
 {}
 
 /// Standard input stays, or else a file was decoded, encoded, surveyed or checked, as the file's answer says.
-#[tactic(auto, using(crate::proofs::CommandLemmas::reads_by_decoding, crate::proofs::CommandLemmas::reads_by_range, crate::proofs::CommandLemmas::reads_by_encoding, crate::proofs::CommandLemmas::reads_by_surveying, crate::proofs::CheckLemmas::reads_by_checking))]
+#[tactic(auto, using(crate::proofs::WorkLemmas::reads_by_working, crate::proofs::WorkLemmas::reads_by_looking))]
 pub fn standard_input_is_left_or_answered()
     ensures decoded { (most : FileLimits) (form : Form) (to : List ℕ) (done : Result Report DecodeFault) (i j o p : Side)
         → DecodesInto most form to done i j o p → (j ≡ i) ⊎ ((a : Side) × (b : Side) × IsFileDecoded most form done i j a b) }

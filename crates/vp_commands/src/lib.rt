@@ -15,6 +15,7 @@ mod picture_fault;
 mod range;
 mod sums;
 mod unwritten;
+mod work;
 
 pub use check::run_check;
 pub use decode::run_decode;

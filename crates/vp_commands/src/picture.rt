@@ -16,6 +16,7 @@ use crate::hints::hint_picture;
 use crate::outside::Outside;
 use crate::picture_fault::{PictureFault, report_picture_fault};
 use std::alloc::Global;
+use std::io;
 use std::io::{Read, Write};
 use std::rt::Files;
 use vp_args::{PictureArgs, StillForm};
@@ -186,12 +187,16 @@ fn written<H: Files + AllocGlobal>(
     ensures made { IfOk result (λ m. m ≡ made) }
     ensures untold { IfErr result (λ fault. is_told fault ≡ false) }
 {
-    let mut file = outside.make(name)?;
-    let put = put_all(&mut Counted::new(&mut file), made.bytes.as_slice());
-    outside.has_written(name, file);
-    match put {
-        Ok(()) => Ok(made),
-        Err(_) => Err(PictureFault::Device),
+    match outside.make(name) {
+        Ok(mut file) => {
+            let put = put_all(&mut Counted::new(&mut file), made.bytes.as_slice());
+            outside.has_written(name, file);
+            match put {
+                Ok(()) => Ok(made),
+                Err(_) => Err(PictureFault::Device),
+            }
+        }
+        Err(error) => Err(PictureFault::from(error)),
     }
 }
 
@@ -222,16 +227,22 @@ fn report_picture<H, E: Write>(
 fn print_made<E: Write>(made: &MadePicture, errors: &mut Counted<E>) {
     let (number, w, h) = (made.number, made.dim.w, made.dim.h);
     let _ = write!(errors, "packet {number}: {w}x{h}");
-    let _ = match made.coding {
-        None => writeln!(errors),
-        Some(Coding::Kept) => writeln!(errors, ", as it stands"),
-        Some(Coding::Encoded(0)) => writeln!(errors, ", encoded without a difference"),
-        Some(Coding::Encoded(error)) => {
-            let ratio = decibels(samples(made.dim), error);
-            writeln!(errors, ", encoded with PSNR {ratio:.2} dB")
-        }
-    };
+    let _ = print_coding(made, errors);
     if made.has_alpha {
         let _ = writeln!(errors, "  alpha is left out");
     }
+}
+
+// Ends the line of a picture by how it got into a WebP file.
+fn print_coding<E: Write>(made: &MadePicture, errors: &mut Counted<E>) -> io::Result<()> {
+    let words = match made.coding {
+        None => "",
+        Some(Coding::Kept) => ", as it stands",
+        Some(Coding::Encoded(0)) => ", encoded without a difference",
+        Some(Coding::Encoded(error)) => {
+            let ratio = decibels(samples(made.dim), error);
+            return writeln!(errors, ", encoded with PSNR {ratio:.2} dB");
+        }
+    };
+    writeln!(errors, "{words}")
 }

@@ -96,7 +96,10 @@ fn print_find_fault<E: Write>(
         FindFault::WebP(fault) => print_fault(fault, errors),
         FindFault::Packet(fault) => print_packet_fault(number, fault, errors),
         FindFault::Hidden => print_packet_fault(number, "Hidden", errors),
-        FindFault::NoPacket(count) => print_no_packet(number, count, wanted.input, errors),
+        FindFault::NoPacket(count) => {
+            let plural = if count == 1 { "" } else { "s" };
+            print_no_packet(number, count, plural, wanted.input, errors)
+        }
         FindFault::NoPicture(count) => print_no_picture(count, wanted.input, errors),
         FindFault::Memory => print_fault("Memory", errors),
     }
@@ -119,14 +122,15 @@ fn print_packet_fault<F: fmt::Display + Copy, E: Write>(
     writeln!(errors, "vp8: packet {number}: {fault}")
 }
 
-// Prints that a file with this number of packets lacks one.
-fn print_no_packet<E: Write>(
+/// Prints that a file with this number of packets lacks one. `plural` ends their noun.
+pub(crate) fn print_no_packet<E: Write>(
     number: u32,
     count: u32,
+    plural: &str,
     from: &str,
     errors: &mut Counted<E>,
 ) -> io::Result<()> {
-    let (name, plural) = (Printable(from), if count == 1 { "" } else { "s" });
+    let name = Printable(from);
     writeln!(
         errors,
         "vp8: no packet {number}: {name} has {count} packet{plural}"

@@ -1,6 +1,6 @@
 use Rattle.std.proofs.Common.{◌≡◌, false, rules}
 use Rattle.vp_commands.specs.Commands.{is_stream, read_side, IsMadeInput}
-use Rattle.vp_commands.proofs.CommandLemmas.{over_file}
+use Rattle.vp_commands.proofs.WorkLemmas.{over_file}
 use Rattle.vp_commands.proofs.PictureLemmas.{over_device}
 use Rattle.vp_commands.proofs.picture.made_picture.Goals as goal
 
