@@ -1,4 +1,3 @@
 pub mod NumberLemmas
 pub mod PlainArgs
 pub mod ArgsLemmas
-pub mod SameWords

@@ -1,5 +1,4 @@
 pub mod WorkLemmas
-pub mod SameWork
 pub mod CommandLemmas
 pub mod CheckLemmas
 pub mod PictureLemmas

@@ -1,4 +1,3 @@
 pub mod SeenLemmas
 pub mod PacketLemmas
 pub mod FilmLemmas
-pub mod SameKinds
