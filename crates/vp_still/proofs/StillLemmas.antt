@@ -72,7 +72,7 @@ pub coded : (scale : Scale) (qi w h : ℕ) (pixels : List ℕ) (source : Image) 
     → dim.w ≡ scaled_side (factor_of scale) w → dim.h ≡ scaled_side (factor_of scale) h
     → i420 source ≡ scaled_i420 (factor_of scale) w h pixels → e ≡ initial_encoder dim (still_settings qi)
     → IfOk r (λ f. (scale : Scale) (qi w h : ℕ) (pixels : List ℕ) → IsSmaller scale qi w h pixels source e
-        → IsKeyFrameFor scale qi w h pixels f.packet f.squared_error)
+    → IsKeyFrameFor scale qi w h pixels f.packet f.squared_error)
     → IfOk r (λ f. IsKeyFrameFor scale qi w h pixels f.packet f.squared_error)
 coded scale qi w h pixels source dim e (Ok f) wide high shown first for_each =
     for_each scale qi w h pixels (record { dim = dim; width = wide; height = high; shown = shown; first = first })
