@@ -35,27 +35,43 @@ pub enum Page {
 }
 
 /// Creates the router of the four pages.
-#[tactic(auto, unfolding(crate::specs::Routes::our_routes))]
 pub fn router(alloc: Global) -> Result<Router<Page>, AllocError>
     ensures { IfOk result (λ r. r ≡ our_routes) }
 {
     let mut router = Router::new(alloc);
-    add(&mut router, "/streams", Page::Streams)?;
-    add(&mut router, "/s/{name}/info", Page::Info)?;
-    add(&mut router, "/s/{name}/frame/{n}", Page::Frame)?;
-    add(&mut router, "/s/{name}/y4m/{n}", Page::Video)?;
+    add_pages(&mut router)?;
     Ok(router)
 }
 
+/// Adds the four pages. A function that owns the router is slow to prove with a way out for each page.
+#[tactic(auto, unfolding(crate::specs::Routes::our_routes))]
+fn add_pages(router: &mut Router<Page>) -> Result<(), AllocError>
+    requires { router.old ≡ [] }
+    ensures { OnOk result (router.new ≡ our_routes) }
+{
+    add(router, "/streams", Page::Streams)?;
+    add(router, "/s/{name}/info", Page::Info)?;
+    add(router, "/s/{name}/frame/{n}", Page::Frame)?;
+    add(router, "/s/{name}/y4m/{n}", Page::Video)
+}
+
 /// Creates the router of all six pages: those of `router`, and the WebP files of pictures in their size and smaller.
-#[tactic(auto, unfolding(crate::specs::Routes::still_routes))]
 pub fn router_with_stills(alloc: Global) -> Result<Router<Page>, AllocError>
     ensures { IfOk result (λ r. r ≡ still_routes) }
 {
     let mut router = router(alloc)?;
-    add(&mut router, "/s/{name}/webp/{n}", Page::Still)?;
-    add(&mut router, "/s/{name}/webp/{n}/{k}", Page::Thumbnail)?;
+    add_still_pages(&mut router)?;
     Ok(router)
+}
+
+/// Adds the two pages of WebP files.
+#[tactic(auto, unfolding(crate::specs::Routes::still_routes))]
+fn add_still_pages(router: &mut Router<Page>) -> Result<(), AllocError>
+    requires { router.old ≡ our_routes }
+    ensures { OnOk result (router.new ≡ still_routes) }
+{
+    add(router, "/s/{name}/webp/{n}", Page::Still)?;
+    add(router, "/s/{name}/webp/{n}/{k}", Page::Thumbnail)
 }
 
 /// Adds a route, which must not conflict with the others.

@@ -57,17 +57,18 @@ impl<'a, C: Clock, F: Read + Drop, E: Write> MioTransport<'a, C, F, E> {
         files: Vec<FollowedFile<'a, F>>,
         errors: &'a mut E,
     ) -> io::Result<MioTransport<'a, C, F, E>> {
+        let (start, poll, events, sockets) = parts(rt, clock, alloc)?;
         Ok(MioTransport {
             alloc,
             clock,
-            start: Instant::now(clock)?,
+            start,
             now: 0,
             tick,
-            poll: Poll::new(rt)?,
-            events: Events::with_capacity(alloc, EVENTS)?,
+            poll,
+            events,
             listener: None,
             can_accept: false,
-            sockets: Sockets::new(alloc)?,
+            sockets,
             drains: false,
             files,
             logs_accesses: false,
@@ -150,6 +151,20 @@ impl<'a, C: Clock, F: Read + Drop, E: Write> MioTransport<'a, C, F, E> {
             }
         }
     }
+}
+
+// Makes the parts of a transport whose making may fail: the time of its start, what it polls with, and no sockets.
+// `MioTransport::new` owns the files, and is quick to prove with one way out.
+fn parts<C: Clock, H: Net>(
+    rt: &H,
+    clock: &C,
+    alloc: Global,
+) -> io::Result<(Instant, Poll, Events, Sockets)> {
+    let start = Instant::now(clock)?;
+    let poll = Poll::new(rt)?;
+    let events = Events::with_capacity(alloc, EVENTS)?;
+    let sockets = Sockets::new(alloc)?;
+    Ok((start, poll, events, sockets))
 }
 
 // Notes what events report of sockets. True if one is of the listener.
