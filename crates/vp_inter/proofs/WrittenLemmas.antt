@@ -1,5 +1,5 @@
 -- Lemmas on blocks that are written to a picture, and on rows of them.
-use Rattle.std.proofs.Common.{◌≡◌, ◌∙◌, ℕ, zero, suc, ◌+◌, ◌-◌, ◌*◌, ◌<◌, ◌≤◌, ◌⊎◌, inl, inr, Bool, true, cond, List, [], ◌∷◌, ◌++◌, length, take, drop, get_or, refl, ap, sym, subst, arith, length-append, length-drop}
+use Rattle.std.proofs.Common.{◌≡◌, ◌∙◌, ℕ, zero, suc, ◌+◌, ◌-◌, ◌*◌, ◌<◌, ◌≤◌, ◌⊎◌, inl, inr, Bool, true, cond, List, [], ◌∷◌, ◌++◌, length, take, drop, get_or, refl, ap, sym, subst, arith, not, eqb, length-append, length-drop}
 use Rattle.std.proofs.lemmas.Simd.{put_chunk_is, length-put_chunk}
 use Rattle.std.proofs.lemmas.List.{length-take, take_all, take-append-le, take-append-drop, get_or-take, get_or-drop}
 use Rattle.std.proofs.lemmas.Nat.{row_fits}
@@ -10,6 +10,10 @@ use Rattle.vp_base.specs.Block.{IsWhole, is_in_block, with_block}
 use Rattle.vp_base.proofs.BlockLemmas.{pixel-with_block, with_block_none, with_block_more, with_block_same}
 use Rattle.vp_base.proofs.RasterLemmas.{raster}
 use Rattle.vp_inter.specs.Written.{IsBlockWritten}
+
+-- a bool that isn't 0
+pub is_set : (n : ℕ) → (n ≡ 0 → ⊥) → not (eqb n 0) ≡ true
+is_set n h = grind (arith, nat_tests)
 
 -- ---- rows of a block
 

@@ -284,10 +284,10 @@ pub(crate) fn vertical_from_panel(
     let b = filtered_two(p2, p3, p4, p5, &filter.weights);
     let c = filtered_two(p4, p5, p6, p7, &filter.weights);
     let d = filtered_two(p6, p7, p8, p9, &filter.weights);
-    put_two::<8>(pixels, at, stride, 0, a);
-    put_two::<8>(pixels, at, stride, 1, b);
-    put_two::<8>(pixels, at, stride, 2, c);
-    put_two::<8>(pixels, at, stride, 3, d);
+    put_two::<8, false>(pixels, at, stride, 0, a);
+    put_two::<8, false>(pixels, at, stride, 1, b);
+    put_two::<8, false>(pixels, at, stride, 2, c);
+    put_two::<8, false>(pixels, at, stride, 3, d);
 }
 
 /// Filters two rows vertically, from four consecutive pairs of rows.

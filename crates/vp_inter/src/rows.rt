@@ -137,17 +137,25 @@ pub(crate) fn short_rows<const N: usize>(
     ensures { IsBlockWritten N rows pixels.old pixels.new at stride
         (patch_pass (weights_of filter.now.weights) patch.now) }
 {
-    if patch.has_rows(rows) {
-        short_rows_by_two::<N, true>(pixels, at, stride, patch, filter, rows);
-    } else {
-        short_rows_by_two::<N, false>(pixels, at, stride, patch, filter, rows);
+    match (patch.has_rows(rows), N == 4 && stride == 4) {
+        (true, true) => short_rows_by_two::<N, true, true>(pixels, at, stride, patch, filter, rows),
+        (true, false) => short_rows_by_two::<N, true, false>(
+            pixels, at, stride, patch, filter, rows,
+        ),
+        (false, true) => short_rows_by_two::<N, false, true>(
+            pixels, at, stride, patch, filter, rows,
+        ),
+        (false, false) => short_rows_by_two::<N, false, false>(
+            pixels, at, stride, patch, filter, rows,
+        ),
     }
 }
 
-/// The horizontal pass over `rows` rows, two in each iteration. If `INSIDE`, the rows are inside the plane. What the
-/// loop reads but for the weights is in local variables, which no write to `pixels` can alias.
+/// The horizontal pass over `rows` rows, two in each iteration. If `INSIDE`, the rows are inside the plane. If `TIGHT`,
+/// rows of four follow one another. What the loop reads but for the weights is in local variables, which no write to
+/// `pixels` can alias.
 #[inline(never)]
-fn short_rows_by_two<const N: usize, const INSIDE: bool>(
+fn short_rows_by_two<const N: usize, const INSIDE: bool, const TIGHT: bool>(
     pixels: &mut [u8],
     at: usize,
     stride: usize,
@@ -159,6 +167,7 @@ fn short_rows_by_two<const N: usize, const INSIDE: bool>(
     requires rows { rows ≤ 22 }
     requires room { HasRoomForBlock N rows pixels.old at stride }
     requires inside { IsTrue INSIDE → HasRows patch.now rows }
+    requires tight { IsTrue TIGHT → (N ≡ 4) × (stride ≡ 4) }
     requires columns { filter.now.start + 16 ≤ patch.now.width }
     requires selects { Selects filter.now patch.now 0 }
     ensures { IsBlockWritten N rows pixels.old pixels.new at stride
@@ -171,7 +180,7 @@ fn short_rows_by_two<const N: usize, const INSIDE: bool>(
             horizontal_row::<INSIDE>(&here, 2 * i, &own, &filter.weights),
             horizontal_row::<INSIDE>(&here, 2 * i + 1, &own, &filter.weights),
         );
-        put_two::<N>(pixels, at, stride, i, pair);
+        put_two::<N, TIGHT>(pixels, at, stride, i, pair);
     }
     if rows % 2 == 1 {
         let row = horizontal_row::<INSIDE>(&here, rows - 1, &own, &filter.weights);
@@ -381,9 +390,10 @@ fn put_eight<const N: usize>(pixels: &mut [u8], at: usize, stride: usize, r: usi
     }
 }
 
-/// Writes the first `N` of each eight pixels as rows `2 * i` and `2 * i + 1`.
+/// Writes the first `N` of each eight pixels as rows `2 * i` and `2 * i + 1`. If `TIGHT`, rows of four follow one
+/// another, and one store takes fewer instructions than two.
 #[inline(always)]
-pub(crate) fn put_two<const N: usize>(
+pub(crate) fn put_two<const N: usize, const TIGHT: bool>(
     pixels: &mut [u8],
     at: usize,
     stride: usize,
@@ -392,6 +402,7 @@ pub(crate) fn put_two<const N: usize>(
 )
     requires size { (N ≡ 4) ⊎ (N ≡ 8) }
     requires few { i ≤ 11 }
+    requires tight { IsTrue TIGHT → (N ≡ 4) × (stride ≡ 4) }
     requires upper { at + 2 * i * stride + N ≤ length pixels.old }
     requires lower { at + (2 * i + 1) * stride + N ≤ length pixels.old }
     ensures { (before : List ℕ) (f : ℕ → ℕ → ℕ) → IsBlockWritten N (2 * i) before pixels.old at stride f
@@ -399,15 +410,14 @@ pub(crate) fn put_two<const N: usize>(
         → ((c : ℕ) → c < N → slice_index pair (8 + c) ≡ f (2 * i + 1) c)
         → IsBlockWritten N (2 * (i + 1)) before pixels.new at stride f }
 {
-    if N == 4 && stride == 4 {
+    if TIGHT {
         return put_fours(pixels, at, i, first_fours(pair));
     }
     put_eight::<N>(pixels, at, stride, 2 * i, first_eight(pair));
     put_eight::<N>(pixels, at, stride, 2 * i + 1, last_eight(pair));
 }
 
-/// Writes eight pixels as rows `2 * i` and `2 * i + 1` of four, which follow one another: one store takes fewer
-/// instructions than two.
+/// Writes eight pixels as rows `2 * i` and `2 * i + 1` of four, which follow one another.
 #[inline(always)]
 fn put_fours(pixels: &mut [u8], at: usize, i: usize, rows: u8x8)
     requires few { i ≤ 11 }

@@ -37,8 +37,8 @@ pub struct Still {
     pub coding: Coding,
 }
 
-/// Makes the WebP file of a picture: its packet unchanged, if that is a shown key frame and the picture keeps its
-/// size. Any other picture is made smaller, and encoded as a key frame with this quantiser index.
+/// Makes the WebP file of a picture: its packet unchanged, if that is a shown key frame, not too long for a file, and
+/// the picture keeps its size. Any other picture is made smaller, and encoded as a key frame with this quantiser index.
 ///
 /// Errors: `TooLong` for a picture that is encoded, if a part of its key frame is too long for the packet format, or
 /// the packet for a file; `Memory`.

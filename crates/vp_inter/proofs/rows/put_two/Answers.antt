@@ -1,12 +1,13 @@
 use Rattle.std.proofs.Common.{◌∙◌, ℕ, ◌+◌, ◌*◌, subst, sym, arith}
 use Rattle.vp_inter.specs.Written.{IsBlockWritten}
-use Rattle.vp_inter.proofs.WrittenLemmas.{within}
+use Rattle.vp_inter.proofs.WrittenLemmas.{is_set, within}
 use Rattle.vp_inter.proofs.rows.put_two.Goals as goal
 
-pub returns-then-stride-eq4 : goal.returns-then-stride-eq4
-returns-then-stride-eq4 g c before f done upper lower =
-    let four = c.if-this-eq4.true in
-    let tight = c.if-stride-eq4.true in
+pub returns-then-this-ne0 : goal.returns-then-this-ne0
+returns-then-this-ne0 g c before f done upper lower =
+    let both = c.requires.tight (is_set g.row.TIGHT c.if-this-ne0.true) in
+    let four = both.0 in
+    let tight = both.1 in
     let i : ℕ = c.args.i in
     subst (λ (n : ℕ). IsBlockWritten n (2 * (i + 1)) before c.put_fours.new.pixels c.args.at c.args.stride f) (sym four)
     (subst (λ (s : ℕ). IsBlockWritten 4 (2 * (i + 1)) before c.put_fours.new.pixels c.args.at s f) (sym tight)

@@ -1,16 +1,12 @@
-use Rattle.std.proofs.Common.{◌≡◌, ◌∙◌, ℕ, pos, ◌+◌, ◌*◌, ◌+ℤ◌, List, ap, get_or, arith, not, eqb, true, to_z, of_z, w32}
-use Rattle.std.proofs.lemmas.Bool.Decides.{nat_tests}
+use Rattle.std.proofs.Common.{◌≡◌, ◌∙◌, ℕ, pos, ◌+◌, ◌*◌, ◌+ℤ◌, List, ap, get_or, arith, to_z, of_z, w32}
 use Rattle.std.proofs.lemmas.Int.{ints}
 use lib.IntN.{nat_abs}
 use Rattle.vp_inter.specs.Inter.{horizontal_pass}
 use Rattle.vp_inter.specs.Patches.{raster, patch_pixel}
 use Rattle.vp_inter.proofs.FilterLemmas.{filter_six-same}
 use Rattle.vp_inter.proofs.ReferenceLemmas.{line_inside}
+use Rattle.vp_inter.proofs.WrittenLemmas.{is_set}
 use Rattle.vp_inter.proofs.rows.row_by_taps.Goals as goal
-
--- a bool that isn't 0
-is_set : (n : ℕ) → (n ≡ 0 → ⊥) → not (eqb n 0) ≡ true
-is_set n h = grind (arith, nat_tests)
 
 pub returns-then-this-ne0 : goal.returns-then-this-ne0
 unfolding horizontal_pass

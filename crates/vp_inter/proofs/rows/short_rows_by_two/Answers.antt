@@ -12,6 +12,7 @@ pub put_two-requires : goal.put_two-requires
 put_two-requires g c = record {
   size = c.requires.size;
   few = omega arith;
+  tight = c.requires.tight;
   upper = omega (arith, c.requires.room (2 * c.loop-i.i) (omega arith), c.loop-i.invariant.done.len);
   lower = omega (arith, c.requires.room (2 * c.loop-i.i + 1) (omega arith), c.loop-i.invariant.done.len);
 }
